@@ -56,8 +56,8 @@ pub fn sa(id: u32) -> u32
     id % 256
 }
 
-// Whether PS is the destination.
-fn has_destination(id: u32) -> bool
+// Whether PS is the destination: else the frame goes to all.
+pub fn has_destination(id: u32) -> bool
     ensures { λ r. ⌜ r ≡ hasDestination id ⌝ }
 {
     pf(id) < 240

@@ -1,7 +1,7 @@
 -- Blocks of a record: which block stands at an index, and what a block that was lent and came back does to its own region and to every other. Assumes nothing.
 use mathlib.Core.Path.{_≡_, refl, sym, ap, _∙_}
 use mathlib.Core.Logic.{_⊎_, inl, inr, ⊎-elim}
-use mathlib.Core.List.{List, [], _∷_}
+use mathlib.Core.List.{List, _∷_}
 use Prim.Native.Nat.{ℕ, zero, suc, _+_, _-_, _*_, _≤_, _<_}
 use native.Mathlib.Nat.{not-suc-le-zero, le-of-suc-le-suc, mul-le-mul-left, mul-suc, zero-add, suc-add}
 use native.Mathlib.Decide.{decLt, ℕ-discrete}

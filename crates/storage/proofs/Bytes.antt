@@ -1,7 +1,7 @@
 -- Bytes, packed and read back, are the same bytes, and a number read as bytes and packed is the same number. Assumes nothing.
-use mathlib.Core.Path.{_≡_, refl, sym, ap, _∙_}
+use mathlib.Core.Path.{_≡_, refl, ap, _∙_}
 use mathlib.Core.List.{List, [], _∷_, _++_}
-use Prim.Native.Nat.{ℕ, zero, suc, _+_, _-_, _*_, _/_, _%_, _^_, _≤_, _<_, zero-le, suc-le-suc}
+use Prim.Native.Nat.{ℕ, zero, suc, _+_, _-_, _*_, _/_, _%_, _^_, _≤_, _<_, zero-le}
 use native.Mathlib.Nat.{not-suc-le-zero, le-of-suc-le-suc, pow-suc, sub-zero, suc-sub-suc, div-div-eq-div-mul, div-one, mul-assoc, mul-comm, mul-le-mul-left, mul-suc, one-mul}
 use native.Mathlib.Omega.{arith}
 use lib.Pow.{pow-add}

@@ -1,7 +1,7 @@
 // Storage that a caller lends. The laws of its parts and blocks are in proofs/; the code here packs bytes into a word and reads them back.
 ghost use mathlib.Core.Path.{_≡_};
 ghost use Prim.Native.Nat.{_+_, _≤_};
-ghost use lib.ListN.{length, take, drop, getD};
+ghost use lib.ListN.{length, take, getD};
 ghost use Rattle.storage.specs.Bytes.{packed, bytesOf, Packing};
 
 // The word of two bytes from `at` on, least significant first.

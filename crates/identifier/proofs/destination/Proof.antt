@@ -1,7 +1,6 @@
 -- `identifier::destination` meets its contract: PS, where it is the destination, else all. Assumes nothing.
-use mathlib.Core.Path.{sym, _∙_}
 use borrow.Author.Needs.{needs}
-use Rattle.identifier.specs.Identifier.{hasDestination, destinationOf}
+use Rattle.identifier.specs.Identifier.{destinationOf}
 use Rattle.identifier.proofs.destination.Statement.{statement}
 use Rattle.identifier.proofs.destination.Tie as tie
 

@@ -1,5 +1,4 @@
 -- `identifier::has_wrong_source` meets its contract: by the tests on the way; a byte above 254 is 255. Assumes nothing.
-use mathlib.Core.Path.{sym, _∙_}
 use native.Mathlib.Omega.{arith}
 use borrow.Author.Needs.{needs}
 use borrow.Author.Tests.{eq-eqb, ne-eqb}

@@ -1,16 +1,13 @@
 -- `storage::pack` meets its contract. The loop's invariant: the word is what the bytes from i on make. Assumes nothing.
-use mathlib.Core.Path.{_≡_, refl, sym, ap, _∙_}
-use Prim.Native.Nat.{_≤_, _<_, _-_, _*_, suc}
+use mathlib.Core.Path.{_≡_}
+use Prim.Native.Nat.{_≤_, _<_, _-_, suc}
 use native.Mathlib.Omega.{arith}
-use lib.ListN.{length, drop, getD}
+use lib.ListN.{length, drop}
 use lib.Seq.{take-all, drop-length}
 use Rattle.storage.specs.Bytes.{packed}
 use Rattle.storage.proofs.Bytes.{AllBytes, packed-step, rest-small}
 use Rattle.storage.proofs.pack.Statement.{statement}
 use Rattle.storage.proofs.pack.Tie as tie
-use Rattle.storage.proofs.pack.Reads as reads
-use Rattle.storage.proofs.pack.Lts as lts
-use Rattle.storage.proofs.pack_eight.Reads as pack-eight-reads
 
 abbrev Inv-loop : tie.InvT-loop
 Inv-loop bytes n word₀ i₀ word i = (i ≤ length bytes) × (length bytes < 8) × (word ≡ packed (drop i bytes))

@@ -2,9 +2,6 @@ use borrow.Author.Needs.{needs}
 use Rattle.storage.proofs.Bytes.{packing-join}
 use Rattle.storage.proofs.pack_eight.Statement.{statement}
 use Rattle.storage.proofs.pack_eight.Tie as tie
-use Rattle.storage.proofs.pack_eight.Reads as reads
-use Rattle.storage.proofs.pack_eight.Lts as lts
-use Rattle.storage.proofs.pack_four.Reads as pack-four-reads
 
 -- src/lib.rt:30:9
 pack-four-requires : tie.Need-pack-four-requires

@@ -1,0 +1,4 @@
+pub mod Table
+pub mod Claims
+pub mod Events
+pub mod Calls
