@@ -1,7 +1,35 @@
 -- Document 01, "Examples, hex": those marked (P), as one table. Assumes nothing.
 use mathlib.Core.Path.{_≡_, refl}
 use mathlib.Core.Bool.{true, false}
+use mathlib.Core.List.{List, [], _∷_}
+use mathlib.Core.Option.{Option, some}
+use Prim.Native.Nat.{ℕ}
+use Rattle.delivery.specs.Row.{pull, given}
+use Rattle.delivery.specs.Port.{Event, Join, Take, rowAfter}
+use Rattle.queue.specs.declared.Frame.{Frame}
+use Rattle.queue.specs.Queue.{priority}
 use Rattle.identifier.specs.Identifier.{priorityOf, pgnOf, destinationOf, tooWide, wrongSource}
+
+-- an empty frame
+abbrev frame : ℕ → Frame
+frame id = record { id = id; len = 0; bytes = 0 }
+
+-- what a take gives after what happened at a port
+abbrev taken : List (Event Frame) → Option Frame
+taken h = given (pull priority (rowAfter priority [] h))
+
+-- P11's frames, by priority
+abbrev six₁ : Frame
+six₁ = frame 0x18FEF121
+
+abbrev six₂ : Frame
+six₂ = frame 0x18FEF122
+
+abbrev three : Frame
+three = frame 0x0CF00400
+
+abbrev accepted : List (Event Frame) → List (Event Frame)
+accepted h = Join six₁ ∷ Join six₂ ∷ Join three ∷ h
 
 pub record Examples : Type 0 where
   -- id 0CF00400: priority 3, PGN 61444
@@ -12,6 +40,8 @@ pub record Examples : Type 0 where
   pub p3 : tooWide 0x20000000 ≡ true
   -- id 1FFFFFFF: refused with 5, and not with 3
   pub p4 : (tooWide 0x1FFFFFFF ≡ false) × (wrongSource 0x1FFFFFFF ≡ true)
+  -- priorities 6, 6, 3 accepted; three takes: 3, first 6, second 6
+  pub p11 : (taken (accepted []) ≡ some three) × (taken (accepted (Take ∷ [])) ≡ some six₁) × (taken (accepted (Take ∷ Take ∷ [])) ≡ some six₂)
 
 pub examples : Examples
 unfolding pgnOf destinationOf wrongSource
@@ -20,4 +50,5 @@ examples = record {
   p2 = (refl, refl);
   p3 = refl;
   p4 = (refl, refl);
+  p11 = (refl, refl, refl);
 }

@@ -1,0 +1,4 @@
+pub mod Row
+pub mod Port
+pub mod Calls
+pub mod Unit

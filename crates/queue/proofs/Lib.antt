@@ -1,0 +1,6 @@
+pub mod Words
+pub mod Lists
+pub mod Scan
+pub mod Block
+pub mod Values
+mod Examples
