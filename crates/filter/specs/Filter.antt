@@ -1,0 +1,77 @@
+-- One directed pair's filter: what its block of words means, and what asking it answers.
+-- Assumes nothing.
+use Prim.Native.Nat.{ℕ, zero, suc, _+_, _≤_}
+use mathlib.Core.Bool.{Bool, true, false, cond, not, _||_}
+use mathlib.Core.Path.{_≡_}
+use mathlib.Core.List.{List, [], _∷_}
+use lib.ListN.{length, take, drop, getD}
+use lib.Dec.{eqb}
+use Rattle.filter.specs.declared.Asked.{Asked}
+
+-- "a list of at most 32 PGNs"
+abbrev pub listSize : ℕ
+listSize = 32
+
+-- the words of a block: mode, count, the PGNs
+abbrev pub blockSize : ℕ
+blockSize = 2 + listSize
+
+-- cleared, block (mode 0) or pass (mode 1)
+pub data Mode : Type 0 where
+  cleared : Mode
+  block : Mode
+  pass : Mode
+
+-- a pair's filter, its PGNs in order of addition
+pub record Filter : Type 0 where
+  pub mode : Mode
+  pub entries : List ℕ
+
+abbrev pub clear : Filter
+clear = record { mode = cleared; entries = [] }
+
+-- by the mode word: 0 is cleared and has no entries, whatever the count says; 1 blocks; any other passes
+unfoldable pub meant : ℕ → List ℕ → Filter
+meant zero es = clear
+meant (suc zero) es = record { mode = block; entries = es }
+meant (suc (suc m)) es = record { mode = pass; entries = es }
+
+-- what a block means: its list is the first `count` of its PGNs. Those past the count are the block's free part.
+unfoldable pub filterOf : List ℕ → Filter
+filterOf words = meant (getD words 0 0) (take (getD words 1 0) (drop 2 words))
+
+-- whether x is in a list
+unfoldable pub listed : ℕ → List ℕ → Bool
+listed x [] = false
+listed x (y ∷ ys) = eqb y x || listed x ys
+
+-- forwarding rule 2: what a pair of that mode permits, by whether the PGN is listed
+unfoldable pub permits : Mode → Bool → Bool
+permits cleared here = true
+permits block here = not here
+permits pass here = here
+
+-- forwarding rule 5: the place of x in a list, counted from 1, or the list's length if absent
+unfoldable pub place : ℕ → List ℕ → ℕ
+place x [] = 0
+place x (y ∷ ys) = cond (eqb y x) 1 (suc (place x ys))
+
+-- what asking a pair answers; a cleared pair has no entries, so it compares 0
+unfoldable pub asked : Filter → ℕ → Asked
+asked f pgn = record { permitted = permits (f .mode) (listed pgn (f .entries)); compared = place pgn (f .entries) }
+
+-- function 0: the mode as it is reported; a cleared pair shows mode 0
+unfoldable pub reportedMode : Mode → ℕ
+reportedMode cleared = 0
+reportedMode block = 0
+reportedMode pass = 1
+
+-- the contract of asking a block
+pub record Asking (words : List ℕ) (pgn : ℕ) (r : Asked) : Type 0 where
+  pub answer : r ≡ asked (filterOf words) pgn
+  pub small : r .compared ≤ listSize
+
+-- the contract of counting a block's entries
+pub record Counting (words : List ℕ) (r : ℕ) : Type 0 where
+  pub number : r ≡ length (filterOf words .entries)
+  pub small : r ≤ listSize

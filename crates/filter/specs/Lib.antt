@@ -1,0 +1,4 @@
+pub mod Filter
+pub mod Entries
+pub mod Changes
+pub mod Steps

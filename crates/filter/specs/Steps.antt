@@ -1,0 +1,42 @@
+-- What the steps of the crate promise one another: a search, a list that is added to in place, a list that closes up.
+-- Assumes nothing.
+use Prim.Native.Nat.{ℕ, suc, _+_, _≤_, min}
+use mathlib.Core.Bool.{Bool, true, false, cond, not}
+use mathlib.Core.Path.{_≡_}
+use mathlib.Core.List.{List, [], _∷_}
+use lib.ListN.{length, getD, take, drop}
+use lib.Dec.{eqb, ltb}
+use Rattle.filter.specs.Filter.{listSize}
+use Rattle.filter.specs.Changes.{addAll, deleteAll}
+
+-- the index at which x first stands in a list, or the list's length if absent
+unfoldable pub indexOf : ℕ → List ℕ → ℕ
+indexOf x [] = 0
+indexOf x (y ∷ ys) = cond (eqb y x) 0 (suc (indexOf x ys))
+
+-- the search among the first n of a list
+pub record Finding (list : List ℕ) (n x r : ℕ) : Type 0 where
+  pub index : r ≡ indexOf x (take n list)
+  pub inside : r ≤ n
+
+-- xs added to the first n of a list in place: how many they are then, listSize + 1 standing for any number above listSize, and which
+pub record Extending (entry exit : List ℕ) (n : ℕ) (xs : List ℕ) (r : ℕ) : Type 0 where
+  pub number : r ≡ min (length (addAll (take n entry) xs)) (listSize + 1)
+  pub entries : r ≤ listSize → take r exit ≡ addAll (take n entry) xs
+
+-- a block whose mode word is as it was, and whose list is es
+pub record Relisted (entry exit es : List ℕ) : Type 0 where
+  pub mode : getD exit 0 0 ≡ getD entry 0 0
+  pub list : take (getD exit 1 0) (drop 2 exit) ≡ es
+  pub long : length exit ≡ length entry
+
+-- xs added to the first n of a block's list, or no word changed where a list does not hold them
+pub record Growing (entry exit : List ℕ) (n : ℕ) (xs : List ℕ) (r : Bool) : Type 0 where
+  pub done : r ≡ not (ltb listSize (length (addAll (take n (drop 2 entry)) xs)))
+  pub grown : r ≡ true → Relisted entry exit (addAll (take n (drop 2 entry)) xs)
+  pub refused : r ≡ false → exit ≡ entry
+
+-- those of the first n that xs does not name, at the front
+pub record Keeping (entry exit : List ℕ) (n : ℕ) (xs : List ℕ) (r : ℕ) : Type 0 where
+  pub entries : take r exit ≡ deleteAll (take n entry) xs
+  pub inside : r ≤ n
