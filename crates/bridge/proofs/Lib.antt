@@ -1,0 +1,11 @@
+pub mod Ports
+pub mod Regions
+pub mod Own
+pub mod Sends
+pub mod Loop
+pub mod Checks
+pub mod Answers
+pub mod Acts
+pub mod Passes
+pub mod PartLaws
+pub mod Laws

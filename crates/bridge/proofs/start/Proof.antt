@@ -1,0 +1,62 @@
+-- `bridge::start` meets its contract, by the way that the code went. Assumes nothing.
+use mathlib.Core.Path.{sym, _∙_}
+use native.Mathlib.Omega.{arith}
+use Rattle.bridge.proofs.Checks.{start-goes}
+use Rattle.bridge.proofs.Passes.{start-short, start-refused, start-done}
+use borrow.Author.Needs.{needs}
+use Rattle.bridge.proofs.start.Statement.{statement}
+use Rattle.bridge.proofs.start.Tie as tie
+
+returns : tie.Need-returns
+returns c = start-short (c .before .before .args .words .now) (c .if1 .taken)
+
+read-unit-requires : tie.Need-read-unit-requires
+read-unit-requires c κs = search needs
+
+start-refusal-requires : tie.Need-start-refusal-requires
+start-refusal-requires c κs = search needs
+
+same-length : tie.Need-same-length
+same-length c = search needs
+
+returns-2 : tie.Need-returns-2
+returns-2 c =
+    let at = c .before in
+    let at-read = at .before in
+    let start = at-read .before .before .before .before in
+    start-refused (start .args .words .now) (at-read .before .before .if1 .left) (at .start-refusal .result) (rw (← (at-read .read-unit .ensures)) (at .start-refusal .ensures)) (c .if2 .taken)
+
+start-requires : tie.Need-start-requires
+start-requires c κs =
+    let at = c .before .before in
+    let at-read = at .before in
+    (omega arith, rw (← (at-read .read-unit .ensures)) (start-goes (at-read .read-unit .result) (sym (at .start-refusal .ensures) ∙ c .before .if2 .left)))
+
+announce-requires : tie.Need-announce-requires
+announce-requires c κs = search needs
+
+same-length-2 : tie.Need-same-length-2
+same-length-2 c = search needs
+
+returns-3 : tie.Need-returns-3
+returns-3 c =
+    let at-announce = c .before .before in
+    let at-start = at-announce .before .before .before .before in
+    let at = at-start .before .before .before in
+    let at-read = at .before in
+    let start = at-read .before .before .before .before in
+    start-done (start .args .words .now) (at-read .before .before .if1 .left) (at .start-refusal .result) (rw (← (at-read .read-unit .ensures)) (at .start-refusal .ensures)) (at-start .before .before .if2 .left) (omega arith) (at-start .start .ensures) (at-announce .announce .ensures)
+
+pub start-spec : {M : Type 1} → statement M
+start-spec =
+    tie.close
+    (tie.spec
+    returns
+    read-unit-requires
+    start-refusal-requires
+    same-length
+    returns-2
+    start-requires
+    announce-requires
+    same-length-2
+    returns-3)

@@ -1,0 +1,178 @@
+-- The calls: what each does to the model, what it answers, and the contracts of the functions.
+-- `next` is fed the calls' arguments alone. `lent` is the length of the record that was lent.
+-- Assumes nothing.
+use Prim.Native.Nat.{ℕ, _+_, _-_, _*_}
+use mathlib.Core.Bool.{Bool, false, not, cond}
+use mathlib.Core.Path.{_≡_}
+use mathlib.Core.List.{List, [], _++_}
+use mathlib.Core.Option.{Option, none, some}
+use lib.ListN.{length, take, drop, replicate}
+use lib.Dec.{eqb}
+use Rattle.delivery.specs.Row.{room, pull, given}
+use Rattle.delivery.specs.Unit.{joinAll, rowNext}
+use Rattle.filter.specs.Filter.{clear}
+use Rattle.queue.specs.declared.Frame.{Frame}
+use Rattle.queue.specs.Queue.{size, priority, takenOf}
+use Rattle.queue.specs.Queue.{blockLength as queueLength}
+use Rattle.addresses.specs.declared.Place.the-variants.{Free}
+use Rattle.addresses.specs.declared.Event.{Event}
+use Rattle.addresses.specs.Table.{places}
+use Rattle.bridge.specs.declared.unit.Claim.the-variants.{Claimed}
+use Rattle.bridge.specs.declared.unit.Sent.{Sent}
+use Rattle.bridge.specs.declared.FrameAnswer.{FrameAnswer}
+use Rattle.bridge.specs.declared.TakeAnswer.{TakeAnswer}
+use Rattle.bridge.specs.declared.StartAnswer.{StartAnswer}
+use Rattle.bridge.specs.Ports.{each, mask, total}
+use Rattle.bridge.specs.Model.{Rest, Model, rowAt, withOwn, rowsFrom, modelOf}
+use Rattle.bridge.specs.Refusals.{powerOnRefusal, frameRefusal, takeRefusal, startRefusal, quietRefusal}
+use Rattle.bridge.specs.Forwarding.{frameOf, consumes, offered, sentIf, accepts, loses}
+use Rattle.bridge.specs.Claims.{freshUnit, moved, framesSent, Acted, frameActed, started}
+
+-- a call, by its arguments
+pub data Call : Type 0 where
+  FrameIn : (port id : ℕ) (bytes : List ℕ) → Call
+  TakeOut : (port : ℕ) → Call
+  Start : Call
+  Quiet : Call
+
+-- ---- what a call does
+-- the number that it is refused with, 0 where it is not
+unfoldable pub refusal : ℕ → ℕ → Rest → Call → ℕ
+refusal ports lent rest (FrameIn port id bytes) = frameRefusal ports lent port id (length bytes)
+refusal ports lent rest (TakeOut port) = takeRefusal ports lent port
+refusal ports lent rest Start = startRefusal ports lent (rest .own)
+refusal ports lent rest Quiet = quietRefusal ports lent (rest .own)
+
+-- a frame that came in is acted on where it is a claim or a request
+abbrev pub frameDone : Rest → ℕ → Frame → Acted
+frameDone rest port f = frameActed rest port (consumes (rest .own) (f .id)) f
+
+-- the rest of the model
+unfoldable pub restAfter : Rest → Call → Rest
+restAfter rest (FrameIn port id bytes) = frameDone rest port (frameOf id bytes) .rest
+restAfter rest (TakeOut port) = rest
+restAfter rest Start = started rest .rest
+restAfter rest Quiet = withOwn rest (moved (rest .own) Claimed (rest .own .address))
+
+-- the port that a take is made on
+unfoldable pub asks : Call → Option ℕ
+asks (FrameIn port id bytes) = none
+asks (TakeOut port) = some (port - 1)
+asks Start = none
+asks Quiet = none
+
+-- the frames sent to port q, in order: the forwarded, then the unit's own
+abbrev pub frameSends : ℕ → Rest → ℕ → Frame → ℕ → List Frame
+frameSends ports rest port f q = sentIf (offered ports rest (port - 1) (f .id) q) f ++ framesSent (frameDone rest port f .sent)
+
+unfoldable pub sends : ℕ → Rest → Call → ℕ → List Frame
+sends ports rest (FrameIn port id bytes) q = frameSends ports rest port (frameOf id bytes) q
+sends ports rest (TakeOut port) q = []
+sends ports rest Start q = framesSent (started rest .sent)
+sends ports rest Quiet q = []
+
+-- each row by itself: frames join under rule 3, or a take is made under rule 4
+unfoldable pub performed : ℕ → Model → Call → Model
+performed ports m k = record {
+  rest = restAfter (m .rest) k;
+  rows = each (λ q row. rowNext priority size (asks k) q row (sends ports (m .rest) k q)) ports (m .rows);
+}
+
+-- a refused call changes nothing
+unfoldable pub next : ℕ → ℕ → Model → Call → Model
+next ports lent m k = cond (eqb (refusal ports lent (m .rest) k) 0) (performed ports m k) m
+
+-- ---- what a call answers
+-- whether the unit's own frame is lost at a row
+abbrev pub losesOwn : Sent → List Frame → Bool
+losesOwn Sent.Nothing row = false
+losesOwn (Sent.One f) row = not (room size row)
+
+-- "A refused frame has no ports, no event, is not consumed and compares 0."
+abbrev pub frameRefused : ℕ → FrameAnswer
+frameRefused number = record {
+  refusal = number;
+  consumed = false;
+  accepted = 0;
+  lost = 0;
+  event = Event.Nothing;
+  unsent = 0;
+  compared = 0;
+}
+
+-- "Accepted ports, lost ports and the ports where the unit's own frame was lost are those rule 3 names."
+unfoldable pub framePassed : ℕ → Model → ℕ → Frame → FrameAnswer
+framePassed ports m port f = record {
+  refusal = 0;
+  consumed = consumes (m .rest .own) (f .id);
+  accepted = mask (λ q. accepts (offered ports (m .rest) (port - 1) (f .id) q) (rowAt m q)) ports;
+  lost = mask (λ q. loses (offered ports (m .rest) (port - 1) (f .id) q) (rowAt m q)) ports;
+  event = frameDone (m .rest) port f .event;
+  unsent =
+      mask
+      (λ q. losesOwn (frameDone (m .rest) port f .sent) (joinAll size (rowAt m q) (sentIf (offered ports (m .rest) (port - 1) (f .id) q) f)))
+      ports;
+  compared = total (λ q. offered ports (m .rest) (port - 1) (f .id) q .compared) ports;
+}
+
+unfoldable pub frameAnswer : ℕ → ℕ → Model → ℕ → ℕ → List ℕ → FrameAnswer
+frameAnswer ports lent m port id bytes =
+    cond (eqb (frameRefusal ports lent port id (length bytes)) 0)
+    (framePassed ports m port (frameOf id bytes))
+    (frameRefused (frameRefusal ports lent port id (length bytes)))
+
+unfoldable pub takeAnswer : ℕ → ℕ → Model → ℕ → TakeAnswer
+takeAnswer ports lent m port =
+    cond (eqb (takeRefusal ports lent port) 0)
+    (TakeAnswer.Took (takenOf (given (pull priority (rowAt m (port - 1))))))
+    (TakeAnswer.Refused (takeRefusal ports lent port))
+
+unfoldable pub startAnswer : ℕ → ℕ → Model → StartAnswer
+startAnswer ports lent m =
+    cond (eqb (startRefusal ports lent (m .rest .own)) 0)
+    (record { refusal = 0; unsent = mask (λ q. losesOwn (started (m .rest) .sent) (rowAt m q)) ports })
+    (record { refusal = startRefusal ports lent (m .rest .own); unsent = 0 })
+
+-- ---- the contracts
+-- power-on: every pair cleared, every queue empty, the table empty, the unit Unstarted
+abbrev pub fresh : ℕ → ℕ → ℕ → Model
+fresh ports name preferred = record {
+  rest = record { own = freshUnit name preferred; pairs = replicate (ports * (ports - 1)) clear; table = replicate places Free };
+  rows = replicate ports [];
+}
+
+pub record PoweringOn (ports : ℕ) (before after : List ℕ) (name preferred r : ℕ) : Type 0 where
+  pub long : length after ≡ length before
+  pub answer : r ≡ powerOnRefusal ports (length before)
+  pub state : r ≡ 0 → modelOf ports after ≡ fresh ports name preferred
+  pub refused : (r ≡ 0 → ⊥) → after ≡ before
+
+-- a call k on the record
+pub record Calling (ports : ℕ) (before after : List ℕ) (k : Call) : Type 0 where
+  pub long : length after ≡ length before
+  pub state : modelOf ports after ≡ next ports (length before) (modelOf ports before) k
+  -- every word, those too that no rule reads
+  pub refused : (refusal ports (length before) (modelOf ports before .rest) k ≡ 0 → ⊥) → after ≡ before
+
+pub record Framing (ports : ℕ) (before after : List ℕ) (port id : ℕ) (bytes : List ℕ) (r : FrameAnswer) : Type 0 where
+  pub call : Calling ports before after (FrameIn port id bytes)
+  pub answer : r ≡ frameAnswer ports (length before) (modelOf ports before) port id bytes
+
+-- where the queue of a port begins in the record
+abbrev pub queueAt : ℕ → ℕ → ℕ
+queueAt ports port = rowsFrom ports + queueLength * (port - 1)
+
+-- "A take changes that port's queue only": every word before it and behind it is as it was
+pub record TakingOut (ports : ℕ) (before after : List ℕ) (port : ℕ) (r : TakeAnswer) : Type 0 where
+  pub call : Calling ports before after (TakeOut port)
+  pub answer : r ≡ takeAnswer ports (length before) (modelOf ports before) port
+  pub ahead : take (queueAt ports port) after ≡ take (queueAt ports port) before
+  pub behind : drop (queueAt ports port + queueLength) after ≡ drop (queueAt ports port + queueLength) before
+
+pub record Starting (ports : ℕ) (before after : List ℕ) (r : StartAnswer) : Type 0 where
+  pub call : Calling ports before after Start
+  pub answer : r ≡ startAnswer ports (length before) (modelOf ports before)
+
+pub record Quieting (ports : ℕ) (before after : List ℕ) (r : ℕ) : Type 0 where
+  pub call : Calling ports before after Quiet
+  pub answer : r ≡ quietRefusal ports (length before) (modelOf ports before .rest .own)

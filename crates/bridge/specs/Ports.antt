@@ -1,0 +1,25 @@
+-- What is said of each port by itself, put together over the ports below n: a list changed place by place, a set of ports as bits, a sum.
+-- Assumes nothing.
+use Prim.Native.Nat.{ℕ, zero, suc, _+_, _^_, _/_, _%_}
+use mathlib.Core.Bool.{Bool, cond}
+use mathlib.Core.List.{List, [], _∷_}
+use lib.Dec.{eqb}
+
+-- the first n elements, each changed by its index
+unfoldable pub each : {A : Type 0} → (ℕ → A → A) → ℕ → List A → List A
+each change zero xs = xs
+each change (suc n) [] = []
+each change (suc n) (x ∷ xs) = change zero x ∷ each (λ q. change (suc q)) n xs
+
+-- bit q is set where the test holds of q
+unfoldable pub mask : (ℕ → Bool) → ℕ → ℕ
+mask test zero = 0
+mask test (suc n) = mask test n + cond (test n) (2 ^ n) 0
+
+-- whether bit q of a number is set
+unfoldable pub bitAt : ℕ → ℕ → Bool
+bitAt x q = eqb (x / 2 ^ q % 2) 1
+
+unfoldable pub total : (ℕ → ℕ) → ℕ → ℕ
+total f zero = 0
+total f (suc n) = total f n + f n

@@ -1,0 +1,202 @@
+// The unit: a bridge of four ports on one record that the caller lends. No function requires anything of its caller: what is wrong is refused by a
+// number, and a refusal changes nothing.
+mod claims;
+mod forward;
+pub mod parts;
+mod record;
+mod refusals;
+pub mod unit;
+
+use addresses::Event;
+use queue::Frame;
+use queue::Taken;
+use unit::Claim;
+use unit::Unit;
+ghost use mathlib.Core.Path.{_≡_};
+ghost use mathlib.Core.Bool.{true, false};
+ghost use Prim.Native.Nat.{_≤_, _<_};
+ghost use lib.ListN.{length};
+ghost use Rattle.identifier.specs.Identifier.{saOf};
+ghost use Rattle.bridge.specs.Model.{modelOf, recordLength};
+ghost use Rattle.bridge.specs.Forwarding.{consumes};
+ghost use Rattle.bridge.specs.Claims.{frameActed};
+ghost use Rattle.bridge.specs.Calls.{frameRefused, Framing, TakingOut, Starting, Quieting};
+ghost use Rattle.bridge.specs.Steps.{Responding, Passing};
+
+// What came of a frame. Ports are masks, bit p - 1 for port p. A refusal of 0 is none; refused, the rest is empty.
+pub struct FrameAnswer {
+    pub refusal: u32,
+    pub consumed: bool,
+    pub accepted: u32,
+    pub lost: u32,
+    pub event: Event,
+    pub unsent: u32,
+    pub compared: u32,
+}
+
+// What a take gave, or the number that refused it.
+pub enum TakeAnswer {
+    Refused(u32),
+    Took(Taken),
+}
+
+// The number that refused Start, or 0, and the ports where the unit's own frame was lost.
+pub struct StartAnswer {
+    pub refusal: u32,
+    pub unsent: u32,
+}
+
+// The claim event, and the ports where the unit's own frame was lost.
+struct Response {
+    event: Event,
+    unsent: u32,
+}
+
+// A claim or request is acted on, and what the unit sends joins every queue.
+fn respond(words: &mut [u64], port: u64, consumed: bool, f: Frame) -> Response
+    requires { ⌜ (length (now words) ≡ recordLength 4) × (saOf (f .id) < 255) ⌝ }
+    ensures { λ r. ⌜ Responding 4 (now (words .entry)) (now (words .exit)) (frameActed (modelOf 4 (now (words .entry)) .rest) port consumed f) r ⌝ }
+{
+    let a = claims::act(words, port, consumed, f);
+    let event = a.event;
+    let sent = a.sent;
+    let unsent = forward::announce(words, sent);
+    Response { event, unsent }
+}
+
+// A frame for the unit.
+fn consume(words: &mut [u64], port: u32, f: Frame) -> FrameAnswer
+    requires { ⌜ (length (now words) ≡ recordLength 4) × (1 ≤ port) × (port ≤ 4) × (saOf (f .id) < 255) × (consumes (modelOf 4 (now words) .rest .own) (f .id) ≡ true) ⌝ }
+    ensures { λ r. ⌜ Passing 4 (now (words .entry)) (now (words .exit)) port f r ⌝ }
+{
+    let r = respond(words, port as u64, true, f);
+    let event = r.event;
+    FrameAnswer {
+        refusal: 0,
+        consumed: true,
+        accepted: 0,
+        lost: 0,
+        event,
+        unsent: r.unsent,
+        compared: 0,
+    }
+}
+
+// A frame for others.
+fn carry(words: &mut [u64], port: u32, f: Frame) -> FrameAnswer
+    requires { ⌜ (length (now words) ≡ recordLength 4) × (1 ≤ port) × (port ≤ 4) × (saOf (f .id) < 255) × (consumes (modelOf 4 (now words) .rest .own) (f .id) ≡ false) ⌝ }
+    ensures { λ r. ⌜ Passing 4 (now (words .entry)) (now (words .exit)) port f r ⌝ }
+{
+    let from = port as usize - 1;
+    let s = forward::forward(words, from, identifier::pgn(f.id), f);
+    let r = respond(words, port as u64, false, f);
+    let event = r.event;
+    FrameAnswer {
+        refusal: 0,
+        consumed: false,
+        accepted: s.accepted,
+        lost: s.lost,
+        event,
+        unsent: r.unsent,
+        compared: s.compared,
+    }
+}
+
+// A frame that is not refused.
+fn pass(words: &mut [u64], port: u32, f: Frame) -> FrameAnswer
+    requires { ⌜ (length (now words) ≡ recordLength 4) × (1 ≤ port) × (port ≤ 4) × (saOf (f .id) < 255) ⌝ }
+    ensures { λ r. ⌜ Passing 4 (now (words .entry)) (now (words .exit)) port f r ⌝ }
+{
+    let unit = record::read_unit(words);
+    if unit.consumes(f.id) {
+        return consume(words, port, f);
+    }
+    carry(words, port, f)
+}
+
+// A refused frame's answer.
+fn refused(number: u32) -> FrameAnswer
+    ensures { λ r. ⌜ r ≡ frameRefused number ⌝ }
+{
+    FrameAnswer {
+        refusal: number,
+        consumed: false,
+        accepted: 0,
+        lost: 0,
+        event: Event::Nothing,
+        unsent: 0,
+        compared: 0,
+    }
+}
+
+// A frame arrived at a port.
+pub fn frame(words: &mut [u64], port: u32, id: u32, bytes: &[u8]) -> FrameAnswer
+    ensures { λ r. ⌜ Framing 4 (now (words .entry)) (now (words .exit)) port id (now (bytes .entry)) r ⌝ }
+{
+    let len = bytes.len();
+    let number = refusals::frame_refusal(words.len(), port, id, len);
+    if number != 0 {
+        return refused(number);
+    }
+    let word = storage::pack(bytes);
+    let f = Frame {
+        id,
+        len: len as u32,
+        bytes: word,
+    };
+    pass(words, port, f)
+}
+
+// A port is ready to send its next frame.
+pub fn take(words: &mut [u64], port: u32) -> TakeAnswer
+    ensures { λ r. ⌜ TakingOut 4 (now (words .entry)) (now (words .exit)) port r ⌝ }
+{
+    let number = refusals::take_refusal(words.len(), port);
+    if number != 0 {
+        return TakeAnswer::Refused(number);
+    }
+    let q = port as usize - 1;
+    let taken = record::take_row(words, q);
+    TakeAnswer::Took(taken)
+}
+
+// The unit claims its preferred address.
+pub fn start(words: &mut [u64]) -> StartAnswer
+    ensures { λ r. ⌜ Starting 4 (now (words .entry)) (now (words .exit)) r ⌝ }
+{
+    if words.len() != Unit::RECORD_LENGTH {
+        return StartAnswer {
+            refusal: 2,
+            unsent: 0,
+        };
+    }
+    let unit = record::read_unit(words);
+    let number = unit.start_refusal();
+    if number != 0 {
+        return StartAnswer {
+            refusal: number,
+            unsent: 0,
+        };
+    }
+    let a = claims::start(words);
+    let sent = a.sent;
+    let unsent = forward::announce(words, sent);
+    StartAnswer { refusal: 0, unsent }
+}
+
+// The 250 ms after the unit's claim are over.
+pub fn quiet(words: &mut [u64]) -> u32
+    ensures { λ r. ⌜ Quieting 4 (now (words .entry)) (now (words .exit)) r ⌝ }
+{
+    if words.len() != Unit::RECORD_LENGTH {
+        return 2;
+    }
+    let unit = record::read_unit(words);
+    let claim = unit.claim;
+    if claim.is_claiming() {
+        let claimed = unit.moved(Claim::Claimed, unit.address);
+        record::store_unit(words, claimed);
+        return 0;
+    }
+    18
+}

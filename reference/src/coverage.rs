@@ -1,0 +1,297 @@
+//! What a script tried: counts of calls, refusal numbers, events, states, modes and limits.
+
+use std::collections::{BTreeMap, BTreeSet};
+
+use crate::address::{is_claim, is_request_for_address_claimed, name_of, ClaimState, Event};
+use crate::frame::{self, Frame};
+use crate::pair::{Pair, LONGEST_LIST};
+use crate::script::{apply, read_call, Answer, Call};
+use crate::unit::{other_ports, FrameAnswer, Unit, LONGEST_QUEUE};
+
+/// The call letters of a script.
+pub const LETTERS: [&str; 6] = ["P", "S", "Q", "F", "T", "M"];
+/// The rows of the event count.
+pub const EVENTS: [&str; 8] = ["-", "Withdrew", "Defended", "Displaced", "Recorded", "Refreshed", "TookOver", "Beaten"];
+/// The rows of the state count.
+pub const STATES: [&str; 4] = ["Unstarted", "Claiming", "Claimed", "Lost"];
+/// The rows of the mode count; an emptied list is a row of its own.
+pub const MODES: [&str; 5] = ["cleared", "block", "block emptied", "pass", "pass emptied"];
+
+/// The further rows that a deep script reaches.
+pub const DEEP: [&str; 36] = [
+    "frame consumed",
+    "frame stopped by a pair",
+    "frame lost at some ports, accepted at others",
+    "frame lost at three ports",
+    "own frame lost at some ports",
+    "own frame lost at four ports",
+    "own claim lost, forwarded frame took the last place",
+    "claim with the unit's own NAME",
+    "claim that moved its NAME",
+    "claim that moved its NAME and won nothing",
+    "global request answered with claim",
+    "global request answered with cannot-claim",
+    "global request while Unstarted",
+    "consumed request answered",
+    "other frame of PGN 59904",
+    "other frame of PGN 60928",
+    "SA 254 accepted",
+    "start to Claiming, address free",
+    "start to Claiming, holder dropped",
+    "start to Lost",
+    "start with own frame lost",
+    "take of a later frame of higher rank",
+    "take from a full queue",
+    "take with nothing waiting",
+    "To 15 done by Add",
+    "To 15 done by Delete",
+    "To 15 done by Clear",
+    "To 15 done by Create",
+    "list of exactly 32 reached",
+    "list emptied by Delete",
+    "command of 594 entries done",
+    "reply 1 of 99 bytes",
+    "reply 65 over 8 bytes",
+    "reply 65 of 255 bytes",
+    "done from port 2, 3 or 4",
+    "refused 11 from port 2, 3 or 4",
+];
+
+/// The counts of one or more scripts.
+#[derive(Default)]
+pub struct Coverage {
+    counts: BTreeMap<String, u64>,
+    functions: BTreeSet<u8>,
+    pair_bytes: BTreeSet<(u32, u8)>,
+    lengths: BTreeMap<usize, u64>,
+    not_calls: u64,
+    longest_queue: usize,
+    largest_table: usize,
+}
+
+impl Coverage {
+    /// Runs a script and counts it.
+    pub fn count_script(&mut self, text: &str) {
+        let mut unit = None;
+        for line in text.lines() {
+            if line.is_empty() || line.starts_with('#') {
+                continue;
+            }
+            let before = unit.clone();
+            let call = read_call(line);
+            match call.as_ref().and_then(|call| Some((call, apply(&mut unit, call)?))) {
+                Some((call, answer)) => self.count_call(before.as_ref(), call, &answer, unit.as_ref()),
+                None => self.not_calls += 1,
+            }
+        }
+    }
+
+    /// How often a row was reached.
+    pub fn reached(&self, row: &str) -> u64 {
+        self.counts.get(row).copied().unwrap_or(0)
+    }
+
+    fn add(&mut self, row: &str) {
+        *self.counts.entry(row.to_string()).or_insert(0) += 1;
+    }
+
+    fn add_if(&mut self, condition: bool, row: &str) {
+        if condition {
+            self.add(row);
+        }
+    }
+
+    fn count_call(&mut self, before: Option<&Unit>, call: &Call, answer: &Answer, after: Option<&Unit>) {
+        let letter = letter(call);
+        self.add(&format!("call {letter}"));
+        self.add(&format!("number {} {letter}", answer.number()));
+        let Some(after) = after else { return };
+        self.longest_queue = after.queues.values().map(|queue| queue.len()).fold(self.longest_queue, usize::max);
+        self.largest_table = self.largest_table.max(after.table.len());
+        let Some(before) = before else { return };
+        if !matches!(call, Call::PowerOn { .. }) {
+            self.add(&format!("state {:?}", before.state));
+        }
+        match (call, answer) {
+            (Call::Frame { port, id, bytes }, Answer::Frame(Ok(answer))) => {
+                let frame = Frame { id: *id, bytes: bytes.clone() };
+                self.count_frame(before, *port, &frame, answer);
+            }
+            (Call::Start, Answer::Start(Ok(own_lost))) => self.count_start(before, own_lost, after),
+            (Call::Take { port }, Answer::Take(Ok(given))) => self.count_take(before, *port, given, after),
+            (Call::Message { port, payload, .. }, Answer::Message(..)) => {
+                self.count_message(before, *port, payload, answer, after)
+            }
+            _ => {}
+        }
+    }
+
+    fn count_frame(&mut self, before: &Unit, port: u32, frame: &Frame, answer: &FrameAnswer) {
+        self.add(&format!("event {}", event_row(&answer.event)));
+        self.add_if(answer.consumed, "frame consumed");
+        let asked = if answer.consumed { Vec::new() } else { other_ports(port) };
+        for to in &asked {
+            self.add(&format!("mode {}", mode_row(&before.pairs[&(port, *to)])));
+        }
+        let (accepted, lost) = (answer.accepted.len(), answer.lost.len());
+        self.add_if(accepted + lost < asked.len(), "frame stopped by a pair");
+        self.add_if(lost > 0 && accepted > 0, "frame lost at some ports, accepted at others");
+        self.add_if(lost == 3, "frame lost at three ports");
+        let own_lost = &answer.own_lost;
+        self.add_if((1..4).contains(&own_lost.len()), "own frame lost at some ports");
+        self.add_if(own_lost.len() == 4, "own frame lost at four ports");
+        let took_last = own_lost.iter().any(|to| answer.accepted.contains(to));
+        self.add_if(took_last, "own claim lost, forwarded frame took the last place");
+        self.add_if(frame::sa(frame.id) == frame::NULL, "SA 254 accepted");
+        self.count_claim_or_request(before, frame, answer);
+    }
+
+    fn count_claim_or_request(&mut self, before: &Unit, frame: &Frame, answer: &FrameAnswer) {
+        let global = frame::ps(frame.id) == frame::GLOBAL;
+        if is_claim(frame) {
+            let name = name_of(&frame.bytes);
+            let sa = frame::sa(frame.id);
+            let moved = before.table.iter().any(|(&held, holder)| holder.name == name && held != sa);
+            let moved = moved && sa != frame::NULL;
+            let won_nothing = matches!(answer.event, Event::Beaten | Event::Defended);
+            self.add_if(name == before.name, "claim with the unit's own NAME");
+            self.add_if(moved && !won_nothing, "claim that moved its NAME");
+            self.add_if(moved && won_nothing, "claim that moved its NAME and won nothing");
+        } else if is_request_for_address_claimed(frame) && (global || answer.consumed) {
+            self.add(match before.state {
+                ClaimState::Unstarted => "global request while Unstarted",
+                ClaimState::Lost => "global request answered with cannot-claim",
+                _ if answer.consumed => "consumed request answered",
+                _ => "global request answered with claim",
+            });
+        } else {
+            self.add_if(frame::pgn(frame.id) == frame::REQUEST, "other frame of PGN 59904");
+            self.add_if(frame::pgn(frame.id) == frame::ADDRESS_CLAIMED, "other frame of PGN 60928");
+        }
+    }
+
+    fn count_start(&mut self, before: &Unit, own_lost: &[u32], after: &Unit) {
+        let held = before.table.contains_key(&before.preferred);
+        self.add(match (after.state, held) {
+            (ClaimState::Lost, _) => "start to Lost",
+            (_, true) => "start to Claiming, holder dropped",
+            (_, false) => "start to Claiming, address free",
+        });
+        self.add_if(!own_lost.is_empty(), "start with own frame lost");
+    }
+
+    fn count_take(&mut self, before: &Unit, port: u32, given: &Option<Frame>, after: &Unit) {
+        let waiting = &before.queues[&port];
+        self.add_if(given.is_none(), "take with nothing waiting");
+        self.add_if(waiting.len() == LONGEST_QUEUE, "take from a full queue");
+        let front_stays = waiting.len() > 1 && after.queues[&port].front() == waiting.front();
+        let front_left = given.as_ref() == waiting.front();
+        self.add_if(front_stays && !front_left, "take of a later frame of higher rank");
+    }
+
+    fn count_message(&mut self, before: &Unit, port: u32, payload: &[u8], answer: &Answer, after: &Unit) {
+        let Answer::Message(answer, _) = answer else { return };
+        *self.lengths.entry(payload.len()).or_insert(0) += 1;
+        if !(9..=17).contains(&answer.number) && answer.number != 0 {
+            return;
+        }
+        let function = payload[0];
+        self.functions.insert(function);
+        if answer.number != 9 {
+            self.pair_bytes.insert((port, payload[1]));
+        }
+        self.add_if(answer.number == 11, "refused 11 from port 2, 3 or 4");
+        if answer.number == 0 {
+            self.add(&format!("done {function}"));
+            self.add_if(port != 1, "done from port 2, 3 or 4");
+            self.count_done(before, payload, answer.length, after);
+        }
+    }
+
+    fn count_done(&mut self, before: &Unit, payload: &[u8], length: usize, after: &Unit) {
+        let function = payload[0];
+        let word = match function {
+            2 => "Add",
+            3 => "Delete",
+            4 => "Clear",
+            _ => "Create",
+        };
+        let all = payload[1] & 0x0F == 15 && function != 64;
+        self.add_if(all, &format!("To 15 done by {word}"));
+        self.add_if(payload.len() >= 1784, "command of 594 entries done");
+        self.add_if(function == 0 && length == 99, "reply 1 of 99 bytes");
+        self.add_if(function == 64 && length > 8, "reply 65 over 8 bytes");
+        self.add_if(function == 64 && length == 255, "reply 65 of 255 bytes");
+        for (pair, list) in &after.pairs {
+            let (old, new) = (before.pairs[pair].entries().len(), list.entries().len());
+            self.add_if(old != new && new == LONGEST_LIST, "list of exactly 32 reached");
+            self.add_if(function == 3 && old != 0 && new == 0, "list emptied by Delete");
+        }
+    }
+
+    /// The table as printed lines.
+    pub fn table(&self) -> Vec<String> {
+        let mut lines = vec![self.line_of("calls", &LETTERS, "call ")];
+        lines.push(format!("lines that are no call: {}", self.not_calls));
+        for number in 0..=18 {
+            let by_call = LETTERS.map(|letter| self.reached(&format!("number {number} {letter}")));
+            let shown = LETTERS.iter().zip(by_call).filter(|(_, count)| *count > 0);
+            let split: Vec<String> = shown.map(|(letter, count)| format!("{letter} {count}")).collect();
+            let total: u64 = by_call.iter().sum();
+            lines.push(format!("number {number:2}: {total:6}  {}", split.join(", ")));
+        }
+        lines.push(self.line_of("events", &EVENTS, "event "));
+        lines.push(self.line_of("calls in state", &STATES, "state "));
+        lines.push(self.line_of("pairs asked in mode", &MODES, "mode "));
+        lines.push(self.line_of("done by function", &["0", "2", "3", "4", "6", "64"], "done "));
+        for row in DEEP {
+            lines.push(format!("{row}: {}", self.reached(row)));
+        }
+        lines.push(format!("function bytes answered: {} of 256", self.functions.len()));
+        lines.push(format!("port and pair byte answered: {} of 1024", self.pair_bytes.len()));
+        let lengths = [7, 8, 9, 10, 11, 12, 1783, 1784, 1785, 1786];
+        let shown = lengths.map(|length| format!("{length}: {}", self.lengths.get(&length).unwrap_or(&0)));
+        lines.push(format!("payloads of length {}", shown.join(", ")));
+        lines.push(format!("longest queue {}, largest table {}", self.longest_queue, self.largest_table));
+        lines
+    }
+
+    fn line_of(&self, title: &str, rows: &[&str], prefix: &str) -> String {
+        let counts = rows.iter().map(|row| format!("{row} {}", self.reached(&format!("{prefix}{row}"))));
+        format!("{title}: {}", counts.collect::<Vec<_>>().join(", "))
+    }
+}
+
+fn letter(call: &Call) -> &'static str {
+    match call {
+        Call::PowerOn { .. } => "P",
+        Call::Start => "S",
+        Call::Quiet => "Q",
+        Call::Frame { .. } => "F",
+        Call::Take { .. } => "T",
+        Call::Message { .. } => "M",
+    }
+}
+
+fn event_row(event: &Event) -> &'static str {
+    match event {
+        Event::None => "-",
+        Event::Withdrew => "Withdrew",
+        Event::Defended => "Defended",
+        Event::Displaced => "Displaced",
+        Event::Recorded => "Recorded",
+        Event::Refreshed => "Refreshed",
+        Event::TookOver(_) => "TookOver",
+        Event::Beaten => "Beaten",
+    }
+}
+
+fn mode_row(pair: &Pair) -> &'static str {
+    match pair {
+        Pair::Cleared => "cleared",
+        Pair::Block(entries) if entries.is_empty() => "block emptied",
+        Pair::Block(_) => "block",
+        Pair::Pass(entries) if entries.is_empty() => "pass emptied",
+        Pair::Pass(_) => "pass",
+    }
+}

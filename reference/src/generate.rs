@@ -1,0 +1,654 @@
+//! A seeded generator of calls. It runs the unit along, so as to aim at deep states.
+
+use crate::address::ClaimState;
+use crate::frame::{is_pgn, HIGHEST_ADDRESS};
+use crate::script::{apply, Call};
+use crate::unit::{other_ports, Unit, PORTS};
+
+/// splitmix64.
+pub struct Random {
+    state: u64,
+}
+
+impl Random {
+    pub fn new(seed: u64) -> Random {
+        Random { state: seed }
+    }
+
+    pub fn number(&mut self) -> u64 {
+        self.state = self.state.wrapping_add(0x9E37_79B9_7F4A_7C15);
+        let mut mixed = self.state;
+        mixed = (mixed ^ (mixed >> 30)).wrapping_mul(0xBF58_476D_1CE4_E5B9);
+        mixed = (mixed ^ (mixed >> 27)).wrapping_mul(0x94D0_49BB_1331_11EB);
+        mixed ^ (mixed >> 31)
+    }
+
+    /// A number below the limit.
+    pub fn below(&mut self, limit: u32) -> u32 {
+        (self.number() % u64::from(limit)) as u32
+    }
+
+    /// True once in so many.
+    pub fn once_in(&mut self, times: u32) -> bool {
+        self.below(times) == 0
+    }
+
+    pub fn pick<T: Copy>(&mut self, choices: &[T]) -> T {
+        choices[self.below(choices.len() as u32) as usize]
+    }
+}
+
+/// A list of calls that begins with a power-on.
+pub fn generate(seed: u64, calls: usize) -> Vec<Call> {
+    let mut random = Random::new(seed);
+    let (function_sweep, pair_sweep) = (random.below(256), random.below(1024));
+    let mut generator = Generator {
+        random,
+        calls: Vec::new(),
+        unit: Unit::power_on(0, 0),
+        names: Vec::new(),
+        addresses: Vec::new(),
+        pgns: Vec::new(),
+        takes: 0,
+        stuck: 0,
+        function_sweep,
+        pair_sweep,
+    };
+    while generator.calls.len() < calls {
+        generator.life(calls);
+    }
+    generator.calls.truncate(calls);
+    generator.calls
+}
+
+struct Generator {
+    random: Random,
+    calls: Vec<Call>,
+    /// The unit as the next call meets it.
+    unit: Unit,
+    /// Few NAMEs, few addresses and some PGNs, so that they collide.
+    names: Vec<u64>,
+    addresses: Vec<u32>,
+    pgns: Vec<u32>,
+    /// How many of 100 calls are takes, and a port that is not taken from (0 for none).
+    takes: u32,
+    stuck: u32,
+    /// Step through every function byte, and through every pair byte at every port.
+    function_sweep: u32,
+    pair_sweep: u32,
+}
+
+/// Numbers that are a PGN, with those of the rules and the limits of the range among them.
+const PGNS: [u32; 20] = [
+    0, 59392, 59904, 60160, 60416, 60672, 60928, 61184, 61440, 61444, 65265, 65535, 0x1EA00, 0x1EE00, 0x2EE00, 0x3EE00,
+    0x1F004, 0x2F004, 0x3EF00, 0x3FFFF,
+];
+/// Numbers that are none.
+const NOT_PGNS: [u32; 8] = [0x40000, 0xFF_FFFF, 0xEF01, 0xEEFF, 1, 0x3EF80, 0x40F0, 0xFE_F100];
+const FUNCTIONS: [u8; 6] = [0, 2, 3, 4, 6, 64];
+
+// Lives: one power-on to the next.
+impl Generator {
+    fn make(&mut self, call: Call) {
+        let mut unit = Some(self.unit.clone());
+        apply(&mut unit, &call);
+        self.unit = unit.expect("a unit");
+        self.calls.push(call);
+    }
+
+    fn life(&mut self, calls: usize) {
+        self.power_on();
+        let never_starts = self.unit.preferred > HIGHEST_ADDRESS;
+        let longest = if never_starts { 100 } else { 1400 };
+        let end = (self.calls.len() + 100 + self.random.below(longest) as usize).min(calls);
+        let start_after = if never_starts { 20 } else { self.random.pick(&[2, 2, 20, 60]) };
+        let quiet_after = self.random.pick(&[2, 2, 20, 100]);
+        self.before_start();
+        while self.calls.len() < end {
+            self.mood();
+            let mood_end = self.calls.len() + 40 + self.random.below(160) as usize;
+            while self.calls.len() < mood_end.min(end) {
+                self.claim_calls(start_after, quiet_after);
+                self.step();
+            }
+            if self.unit.state == ClaimState::Lost && !self.random.once_in(4) {
+                self.empty_queues();
+                return;
+            }
+        }
+    }
+
+    fn power_on(&mut self) {
+        let drawn = self.random.number();
+        let name = self.random.pick(&[drawn, drawn, drawn, 0, u64::MAX, 1 << 63, (1 << 63) - 1, 1 << 56]);
+        let bad = self.random.pick(&[254, 255, 256, u32::MAX]);
+        let good = self.random.below(254);
+        let preferred = self.random.pick(&[good, good, good, good, good, 0, 253, bad]);
+        self.names = vec![name, name.wrapping_sub(1), name.wrapping_add(1), name.swap_bytes(), !name, 0, u64::MAX];
+        self.names.push(self.random.number());
+        let other = self.random.below(254);
+        self.addresses = vec![0, 253, other, preferred.min(HIGHEST_ADDRESS), preferred.min(HIGHEST_ADDRESS)];
+        self.pgns = PGNS.to_vec();
+        while self.pgns.len() < 50 {
+            let number = self.random.below(1 << 18);
+            let pgn = if is_pgn(number) { number } else { number & 0x3FF00 };
+            if !self.pgns.contains(&pgn) {
+                self.pgns.push(pgn);
+            }
+        }
+        self.make(Call::PowerOn { name, preferred });
+    }
+
+    /// Now and then full queues, or claims for the preferred address, before Start.
+    fn before_start(&mut self) {
+        self.stuck = 0;
+        if self.random.once_in(4) {
+            for _ in 0..self.random.pick(&[1, 2, 3]) {
+                self.burst();
+            }
+            for _ in 0..self.random.pick(&[0, 2, 6]) {
+                self.take();
+            }
+        }
+        match self.random.below(6) {
+            0 | 1 => (0..8).for_each(|_| self.claim()),
+            2 => self.start_over_a_holder(),
+            _ => {}
+        }
+    }
+
+    /// A higher NAME holds the preferred address, is dropped at Start, and withdraws or comes again.
+    fn start_over_a_holder(&mut self) {
+        let port = self.random.pick(&PORTS);
+        let higher = self.unit.name.saturating_add(1).to_le_bytes().to_vec();
+        let preferred = self.unit.preferred.min(HIGHEST_ADDRESS);
+        let next = self.random.pick(&[254, preferred]);
+        self.send(port, 6, 60928, 255, preferred, higher.clone());
+        self.make(Call::Start);
+        self.send(port, 6, 60928, 255, next, higher.clone());
+        self.send(port, 6, 60928, 255, 254, higher);
+    }
+
+    /// Takes until nothing waits, and once more.
+    fn empty_queues(&mut self) {
+        for port in PORTS {
+            for _ in 0..=self.unit.queues[&port].len() {
+                self.make(Call::Take { port });
+            }
+        }
+    }
+
+    fn mood(&mut self) {
+        self.takes = self.random.pick(&[0, 20, 60, 75]);
+        self.stuck = self.random.below(5);
+    }
+
+    /// Start and Quiet, in their place and out of it.
+    fn claim_calls(&mut self, start_after: u32, quiet_after: u32) {
+        let stray = self.random.once_in(150);
+        let start_due = self.unit.state == ClaimState::Unstarted && self.random.once_in(start_after);
+        let quiet_due = self.unit.state == ClaimState::Claiming && self.random.once_in(quiet_after);
+        if start_due || (stray && self.random.once_in(2)) {
+            self.make(Call::Start);
+        } else if quiet_due || stray {
+            self.make(Call::Quiet);
+        }
+    }
+
+    fn step(&mut self) {
+        let claimed = self.unit.state == ClaimState::Claimed;
+        if self.random.below(100) < self.takes {
+            self.take();
+        } else if self.random.once_in(if claimed { 3 } else { 20 }) {
+            self.message();
+        } else if self.random.once_in(if claimed { 500 } else { 3000 }) {
+            self.storm();
+        } else if self.random.once_in(150) {
+            self.burst();
+        } else {
+            self.frame();
+        }
+    }
+
+    fn take(&mut self) {
+        let port = self.random.pick(&PORTS);
+        let bad = self.random.pick(&[0, 5, 15, 256, 257, u32::MAX]);
+        if self.random.once_in(40) {
+            self.make(Call::Take { port: bad });
+        } else if port != self.stuck {
+            self.make(Call::Take { port });
+        }
+    }
+}
+
+// Frames.
+impl Generator {
+    fn frame(&mut self) {
+        match self.random.below(20) {
+            0..=8 => self.traffic(),
+            9..=13 => self.claim(),
+            14..=16 => self.request(),
+            17 => self.near_claim(),
+            18 => self.frame_to_the_unit(),
+            _ => self.bad_frame(),
+        }
+    }
+
+    fn send(&mut self, port: u32, priority: u32, pgn: u32, ps: u32, sa: u32, bytes: Vec<u8>) {
+        let destination = if is_pgn(pgn | 1) { 0 } else { ps << 8 };
+        let id = (priority << 26) | (pgn << 8) | destination | sa;
+        self.make(Call::Frame { port, id, bytes });
+    }
+
+    fn some_bytes(&mut self, length: u32) -> Vec<u8> {
+        (0..length).map(|_| self.random.number() as u8).collect()
+    }
+
+    fn some_sa(&mut self) -> u32 {
+        let any = self.random.below(254);
+        let known = self.random.pick(&self.addresses);
+        self.random.pick(&[any, known])
+    }
+
+    fn some_ps(&mut self) -> u32 {
+        let any = self.random.below(256);
+        let known = self.random.pick(&self.addresses);
+        self.random.pick(&[any, known, 254, 255])
+    }
+
+    fn traffic(&mut self) {
+        let port = self.random.pick(&PORTS);
+        let priority = self.random.below(8);
+        let pgn = self.random.pick(&self.pgns);
+        let (ps, sa) = (self.some_ps(), self.some_sa());
+        let length = self.random.below(9);
+        let bytes = self.some_bytes(length);
+        self.send(port, priority, pgn, ps, sa, bytes);
+    }
+
+    /// Many frames into one port with no take.
+    fn burst(&mut self) {
+        let port = self.random.pick(&PORTS);
+        for count in 0..30 + self.random.below(20) {
+            let priority = self.random.pick(&[3, 6, 7]);
+            let pgn = self.random.pick(&self.pgns);
+            let sa = self.some_sa();
+            self.send(port, priority, pgn, 255, sa, vec![count as u8]);
+        }
+    }
+
+    fn claim(&mut self) {
+        let port = self.random.pick(&PORTS);
+        let priority = self.random.pick(&[6, 6, 6, 0, 7]);
+        let address = self.random.pick(&self.addresses);
+        let sa = if self.random.once_in(8) { 254 } else { address };
+        let mut name = self.random.pick(&self.names);
+        let displaces = self.unit.address() == Some(sa) && name < self.unit.name;
+        if displaces && !self.random.once_in(12) {
+            name = self.unit.name.saturating_add(1 + u64::from(self.random.below(3)));
+        }
+        self.send(port, priority, 60928, 255, sa, name.to_le_bytes().to_vec());
+    }
+
+    /// All NAMEs withdraw, then new ones claim every address, at one port or at all.
+    fn storm(&mut self) {
+        let one = self.random.pick(&PORTS);
+        let mixed = self.random.once_in(3);
+        for holder in self.unit.table.clone().values() {
+            self.send(one, 6, 60928, 255, 254, holder.name.to_le_bytes().to_vec());
+        }
+        for sa in 0..=HIGHEST_ADDRESS {
+            let any = self.random.pick(&PORTS);
+            let port = if mixed { any } else { one };
+            let name = self.random.number();
+            if self.unit.address() != Some(sa) || name > self.unit.name {
+                self.send(port, 6, 60928, 255, sa, name.to_le_bytes().to_vec());
+            }
+            if self.random.once_in(3) {
+                self.take();
+            }
+        }
+        self.make(Call::Message { port: 1, requester: 33, payload: vec![64, one as u8, 0, 0, 0, 0, 0, 0] });
+    }
+
+    fn request(&mut self) {
+        let port = self.random.pick(&PORTS);
+        let priority = self.random.pick(&[6, 6, 3]);
+        let own = self.unit.address().unwrap_or(HIGHEST_ADDRESS);
+        let any = self.some_ps();
+        let ps = self.random.pick(&[255, 255, 255, own, own, any]);
+        let known = self.some_sa();
+        let sa = self.random.pick(&[known, known, 254]);
+        let mut bytes = vec![0x00, 0xEE, 0x00];
+        if self.random.once_in(4) {
+            let wrong: [&[u8]; 6] = [
+                &[0, 0xEE],
+                &[0, 0xEE, 1],
+                &[0xEE, 0, 0],
+                &[],
+                &[0, 0xEE, 0, 0],
+                &[0, 0xEE, 0, 255, 255, 255, 255, 255],
+            ];
+            bytes = self.random.pick(&wrong).to_vec();
+        }
+        let pgn = self.random.pick(&[59904, 59904, 59904, 59904, 59904, 0x1EA00]);
+        self.send(port, priority, pgn, ps, sa, bytes);
+    }
+
+    /// Frames that are almost a claim: another length, destination or page.
+    fn near_claim(&mut self) {
+        let port = self.random.pick(&PORTS);
+        let sa = self.random.pick(&[self.addresses[0], self.addresses[3], 254]);
+        let ps = self.random.pick(&[255, 254, 0, self.addresses[3]]);
+        let pgn = self.random.pick(&[60928, 60928, 0x1EE00, 0x2EE00, 60672]);
+        let length = self.random.pick(&[8, 8, 7, 0]);
+        let bytes = self.some_bytes(length);
+        self.send(port, 6, pgn, ps, sa, bytes);
+    }
+
+    fn frame_to_the_unit(&mut self) {
+        let port = self.random.pick(&PORTS);
+        let pgn = self.random.pick(&[61184, 60672, 60928, 59392, 0x3EF00, 0]);
+        let ps = self.unit.preferred & 0xFF;
+        let sa = self.some_sa();
+        let length = self.random.below(9);
+        let bytes = self.some_bytes(length);
+        self.send(port, 3, pgn, ps, sa, bytes);
+    }
+
+    /// One or more of numbers 1, 3, 4 and 5, and their neighbours.
+    fn bad_frame(&mut self) {
+        let good = self.random.pick(&PORTS);
+        let port = self.random.pick(&[good, good, good, good, 0, 5, u32::MAX]);
+        let any = self.random.number() as u32;
+        let below = any & 0x1FFF_FFFF;
+        let known = 0x18FE_F100 | self.some_sa();
+        let id = self.random.pick(&[
+            known,
+            known,
+            below,
+            0x1FFF_FFFE,
+            0x1FFF_FFFF,
+            0x2000_0000,
+            any | 0x2000_0000,
+            u32::MAX,
+            0x18FE_F1FE,
+            0x18FE_F1FF,
+            0x18EE_FFFF,
+            0x18EE_01FE,
+            0x18EA_01FE,
+            0x18EA_01FF,
+            0x1AEA_FFFE,
+        ]);
+        let length = self.random.pick(&[8, 8, 0, 9, 9, 10, 16, 64]);
+        let bytes = self.some_bytes(length);
+        self.make(Call::Frame { port, id, bytes });
+    }
+}
+
+// Messages.
+impl Generator {
+    fn message(&mut self) {
+        match self.random.below(26) {
+            0..=9 => self.command(),
+            10..=11 => self.fill_list(),
+            12 => self.all_pairs(),
+            13 => self.empty_list(),
+            14..=15 => self.function_sweep(),
+            16..=18 => self.pair_sweep(),
+            19..=20 => self.boundary_length(),
+            21..=22 => self.bad_body(),
+            23..=24 => self.several_faults(),
+            _ => self.silent_refusal(),
+        }
+    }
+
+    fn hand_in(&mut self, port: u32, payload: Vec<u8>) {
+        let any = self.random.below(254);
+        let requester = self.random.pick(&[33, 33, 0, 253, any]);
+        self.make(Call::Message { port, requester, payload });
+    }
+
+    /// A port and a pair byte that its tool may name, To 15 now and then.
+    fn port_and_pair(&mut self) -> (u32, u8) {
+        let from = self.random.pick(&PORTS);
+        let to = self.random.pick(&other_ports(from));
+        let port = self.random.pick(&[1, from, to]);
+        if self.random.once_in(4) {
+            (self.random.pick(&[1, from]), pair_byte(from, 15))
+        } else {
+            (port, pair_byte(from, to))
+        }
+    }
+
+    /// A command that suits the named pairs, most of the time.
+    fn command(&mut self) {
+        let (port, byte) = self.port_and_pair();
+        let named = pairs_of(byte);
+        let cleared = named.iter().filter(|pair| self.unit.pairs[pair].is_cleared()).count();
+        let suits: &[u8] = match cleared {
+            0 => &[2, 2, 2, 3, 3, 3, 4, 0, 6, 64],
+            _ if cleared == named.len() => &[6, 6, 6, 6, 6, 6, 0, 2, 3, 4],
+            _ => &[4, 6, 2, 3],
+        };
+        let function = self.random.pick(suits);
+        let count = self.random.pick(&[1, 1, 1, 2, 2, 3, 5, 12, 32, 33]);
+        let mut entries = self.different_pgns(count);
+        if function == 3 && !self.random.once_in(8) {
+            entries = self.listed_pgns(&named, count);
+        }
+        if self.random.once_in(12) {
+            let times = self.random.pick(&[40, 100, 594]);
+            entries = repeated(&entries, times);
+        }
+        let mode = self.random.pick(&[0, 0, 0, 0, 1, 1, 1, 1, 2, 255]);
+        let byte = if function == 64 { (byte & 0xF0) | port as u8 } else { byte };
+        self.hand_in(port, payload(function, byte, mode, &entries));
+    }
+
+    fn different_pgns(&mut self, count: usize) -> Vec<u32> {
+        let mut left = self.pgns.clone();
+        (0..count).map(|_| left.remove(self.random.below(left.len() as u32) as usize)).collect()
+    }
+
+    /// PGNs that all the named pairs list, some named twice.
+    fn listed_pgns(&mut self, named: &[(u32, u32)], count: usize) -> Vec<u32> {
+        let first = self.unit.pairs[&named[0]].entries();
+        let in_all = |pgn: &u32| named.iter().all(|pair| self.unit.pairs[pair].entries().contains(pgn));
+        let common: Vec<u32> = first.iter().copied().filter(in_all).collect();
+        if common.is_empty() {
+            return self.different_pgns(1);
+        }
+        (0..count).map(|_| self.random.pick(&common)).collect()
+    }
+
+    /// Brings a list to exactly 32, then one more (16), then a listed one, then the reply.
+    fn fill_list(&mut self) {
+        let (port, byte) = self.port_and_pair();
+        let longest = pairs_of(byte).iter().map(|pair| self.unit.pairs[pair].entries().len()).max().unwrap_or(0);
+        let function = if longest == 0 { 6 } else { 2 };
+        let mode = self.random.pick(&[0, 1]);
+        let all = self.different_pgns(50);
+        let listed = self.unit.pairs[&pairs_of(byte)[0]].entries().to_vec();
+        let fresh: Vec<u32> = all.into_iter().filter(|pgn| !listed.contains(pgn)).collect();
+        let room = 32usize.saturating_sub(listed.len());
+        let to_32 = &fresh[..room.min(fresh.len())];
+        let one_more = fresh.get(room).copied().unwrap_or(0);
+        if self.random.once_in(3) {
+            let too_many = fresh[..(room + 1).min(fresh.len())].to_vec();
+            self.hand_in(port, payload(function, byte, mode, &too_many));
+        }
+        if !to_32.is_empty() {
+            let times = self.random.pick(&[0, 0, 594]);
+            self.hand_in(port, payload(function, byte, mode, &repeated(to_32, times)));
+        }
+        self.hand_in(port, payload(2, byte, 0, &[one_more]));
+        let listed_one = self.listed_pgns(&pairs_of(byte), 1);
+        self.hand_in(port, payload(2, byte, 0, &listed_one));
+        if byte & 0x0F != 15 {
+            self.hand_in(port, payload(0, byte, 0, &[]));
+        }
+    }
+
+    /// Clear, Create, Add and Delete with To 15.
+    fn all_pairs(&mut self) {
+        let from = self.random.pick(&PORTS);
+        let byte = pair_byte(from, 15);
+        let port = self.random.pick(&[1, from]);
+        let mode = self.random.pick(&[0, 1]);
+        let entries = self.different_pgns(6);
+        self.hand_in(port, payload(4, byte, 0, &[]));
+        self.hand_in(port, payload(6, byte, mode, &entries[..4]));
+        self.hand_in(port, payload(2, byte, 0, &entries[3..]));
+        if self.random.once_in(2) {
+            let one = self.random.pick(&other_ports(from));
+            self.hand_in(port, payload(3, pair_byte(from, one), 0, &entries[..1]));
+        }
+        self.hand_in(port, payload(3, byte, 0, &entries[..2]));
+    }
+
+    /// Deletes all that a pair lists; it does not become cleared by that.
+    fn empty_list(&mut self) {
+        let (port, byte) = self.port_and_pair();
+        let pair = pairs_of(byte)[0];
+        let byte = pair_byte(pair.0, pair.1);
+        let listed = self.unit.pairs[&pair].entries().to_vec();
+        let port = if port == pair.0 || port == pair.1 { port } else { 1 };
+        if !listed.is_empty() {
+            self.hand_in(port, payload(3, byte, 0, &listed));
+        }
+        self.traffic();
+        let function = self.random.pick(&[0, 2, 6, 3]);
+        let entries = self.different_pgns(1);
+        self.hand_in(port, payload(function, byte, 1, &entries));
+    }
+
+    fn function_sweep(&mut self) {
+        let port = self.random.pick(&PORTS);
+        for _ in 0..6 {
+            self.function_sweep += 1;
+            let byte = self.random.pick(&[0x12, 0x21, 0x34, 0x00, 0x1F]);
+            let mut bytes = self.some_bytes(8);
+            bytes[0] = self.function_sweep as u8;
+            bytes[1] = byte;
+            self.hand_in(port, bytes);
+        }
+    }
+
+    /// Every pair byte from every port, neighbours' pairs among them.
+    fn pair_sweep(&mut self) {
+        let function = self.random.pick(&FUNCTIONS);
+        let entries = self.different_pgns(1);
+        for _ in 0..6 {
+            self.pair_sweep += 1;
+            let port = 1 + self.pair_sweep / 256 % 4;
+            self.hand_in(port, payload(function, self.pair_sweep as u8, 1, &entries));
+        }
+        let port = self.random.pick(&[2, 3, 4]);
+        let from = self.random.pick(&PORTS);
+        let to = self.random.pick(&[1, 2, 3, 4, 15]);
+        self.hand_in(port, payload(function, pair_byte(from, to), 0, &entries));
+    }
+
+    fn boundary_length(&mut self) {
+        let (port, byte) = self.port_and_pair();
+        let function = self.random.pick(&FUNCTIONS);
+        let length = self.random.pick(&[7, 8, 9, 10, 11, 12, 13, 14, 1783, 1784, 1785, 1786]);
+        let first = if function == 6 { 3 } else { 2 };
+        let few = self.different_pgns(20);
+        let mut bytes = vec![function, byte, self.random.pick(&[0, 1])];
+        bytes.truncate(first);
+        for pgn in repeated(&few, 600) {
+            bytes.extend_from_slice(&pgn.to_le_bytes()[..3]);
+        }
+        bytes.truncate(length);
+        self.hand_in(port, bytes);
+    }
+
+    /// Wrong entries and filling, FF FF FF as entry, two entries in eight bytes.
+    fn bad_body(&mut self) {
+        let (port, byte) = self.port_and_pair();
+        let function = self.random.pick(&[2, 3, 6]);
+        let mode = self.random.pick(&[0, 1, 2]);
+        let mut entries = self.different_pgns(3);
+        let not_pgn = self.random.pick(&NOT_PGNS);
+        let place = self.random.below(4) as usize;
+        if let Some(entry) = entries.get_mut(place) {
+            *entry = not_pgn;
+        }
+        let count = self.random.pick(&[1, 2, 3]);
+        let mut bytes = payload(function, byte, mode, &entries[..count]);
+        if self.random.once_in(3) {
+            let last = bytes.len() - 1 - self.random.below(3) as usize;
+            bytes[last] = self.random.pick(&[0, 0xFE, 0xFF]);
+        } else if self.random.once_in(3) {
+            bytes = payload(function, byte, mode, &entries[..1]);
+            bytes.resize(bytes.len() + self.random.pick(&[1, 3, 4]), 0xFF);
+        }
+        self.hand_in(port, bytes);
+    }
+
+    /// Faults of numbers 9 to 17 together, for the order of the numbers.
+    fn several_faults(&mut self) {
+        for _ in 0..4 {
+            let port = self.random.pick(&PORTS);
+            let (_, allowed) = self.port_and_pair();
+            let byte = self.random.pick(&[allowed, allowed, allowed, 0x11, 0x51, 0x05, 0xF1]);
+            let function = self.random.pick(&[0, 2, 3, 4, 6, 64, 5]);
+            let mode = self.random.pick(&[0, 1, 2]);
+            let count = self.random.pick(&[1, 2, 33]);
+            let mut entries = self.different_pgns(count);
+            if self.random.once_in(4) {
+                entries[count - 1] = self.random.pick(&NOT_PGNS);
+            }
+            let mut bytes = payload(function, byte, mode, &entries);
+            if self.random.once_in(3) {
+                bytes.push(0xFF);
+            }
+            self.hand_in(port, bytes);
+        }
+    }
+
+    /// One or more of numbers 1, 6, 7 and 8.
+    fn silent_refusal(&mut self) {
+        let good = self.random.pick(&PORTS);
+        let port = self.random.pick(&[good, good, good, 0, 5, u32::MAX]);
+        let requester = self.random.pick(&[33, 33, 253, 254, 255, 256, u32::MAX]);
+        let length = self.random.pick(&[8, 8, 8, 0, 1, 7, 1785, 1786, 2000]);
+        let bytes = vec![0; length];
+        self.make(Call::Message { port, requester, payload: bytes });
+    }
+}
+
+fn pair_byte(from: u32, to: u32) -> u8 {
+    (from * 16 + to) as u8
+}
+
+/// The pairs of a good pair byte.
+fn pairs_of(byte: u8) -> Vec<(u32, u32)> {
+    let (from, to) = (u32::from(byte >> 4), u32::from(byte & 0x0F));
+    let all = other_ports(from).into_iter().map(|other| (from, other));
+    all.filter(|&(_, other)| to == 15 || to == other).collect()
+}
+
+/// The PGNs over and over, up to so many entries.
+fn repeated(pgns: &[u32], times: usize) -> Vec<u32> {
+    pgns.iter().copied().cycle().take(times.max(pgns.len())).collect()
+}
+
+/// A payload in good form: filling only in eight bytes.
+fn payload(function: u8, byte: u8, mode: u8, entries: &[u32]) -> Vec<u8> {
+    let mut bytes = vec![function, byte];
+    if function == 6 {
+        bytes.push(mode);
+    }
+    if [2, 3, 6].contains(&function) {
+        for pgn in entries {
+            bytes.extend_from_slice(&pgn.to_le_bytes()[..3]);
+        }
+    }
+    while bytes.len() < 8 {
+        bytes.push(0xFF);
+    }
+    bytes
+}

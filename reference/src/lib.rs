@@ -1,0 +1,11 @@
+//! Reference of document 01, the bridge box core, in the order of its headings,
+//! then the script format, the generator and the coverage count.
+
+pub mod frame;
+pub mod pair;
+pub mod unit;
+pub mod address;
+pub mod message;
+pub mod script;
+pub mod generate;
+pub mod coverage;

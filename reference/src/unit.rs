@@ -1,0 +1,149 @@
+//! The unit, its power-on, and "Forwarding": frames and takes.
+
+use std::collections::{BTreeMap, VecDeque};
+
+use crate::address::{ClaimState, Event, Holder};
+use crate::frame::{self, Frame};
+use crate::pair::Pair;
+
+/// Ports 1 to 4; port 1 is the service port.
+pub const PORTS: [u32; 4] = [1, 2, 3, 4];
+/// The most frames that wait at one port.
+pub const LONGEST_QUEUE: usize = 32;
+
+/// The number of a refusal, from the table "Numbers given back".
+pub type Number = u32;
+
+/// The record of one unit.
+#[derive(Clone, Debug, PartialEq, Eq)]
+pub struct Unit {
+    pub name: u64,
+    pub preferred: u32,
+    pub state: ClaimState,
+    /// The twelve directed pairs, by (From, To).
+    pub pairs: BTreeMap<(u32, u32), Pair>,
+    /// One queue for each port, in order of joining.
+    pub queues: BTreeMap<u32, VecDeque<Frame>>,
+    /// The address table: who holds which address.
+    pub table: BTreeMap<u32, Holder>,
+}
+
+/// The answer to a frame (forwarding rule 5). Ports are in rising order.
+#[derive(Clone, Debug, PartialEq, Eq)]
+pub struct FrameAnswer {
+    pub consumed: bool,
+    pub accepted: Vec<u32>,
+    pub lost: Vec<u32>,
+    pub event: Event,
+    pub own_lost: Vec<u32>,
+    pub compared: usize,
+}
+
+impl Unit {
+    /// Power-on: pairs cleared, queues and table empty, the unit Unstarted.
+    pub fn power_on(name: u64, preferred: u32) -> Unit {
+        let mut pairs = BTreeMap::new();
+        let mut queues = BTreeMap::new();
+        for from in PORTS {
+            queues.insert(from, VecDeque::new());
+            for to in other_ports(from) {
+                pairs.insert((from, to), Pair::Cleared);
+            }
+        }
+        Unit { name, preferred, state: ClaimState::Unstarted, pairs, queues, table: BTreeMap::new() }
+    }
+
+    /// A frame that arrived at a port.
+    pub fn frame(&mut self, port: u32, id: u32, bytes: &[u8]) -> Result<FrameAnswer, Number> {
+        check_port(port)?;
+        check_frame(id, bytes)?;
+        let frame = Frame { id, bytes: bytes.to_vec() };
+        let mut answer = FrameAnswer {
+            consumed: self.consumes(id),
+            accepted: Vec::new(),
+            lost: Vec::new(),
+            event: Event::None,
+            own_lost: Vec::new(),
+            compared: 0,
+        };
+        if !answer.consumed {
+            self.forward(port, &frame, &mut answer);
+        }
+        self.act_on(port, &frame, &mut answer);
+        Ok(answer)
+    }
+
+    /// Forwarding rule 1.
+    fn consumes(&self, id: u32) -> bool {
+        frame::pf(id) < 240 && self.address() == Some(frame::ps(id))
+    }
+
+    /// Forwarding rules 2 and 3, and the count of rule 5.
+    fn forward(&mut self, port: u32, frame: &Frame, answer: &mut FrameAnswer) {
+        let pgn = frame::pgn(frame.id);
+        for to in other_ports(port) {
+            let pair = &self.pairs[&(port, to)];
+            answer.compared += pair.compared(pgn);
+            if pair.permits(pgn) {
+                if self.join(to, frame) {
+                    answer.accepted.push(to);
+                } else {
+                    answer.lost.push(to);
+                }
+            }
+        }
+    }
+
+    /// Forwarding rule 3: a permitted frame joins a port's queue where fewer than 32 wait.
+    pub(crate) fn join(&mut self, port: u32, frame: &Frame) -> bool {
+        let queue = self.queues.get_mut(&port).expect("a port of the unit");
+        if queue.len() < LONGEST_QUEUE {
+            queue.push_back(frame.clone());
+            true
+        } else {
+            false
+        }
+    }
+
+    /// Forwarding rule 4: the frame of highest rank, the earliest accepted of those.
+    pub fn take(&mut self, port: u32) -> Result<Option<Frame>, Number> {
+        check_port(port)?;
+        let queue = self.queues.get_mut(&port).expect("a port of the unit");
+        let Some(highest) = queue.iter().map(|waiting| frame::priority(waiting.id)).min() else {
+            return Ok(None);
+        };
+        let first = queue.iter().position(|waiting| frame::priority(waiting.id) == highest);
+        Ok(first.and_then(|index| queue.remove(index)))
+    }
+}
+
+/// The ports other than this one, in rising order.
+pub fn other_ports(port: u32) -> Vec<u32> {
+    PORTS.into_iter().filter(|&other| other != port).collect()
+}
+
+/// Number 1.
+pub(crate) fn check_port(port: u32) -> Result<(), Number> {
+    if PORTS.contains(&port) {
+        Ok(())
+    } else {
+        Err(1)
+    }
+}
+
+/// Numbers 3, 4 and 5.
+fn check_frame(id: u32, bytes: &[u8]) -> Result<(), Number> {
+    if id >= 1 << 29 {
+        return Err(3);
+    }
+    if bytes.len() > 8 {
+        return Err(4);
+    }
+    let request = frame::pgn(id) == frame::REQUEST;
+    let claim = frame::pgn(id) == frame::ADDRESS_CLAIMED && frame::ps(id) == frame::GLOBAL;
+    match frame::sa(id) {
+        255 => Err(5),
+        frame::NULL if !request && !claim => Err(5),
+        _ => Ok(()),
+    }
+}

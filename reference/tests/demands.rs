@@ -1,0 +1,242 @@
+//! The customer's demands over generated lists of calls.
+
+mod common;
+
+use std::collections::BTreeMap;
+
+use common::*;
+use reference::address::{ClaimState, Holder};
+use reference::coverage::{Coverage, DEEP, EVENTS, MODES, STATES};
+use reference::frame::{priority, Frame};
+use reference::generate::{generate, Random};
+use reference::pair::Pair;
+use reference::script::{apply, write_call, Answer, Call};
+use reference::unit::{Unit, PORTS};
+
+const CALLS: usize = 8000;
+
+/// Makes every call of a generated list and shows the unit before and after it.
+fn each_call(seed: u64, mut look: impl FnMut(&Unit, &Call, &Answer, &Unit)) {
+    let mut unit = None;
+    for call in generate(seed, CALLS) {
+        let before = unit.clone();
+        let answer = apply(&mut unit, &call).expect("a unit");
+        if let (Some(before), Some(after)) = (&before, &unit) {
+            look(before, &call, &answer, after);
+        }
+    }
+}
+
+#[test]
+fn demand_1_refusals_change_nothing() {
+    each_call(101, |before, _, answer, after| {
+        if answer.number() != 0 {
+            assert_eq!(before, after);
+        }
+        if let Answer::Message(given, written) = answer {
+            let silent = (1..=8).contains(&given.number);
+            assert_eq!(written.is_empty(), silent);
+            assert!(given.number < 9 || written.len() == 8);
+        }
+    });
+}
+
+#[test]
+fn demand_2_no_frame_back_and_no_other_pair() {
+    each_call(102, |before, call, answer, after| match (call, answer) {
+        (Call::Frame { port, .. }, Answer::Frame(Ok(given))) => {
+            assert!(!given.accepted.contains(port) && !given.lost.contains(port));
+            assert_eq!(before.pairs, after.pairs);
+        }
+        (Call::Message { payload, .. }, Answer::Message(given, _)) if given.number == 0 => {
+            let (from, to) = (u32::from(payload[1] >> 4), u32::from(payload[1] & 15));
+            for (pair, filter) in &after.pairs {
+                let named = payload[0] != 64 && pair.0 == from && (pair.1 == to || to == 15);
+                assert!(named || *filter == before.pairs[pair]);
+            }
+            assert_eq!((&before.queues, &before.table), (&after.queues, &after.table));
+        }
+        (Call::PowerOn { .. }, _) => {}
+        _ => assert_eq!(before.pairs, after.pairs),
+    });
+}
+
+/// Other lists and addresses beyond those of port p.
+fn scrambled(unit: &Unit, port: u32, random: &mut Random) -> Unit {
+    let mut other = unit.clone();
+    for (pair, filter) in other.pairs.iter_mut() {
+        if pair.0 != port && pair.1 != port {
+            let entries = pgns(random.below(33));
+            *filter = match random.below(3) {
+                0 => Pair::Cleared,
+                1 => Pair::Block(entries),
+                _ => Pair::Pass(entries),
+            };
+        }
+    }
+    other.table.retain(|_, holder| holder.port == port);
+    for address in 0..254 {
+        if other.address() != Some(address) && !other.table.contains_key(&address) && random.once_in(3) {
+            let name = 0x7000_0000_0000_0000 + u64::from(address);
+            other.table.insert(address, Holder { name, port: port % 4 + 1 });
+        }
+    }
+    other
+}
+
+/// For a tool on port 2, 3 or 4 the answer does not depend on a neighbour's lists and addresses.
+#[test]
+fn demand_2_privacy() {
+    let mut random = Random::new(1);
+    let mut tried = 0;
+    each_call(103, |before, call, answer, _| {
+        let Call::Message { port, requester, payload } = call else { return };
+        let Answer::Message(given, written) = answer else { return };
+        if (2..=4).contains(port) && before.state == ClaimState::Claimed {
+            let mut other = scrambled(before, *port, &mut random);
+            let (number, pgn, bytes) = message(&mut other, *port, *requester, payload);
+            assert_eq!((number, pgn, &bytes), (given.number, given.pgn, written));
+            tried += 1;
+        }
+    });
+    assert!(tried > 300, "{tried}");
+}
+
+/// A reported list with entries, sent back as Create to a cleared pair, gives that list again.
+#[test]
+fn demand_2_round_trip() {
+    for (count, mode) in (1..=32).flat_map(|count| [(count, 0), (count, 1)]) {
+        let mut unit = claimed();
+        assert_eq!(number(&mut unit, &command(6, 0x34, mode, &pgns(count))), 0);
+        let (_, _, mut reply) = message(&mut unit, 1, TOOL, &hex("00 34 FF FF FF FF FF FF"));
+        let listed = unit.pairs[&(3, 4)].clone();
+        assert_eq!(number(&mut unit, &command(4, 0x34, 0, &[])), 0);
+        reply[0] = 6;
+        assert_eq!(number(&mut unit, &reply), 0);
+        assert_eq!(unit.pairs[&(3, 4)], listed);
+    }
+}
+
+/// A frame that waits, with the counts of demand 3.
+struct Waiting {
+    frame: Frame,
+    equal_or_higher_before: usize,
+    higher_after: usize,
+    takes: usize,
+}
+
+/// A frame joins: A counts those that wait with equal or higher rank, B rises for those of lower rank.
+fn joined(row: &mut Vec<Waiting>, frame: &Frame) {
+    let rank = priority(frame.id);
+    for other in row.iter_mut() {
+        other.higher_after += usize::from(rank < priority(other.frame.id));
+    }
+    let before = row.iter().filter(|other| priority(other.frame.id) <= rank).count();
+    row.push(Waiting { frame: frame.clone(), equal_or_higher_before: before, higher_after: 0, takes: 0 });
+}
+
+/// A take: the one frame whose number of takes is 1 + A + B leaves.
+fn leaving(row: &mut Vec<Waiting>) -> Option<Frame> {
+    for waiting in row.iter_mut() {
+        waiting.takes += 1;
+    }
+    let due = |waiting: &Waiting| waiting.takes == 1 + waiting.equal_or_higher_before + waiting.higher_after;
+    assert!(row.iter().filter(|waiting| due(waiting)).count() <= 1);
+    assert!(row.iter().all(|waiting| waiting.takes <= 1 + waiting.equal_or_higher_before + waiting.higher_after));
+    let index = row.iter().position(due)?;
+    Some(row.remove(index).frame)
+}
+
+#[test]
+fn demand_3_every_frame_leaves_at_its_take() {
+    for seed in [104, 105] {
+        let mut rows: BTreeMap<u32, Vec<Waiting>> = PORTS.map(|port| (port, Vec::new())).into();
+        each_call(seed, |before, call, answer, after| {
+            if matches!(call, Call::PowerOn { .. }) {
+                rows.values_mut().for_each(Vec::clear);
+                return;
+            }
+            if let (Call::Take { port }, Answer::Take(Ok(given))) = (call, answer) {
+                let row = rows.get_mut(port).unwrap();
+                let empty = row.is_empty();
+                assert_eq!(leaving(row), *given);
+                assert_eq!(given.is_none(), empty);
+            } else {
+                for port in PORTS {
+                    let (old, new) = (&before.queues[&port], &after.queues[&port]);
+                    assert!(old.iter().eq(new.iter().take(old.len())), "only a take makes a frame leave");
+                    new.iter().skip(old.len()).for_each(|frame| joined(rows.get_mut(&port).unwrap(), frame));
+                }
+            }
+            for port in PORTS {
+                assert!(rows[&port].iter().map(|waiting| &waiting.frame).eq(after.queues[&port].iter()));
+                assert!(after.queues[&port].len() <= 32);
+            }
+        });
+    }
+}
+
+/// The forwarded frame joins the accepted ports, the unit's own frame all but those named.
+#[test]
+fn demand_3_ports_named() {
+    each_call(106, |before, call, answer, after| {
+        let Call::Frame { id, bytes, .. } = call else { return };
+        let Answer::Frame(Ok(given)) = answer else { return };
+        let frame = Frame { id: *id, bytes: bytes.clone() };
+        let new = |port: u32| after.queues[&port].iter().skip(before.queues[&port].len()).cloned().collect::<Vec<_>>();
+        let own = PORTS.into_iter().find_map(|port| new(port).into_iter().find(|joined| *joined != frame));
+        for port in PORTS {
+            let mut expected = Vec::new();
+            if given.accepted.contains(&port) {
+                expected.push(frame.clone());
+            }
+            if !given.own_lost.contains(&port) {
+                expected.extend(own.clone());
+            }
+            assert_eq!(new(port), expected);
+            let lost = given.lost.contains(&port) || given.own_lost.contains(&port);
+            assert!(!lost || after.queues[&port].len() == 32);
+        }
+    });
+}
+
+/// What holds of the record after every call.
+#[test]
+fn invariants_of_the_record() {
+    each_call(107, |_, _, _, after| {
+        assert!(after.address().iter().all(|address| !after.table.contains_key(address)));
+        assert!(after.table.values().all(|holder| holder.name != after.name));
+        let mut names: Vec<u64> = after.table.values().map(|holder| holder.name).collect();
+        names.sort();
+        names.dedup();
+        assert_eq!(names.len(), after.table.len(), "one address for each NAME");
+        for filter in after.pairs.values() {
+            let mut entries = filter.entries().to_vec();
+            entries.sort();
+            entries.dedup();
+            assert_eq!(entries.len(), filter.entries().len());
+            assert!(entries.len() <= 32);
+        }
+    });
+}
+
+/// The generator reaches every number but 2, every event, state and mode, and the deep rows.
+#[test]
+fn generator_reaches_deep_states() {
+    let mut coverage = Coverage::default();
+    for seed in [1, 2] {
+        let lines: Vec<String> = generate(seed, 20_000).iter().map(write_call).collect();
+        coverage.count_script(&lines.join("\n"));
+    }
+    for number in (0..=18).filter(|&number| number != 2) {
+        let reached: u64 =
+            ["S", "Q", "F", "T", "M"].iter().map(|letter| coverage.reached(&format!("number {number} {letter}"))).sum();
+        assert!(reached > 0, "number {number}");
+    }
+    assert!(EVENTS.iter().all(|row| coverage.reached(&format!("event {row}")) > 0));
+    assert!(STATES.iter().all(|row| coverage.reached(&format!("state {row}")) > 0));
+    assert!(MODES.iter().all(|row| coverage.reached(&format!("mode {row}")) > 0));
+    for row in DEEP {
+        assert!(coverage.reached(row) > 0, "{row}");
+    }
+}
