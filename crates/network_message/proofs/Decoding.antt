@@ -1,0 +1,108 @@
+-- Every command that is decoded: its ports are ports, its entries are entries within the payload, and a tool on a port of 2 to 4 named its own alone.
+-- From what the payload has passed, function by function. Assumes nothing.
+use mathlib.Core.Path.{_≡_, refl}
+use mathlib.Core.Logic.{_⊎_, inl, inr}
+use mathlib.Core.Bool.{Bool, true, false, not, _&&_, _||_}
+use mathlib.Core.List.{List}
+use Prim.Native.Nat.{ℕ, _≤_}
+use native.Mathlib.Omega.{arith}
+use borrow.Author.Tests.{eq-eqb, ne-eqb, eqb-true, eqb-false, not-true}
+use lib.Dec.{eqb}
+use lib.ListN.{length}
+use Rattle.filter.specs.Filter.{listed}
+use Rattle.filter.proofs.Lists.{both}
+use Rattle.network_message.specs.Decoding.{functionOf, pairOf, fromOf, toOf, isPort, allPorts, mayBeAll, isPair, namesPorts, entriesEnd, holdsEntries, hasGoodBody, refusalOf, commandOf, answered, decoded}
+use Rattle.network_message.specs.Commands.{named, Own, Ports, Holding, Good}
+use Rattle.network_message.proofs.Naming.{port-bounds, end-bounds}
+use Rattle.network_message.proofs.Passing.{Passed, answered-by, by-function}
+use Rattle.network_message.proofs.Rights.{own-pairs, own-port}
+
+-- ---- ports
+pub pair-ports : (ports function from to : ℕ) → isPair ports function from to ≡ true → Ports ports from to
+unfolding isPair
+pair-ports ports function from to e =
+    let a = both (isPort ports from) _ e in
+    let b = both (isPort ports to || (eqb to allPorts && mayBeAll function)) (not (eqb from to)) (a .1) in
+    let from-in = port-bounds ports from (a .0) in
+    record {
+      least = from-in .0;
+      most = from-in .1;
+      other = to-in (isPort ports to) (eqb to allPorts) (mayBeAll function) refl refl (b .0);
+      apart = eqb-false from to (not-true (eqb from to) (b .1));
+    }
+  where
+    to-in : (p a m : Bool) → isPort ports to ≡ p → eqb to allPorts ≡ a → (p || (a && m)) ≡ true → ((1 ≤ to) × (to ≤ ports)) ⊎ (to ≡ allPorts)
+    to-in true a m ep ea e = inl (port-bounds ports to ep)
+    to-in false true m ep ea e = inr (eqb-true to allPorts ea)
+    to-in false false m ep ea e = let z : _≡_ {A = ℕ} 0 1 = cc in absurd (omega arith)
+
+-- To is 15 in no Request
+request-port : (ports from to : ℕ) → isPair ports 0 from to ≡ true → to ≤ ports
+unfolding isPair mayBeAll listed
+request-port ports from to e =
+    let a = both (isPort ports from) _ e in
+    let b = both (isPort ports to || (eqb to allPorts && false)) (not (eqb from to)) (a .1) in
+    port-bounds ports to (one (isPort ports to) (eqb to allPorts) (b .0)) .1
+  where
+    one : (p a : Bool) → (p || (a && false)) ≡ true → p ≡ true
+    one true a e = refl
+    one false true e = e
+    one false false e = e
+
+-- ---- every command
+module _ (ports port function from to : ℕ) (payload : List ℕ) (P : Passed ports port function from to payload) where
+  pairs-named : (function ≡ 64 → ⊥) → isPair ports function from to ≡ true
+  unfolding namesPorts
+  pairs-named h = rw (ne-eqb function 64 h) at (P .ported)
+
+  port-named : function ≡ 64 → isPort ports to ≡ true
+  unfolding namesPorts
+  port-named e = rw (eq-eqb function 64 e) at (P .ported)
+
+  held : (start : ℕ) → start ≤ 3 → 8 ≤ length payload → holdsEntries start payload ≡ true → Holding start (entriesEnd start payload) payload
+  unfolding holdsEntries
+  held start s l e = let b = end-bounds start payload s l in record { forward = b .0; inside = b .1; formed = e }
+
+  pub command-good : 8 ≤ length payload → Good ports payload (commandOf function from to payload)
+  unfolding hasGoodBody listed
+  command-good l =
+      by-function (Good ports payload) function from to payload (P .known)
+      (λ e. (here (λ h. omega arith), request-port ports from to (rw e at (pairs-named (λ h. omega arith)))))
+      (λ e. (here (λ h. omega arith), held 2 (omega arith) l (rw e at (P .bodied))))
+      (λ e. (here (λ h. omega arith), held 2 (omega arith) l (rw e at (P .bodied))))
+      (λ e. here (λ h. omega arith))
+      (λ _ e. (here (λ h. omega arith), held 3 (omega arith) l (rw e at (P .bodied))))
+      (λ e. port-bounds ports to (port-named e))
+    where
+      here : (function ≡ 64 → ⊥) → Ports ports from to
+      here h = pair-ports ports function from to (pairs-named h)
+
+-- ---- what is decoded
+module _ (ports port : ℕ) (payload : List ℕ) where
+  pub decoded-good : 8 ≤ length payload → Good ports payload (decoded ports port payload)
+  unfolding decoded
+  decoded-good l = go (functionOf payload) (fromOf (pairOf payload)) (toOf (pairOf payload))
+    where
+      go : (function from to : ℕ) → Good ports payload (answered (refusalOf ports port function from to payload) (commandOf function from to payload))
+      go function from to =
+          answered-by ports port function from to payload (Good ports payload)
+          (λ n r. r)
+          (λ P. command-good ports port function from to payload P l)
+
+  pub decoded-own : (port ≡ 1 → ⊥) → (port ≡ allPorts → ⊥) → Own ports port (named (decoded ports port payload))
+  unfolding decoded named
+  decoded-own service real = go (functionOf payload) (fromOf (pairOf payload)) (toOf (pairOf payload))
+    where
+      go : (function from to : ℕ) → Own ports port (named (answered (refusalOf ports port function from to payload) (commandOf function from to payload)))
+      go function from to =
+          answered-by ports port function from to payload (λ c. Own ports port (named c))
+          (λ n r. tt)
+          (λ P.
+          let mine = own-pairs ports port function from to service real (P .allowed) in
+          by-function (λ c. Own ports port (named c)) function from to payload (P .known)
+          (λ _. mine)
+          (λ _. mine)
+          (λ _. mine)
+          (λ _. mine)
+          (λ _ _. mine)
+          (own-port ports port function from to service real (P .allowed)))

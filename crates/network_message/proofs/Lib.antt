@@ -1,0 +1,12 @@
+-- the checks
+mod Keys
+mod Naming
+mod Passing
+-- what is decoded
+pub mod Rights
+pub mod Decoding
+pub mod RoundTrip
+mod Examples
+-- what is written
+mod Laying
+mod Writing

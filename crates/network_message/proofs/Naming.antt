@@ -1,0 +1,50 @@
+-- What a pair byte names, and where the entries of a payload end. Assumes nothing.
+use mathlib.Core.Path.{_≡_}
+use mathlib.Core.Bool.{Bool, true, false, cond, _&&_, and-true}
+use mathlib.Core.List.{List}
+use Prim.Native.Nat.{ℕ, _+_, _-_, _≤_, _<_}
+use native.Mathlib.Numerals.{add-one}
+use native.Mathlib.Omega.{arith}
+use borrow.Author.Tests.{leb-true, eq-eqb, ne-eqb}
+use lib.Dec.{leb, eqb}
+use lib.ListN.{length, getD, take, drop, length-drop}
+use lib.Seq.{take-all, drop-cons}
+use Rattle.filter.specs.Entries.{every}
+use Rattle.filter.proofs.Lists.{both}
+use Rattle.network_message.specs.Decoding.{isPort, allPorts, mayBeAll, isPair, isFilling, entriesEnd}
+
+-- ---- ports
+pub port-bounds : (ports port : ℕ) → isPort ports port ≡ true → (1 ≤ port) × (port ≤ ports)
+unfolding isPort
+port-bounds ports port e =
+    let p = both (leb 1 port) (leb port ports) e in
+    (leb-true 1 port (p .0), leb-true port ports (p .1))
+
+-- 15 is no port, so From is another
+pub pair-all : (function from to : ℕ) → isPort 4 from ≡ true → isPort 4 to ≡ false → to ≡ allPorts → isPair 4 function from to ≡ mayBeAll function
+unfolding isPair
+pair-all function from to f t e =
+    rw (f, t, eq-eqb to allPorts e, ne-eqb from to (λ s. omega (arith, port-bounds 4 from f .1))) (and-true (mayBeAll function))
+
+-- ---- where the entries end
+-- bytes are filling one after the other
+pub filling-next : (bytes : List ℕ) (i : ℕ) → i < length bytes → isFilling (drop i bytes) ≡ (eqb (getD bytes i 0) 0xFF && isFilling (drop (i + 1) bytes))
+unfolding isFilling every
+filling-next bytes i h = rw (add-one i, drop-cons bytes i 0 h)
+
+module _ (start : ℕ) (payload : List ℕ) where
+  -- 8 bytes: what stands after the first entry decides
+  pub end-eight : {b : Bool} → length payload ≡ 8 → b ≡ isFilling (take (length payload - (start + 3)) (drop (start + 3) payload)) → entriesEnd start payload ≡ cond b (start + 3) (length payload)
+  unfolding entriesEnd
+  end-eight {b} e f =
+      let all = take-all (length payload - (start + 3)) (drop (start + 3) payload) (omega (arith, length-drop (start + 3) payload)) in
+      let g : b ≡ isFilling (drop (start + 3) payload) = rw all at f in
+      rw (eq-eqb (length payload) 8 e, ← g)
+
+  pub end-bounds : start ≤ 3 → 8 ≤ length payload → (start ≤ entriesEnd start payload) × (entriesEnd start payload ≤ length payload)
+  unfolding entriesEnd
+  end-bounds s l = go (eqb (length payload) 8 && isFilling (drop (start + 3) payload))
+    where
+      go : (b : Bool) → (start ≤ cond b (start + 3) (length payload)) × (cond b (start + 3) (length payload) ≤ length payload)
+      go true = (omega arith, omega arith)
+      go false = (omega arith, omega arith)

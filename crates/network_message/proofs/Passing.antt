@@ -1,0 +1,84 @@
+-- Where no check applies, what the checks test holds; and a command, by its function. Assumes nothing.
+use mathlib.Core.Path.{_≡_, refl, sym}
+use mathlib.Core.Bool.{Bool, true, false, cond, not, _||_}
+use mathlib.Core.List.{List}
+use Prim.Native.Nat.{ℕ, _≤_, _<_}
+use native.Mathlib.Omega.{arith}
+use borrow.Author.Tests.{ne-eqb, eqb-true, eqb-false}
+use lib.Dec.{eqb}
+use Rattle.filter.specs.Filter.{listed}
+use Rattle.network_message.specs.declared.Command.{Command}
+use Rattle.network_message.specs.declared.Command.the-variants.{Refused, Request, Add, Delete, Clear, Create, AddressList}
+use Rattle.network_message.specs.Decoding.{isKnown, namesPorts, mayName, entriesEnd, hasGoodBody, hasWrongMode, refusalOf, commandOf, answered}
+
+-- ---- what a payload that is not refused has passed
+pub record Passed (ports port function from to : ℕ) (payload : List ℕ) : Type 0 where
+  pub known : isKnown function ≡ true
+  pub ported : namesPorts ports function from to ≡ true
+  pub allowed : mayName port function from to ≡ true
+  pub bodied : hasGoodBody function payload ≡ true
+
+next : (b : Bool) (n : ℕ) {rest : ℕ} → 0 < n → cond (not b) n rest ≡ 0 → (b ≡ true) × (rest ≡ 0)
+next true n h e = (refl, e)
+next false n h e = absurd (omega arith)
+
+-- ---- a choice, by its test
+choose : (P : Command → Type 0) (b : Bool) {x y : Command} → (b ≡ true → P x) → (b ≡ false → P y) → P (cond b x y)
+choose P true this other = this refl
+choose P false this other = other refl
+
+module _ (ports port function from to : ℕ) (payload : List ℕ) where
+  passed : refusalOf ports port function from to payload ≡ 0 → Passed ports port function from to payload
+  unfolding refusalOf
+  passed e =
+      let a = next (isKnown function) 9 (omega arith) e in
+      let b = next (namesPorts ports function from to) 10 (omega arith) (a .1) in
+      let c = next (mayName port function from to) 11 (omega arith) (b .1) in
+      let d = next (hasGoodBody function payload) 12 (omega arith) (c .1) in
+      record { known = a .0; ported = b .0; allowed = c .0; bodied = d .0 }
+
+  range : (refusalOf ports port function from to payload ≡ 0 → ⊥) → (9 ≤ refusalOf ports port function from to payload) × (refusalOf ports port function from to payload ≤ 13)
+  unfolding refusalOf
+  range h = go (isKnown function) (namesPorts ports function from to) (mayName port function from to) (hasGoodBody function payload) (hasWrongMode function payload) h
+    where
+      number : Bool → Bool → Bool → Bool → Bool → ℕ
+      number a b c d e = cond (not a) 9 (cond (not b) 10 (cond (not c) 11 (cond (not d) 12 (cond e 13 0))))
+
+      go : (a b c d e : Bool) → (number a b c d e ≡ 0 → ⊥) → (9 ≤ number a b c d e) × (number a b c d e ≤ 13)
+      go false b c d e h = (omega arith, omega arith)
+      go true false c d e h = (omega arith, omega arith)
+      go true true false d e h = (omega arith, omega arith)
+      go true true true false e h = (omega arith, omega arith)
+      go true true true true true h = (omega arith, omega arith)
+      go true true true true false h = absurd (h refl)
+
+  -- refused with 9 to 13, or a command that has passed
+  pub answered-by : (Q : Command → Type 0) → ((n : ℕ) → (9 ≤ n) × (n ≤ 13) → Q (Refused n)) → (Passed ports port function from to payload → Q (commandOf function from to payload)) → Q (answered (refusalOf ports port function from to payload) (commandOf function from to payload))
+  answered-by Q refused command =
+      let n = refusalOf ports port function from to payload in
+      choose Q (eqb n 0) (λ e. command (passed (eqb-true n 0 e))) (λ e. refused n (range (eqb-false n 0 e)))
+
+-- ---- a command, by its function
+-- a known function that is none of the five is 64
+last-known : (function : ℕ) → isKnown function ≡ true → eqb function 0 ≡ false → eqb function 2 ≡ false → eqb function 3 ≡ false → eqb function 4 ≡ false → eqb function 6 ≡ false → function ≡ 64
+unfolding isKnown listed
+last-known function known n0 n2 n3 n4 n6 =
+    let k = rw (turn 0 n0, turn 2 n2, turn 3 n3, turn 4 n4, turn 6 n6) at known in
+    sym (eqb-true 64 function (only (eqb 64 function) k))
+  where
+    turn : (k : ℕ) → eqb function k ≡ false → eqb k function ≡ false
+    turn k e = ne-eqb k function (λ s. eqb-false function k e (sym s))
+
+    only : (b : Bool) → (b || false) ≡ true → b ≡ true
+    only true e = refl
+    only false e = e
+
+pub by-function : (P : Command → Type 0) (function from to : ℕ) (payload : List ℕ) → isKnown function ≡ true → (function ≡ 0 → P (Request from to)) → (function ≡ 2 → P (Add from to 2 (entriesEnd 2 payload))) → (function ≡ 3 → P (Delete from to 2 (entriesEnd 2 payload))) → (function ≡ 4 → P (Clear from to)) → ((pass : Bool) → function ≡ 6 → P (Create from to pass 3 (entriesEnd 3 payload))) → (function ≡ 64 → P (AddressList to)) → P (commandOf function from to payload)
+unfolding commandOf
+by-function P function from to payload known request add delete clear create list =
+    choose P (eqb function 0) (λ e. request (eqb-true function 0 e))
+    (λ n0. choose P (eqb function 2) (λ e. add (eqb-true function 2 e))
+    (λ n2. choose P (eqb function 3) (λ e. delete (eqb-true function 3 e))
+    (λ n3. choose P (eqb function 4) (λ e. clear (eqb-true function 4 e))
+    (λ n4. choose P (eqb function 6) (λ e. create _ (eqb-true function 6 e))
+    (λ n6. list (last-known function known n0 n2 n3 n4 n6))))))

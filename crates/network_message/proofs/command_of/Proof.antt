@@ -1,0 +1,59 @@
+-- `network_message::command_of` meets its contract: by the arm that the function takes. Assumes nothing.
+use borrow.Author.Tests.{ne-eqb}
+use borrow.Author.Needs.{needs}
+use Rattle.network_message.specs.Decoding.{commandOf}
+use Rattle.network_message.proofs.command_of.Statement.{statement}
+use Rattle.network_message.proofs.command_of.Tie as tie
+
+entries-end-requires : tie.Need-entries-end-requires
+entries-end-requires c κs = search needs
+
+entries-end-requires-2 : tie.Need-entries-end-requires-2
+entries-end-requires-2 c κs = search needs
+
+shared-slice-read-t9 : tie.Need-shared-slice-read-t9
+shared-slice-read-t9 c = search needs
+
+entries-end-requires-3 : tie.Need-entries-end-requires-3
+entries-end-requires-3 c κs = search needs
+
+returns : tie.Need-returns
+unfolding commandOf
+returns c = rw (c .match .keys1)
+
+returns-2 : tie.Need-returns-2
+unfolding commandOf
+returns-2 c = rw (c .before .match .keys2, c .entries-end .ensures)
+
+returns-3 : tie.Need-returns-3
+unfolding commandOf
+returns-3 c = rw (c .before .match .keys3, c .entries-end2 .ensures)
+
+returns-4 : tie.Need-returns-4
+unfolding commandOf
+returns-4 c = rw (c .match .keys4)
+
+returns-5 : tie.Need-returns-5
+unfolding commandOf
+returns-5 c = rw (c .before .before .match .keys5, c .entries-end3 .ensures)
+
+returns-6 : tie.Need-returns-6
+unfolding commandOf
+returns-6 c =
+    let rest = c .match .rest in
+    simp (ne-eqb _ _ (rest .0 .0 .0 .0 .1), ne-eqb _ _ (rest .0 .0 .0 .1), ne-eqb _ _ (rest .0 .0 .1), ne-eqb _ _ (rest .0 .1), ne-eqb _ _ (rest .1))
+
+pub command-of-spec : {M : Type 1} → statement M
+command-of-spec =
+    tie.close
+    (tie.spec
+    entries-end-requires
+    entries-end-requires-2
+    shared-slice-read-t9
+    entries-end-requires-3
+    returns
+    returns-2
+    returns-3
+    returns-4
+    returns-5
+    returns-6)

@@ -1,0 +1,75 @@
+-- What a command names, and what holds of every command that is decoded. These are what the laws of the decoder say.
+-- Assumes nothing.
+use mathlib.Core.Bool.{Bool, true, cond, not, _&&_}
+use mathlib.Core.Logic.{_⊎_}
+use mathlib.Core.Path.{_≡_}
+use mathlib.Core.List.{List, _∷_}
+use Prim.Native.Nat.{ℕ, _+_, _-_, _*_, _≤_}
+use lib.ListN.{length, drop}
+use lib.Dec.{eqb}
+use Rattle.filter.specs.Filter.{Filter, reportedMode}
+use Rattle.filter.specs.Entries.{entriesOf, wellFormed, reported}
+use Rattle.network_message.specs.declared.Command.{Command}
+use Rattle.network_message.specs.declared.Command.the-variants.{Refused, Request, Add, Delete, Clear, Create, AddressList}
+use Rattle.network_message.specs.Decoding.{fromOf, toOf, isPort, allPorts, between, decoded}
+
+-- ---- what is named: no pair, those from a port to one or to all, or a port
+pub data Named : Type 0 where
+  none : Named
+  pairs : ℕ → ℕ → Named
+  port : ℕ → Named
+
+unfoldable pub named : Command → Named
+named (Refused number) = none
+named (Request from to) = pairs from to
+named (Add from to start end) = pairs from to
+named (Delete from to start end) = pairs from to
+named (Clear from to) = pairs from to
+named (Create from to pass start end) = pairs from to
+named (AddressList p) = port p
+
+-- by the function and the halves of the pair byte
+unfoldable pub namedBy : ℕ → ℕ → ℕ → Named
+namedBy function from to = cond (eqb function 64) (port to) (pairs from to)
+
+-- whether the pair from → q is named: "15, all pairs from that port"
+unfoldable pub reaches : ℕ → ℕ → ℕ → ℕ → Bool
+reaches ports from to q = cond (eqb to allPorts) (isPort ports q && not (eqb q from)) (eqb q to)
+
+-- a tool's own: "every named pair must have p as From or To, and 64 must name p"
+abbrev pub Own : ℕ → ℕ → Named → Type 0
+Own ports p none = Unit {0}
+Own ports p (pairs from to) = (q : ℕ) → reaches ports from to q ≡ true → (from ≡ p) ⊎ (q ≡ p)
+Own ports p (port q) = q ≡ p
+
+-- ---- what the numbers in a command are
+pub record Ports (ports from to : ℕ) : Type 0 where
+  pub least : 1 ≤ from
+  pub most : from ≤ ports
+  pub other : ((1 ≤ to) × (to ≤ ports)) ⊎ (to ≡ allPorts)
+  pub apart : from ≡ to → ⊥
+
+pub record Holding (start end : ℕ) (payload : List ℕ) : Type 0 where
+  pub forward : start ≤ end
+  pub inside : end ≤ length payload
+  pub formed : wellFormed (between start end payload) ≡ true
+
+abbrev pub Good : ℕ → List ℕ → Command → Type 0
+Good ports payload (Refused number) = (9 ≤ number) × (number ≤ 13)
+Good ports payload (Request from to) = Ports ports from to × (to ≤ ports)
+Good ports payload (Add from to start end) = Ports ports from to × Holding start end payload
+Good ports payload (Delete from to start end) = Ports ports from to × Holding start end payload
+Good ports payload (Clear from to) = Ports ports from to
+Good ports payload (Create from to pass start end) = Ports ports from to × Holding start end payload
+Good ports payload (AddressList p) = (1 ≤ p) × (p ≤ ports)
+
+-- ---- demand 2: a reply to a Request, sent back as Create
+unfoldable pub asCreate : List ℕ → List ℕ
+asCreate reply = 6 ∷ drop 1 reply
+
+-- what it is decoded to: the pair, the mode and the list that were reported
+pub record SentBack (ports port pair : ℕ) (f : Filter) (payload : List ℕ) : Type 0 where
+  pub command : decoded ports port payload ≡ Create (fromOf pair) (toOf pair) (eqb (reportedMode (f .mode)) 1) 3 (3 + 3 * length (f .entries))
+  pub bytes : between 3 (3 + 3 * length (f .entries)) payload ≡ reported (f .entries)
+  pub list : entriesOf (between 3 (3 + 3 * length (f .entries)) payload) ≡ f .entries
+  pub long : length payload ≡ 3 + 3 * length (f .entries) + (8 - (3 + 3 * length (f .entries)))

@@ -1,0 +1,114 @@
+-- Document 01, "Network messages", and its numbers 9 to 13: what a payload says. All is over the number of ports; ports are counted from 1 here, as on the wire.
+-- Assumes nothing.
+use mathlib.Core.Bool.{Bool, cond, not, _&&_, _||_}
+use mathlib.Core.List.{List, [], _∷_}
+use Prim.Native.Nat.{ℕ, _+_, _-_, _/_, _%_}
+use lib.ListN.{length, getD, take, drop}
+use lib.Dec.{ltb, leb, eqb}
+use Rattle.filter.specs.Filter.{listed}
+use Rattle.filter.specs.Entries.{every, wellFormed}
+use Rattle.network_message.specs.declared.Command.{Command}
+use Rattle.network_message.specs.declared.Command.the-variants.{Refused, Request, Add, Delete, Clear, Create, AddressList}
+use Rattle.network_message.specs.Checks.{check, first}
+
+-- byte 1
+abbrev pub functionOf : List ℕ → ℕ
+functionOf payload = getD payload 0 0
+
+-- "Byte 2 holds From in the upper four bits, To in the lower"
+abbrev pub pairOf : List ℕ → ℕ
+pairOf payload = getD payload 1 0
+
+abbrev pub fromOf : ℕ → ℕ
+fromOf pair = pair / 16
+
+abbrev pub toOf : ℕ → ℕ
+toOf pair = pair % 16
+
+-- ---- 9: function not listed
+-- 0 Request, 2 Add, 3 Delete, 4 Clear, 6 Create, 64 the address list
+unfoldable pub isKnown : ℕ → Bool
+isKnown function = listed function (0 ∷ 2 ∷ 3 ∷ 4 ∷ 6 ∷ 64 ∷ [])
+
+-- ---- 10: port outside 1 to 4 (and 15 as allowed), or From equals To
+unfoldable pub isPort : ℕ → ℕ → Bool
+isPort ports port = leb 1 port && leb port ports
+
+-- "To may be 15, all pairs from that port, in functions 2, 3, 4 and 6"
+abbrev pub allPorts : ℕ
+allPorts = 15
+
+unfoldable pub mayBeAll : ℕ → Bool
+mayBeAll function = listed function (2 ∷ 3 ∷ 4 ∷ 6 ∷ [])
+
+unfoldable pub isPair : ℕ → ℕ → ℕ → ℕ → Bool
+isPair ports function from to =
+    isPort ports from && ((isPort ports to || (eqb to allPorts && mayBeAll function)) && not (eqb from to))
+
+-- 64: "port in the lower half of byte 2, upper half ignored"
+unfoldable pub namesPorts : ℕ → ℕ → ℕ → ℕ → Bool
+namesPorts ports function from to = cond (eqb function 64) (isPort ports to) (isPair ports function from to)
+
+-- ---- 11: pair or port not this tool's
+-- "A tool on port 1 may name any pair or port. On port p of 2 to 4, every named pair must have p as From or To, and 64 must name p."
+-- 15 is no port, so all pairs from a port are those of a tool on that port alone (`right-exact` of the proofs).
+unfoldable pub mayName : ℕ → ℕ → ℕ → ℕ → Bool
+mayName port function from to = eqb port 1 || (eqb to port || (not (eqb function 64) && eqb from port))
+
+-- ---- 12: body wrong: length, entry or filling
+-- "entries from byte 3", in Create "from byte 4"; bytes are counted from 0 here
+abbrev pub entriesStart : ℕ → ℕ
+entriesStart function = cond (eqb function 6) 3 2
+
+-- "Only an 8-byte payload may have filling: after the first entry", FF to the last byte; "longer ones hold entries to the last byte"
+unfoldable pub isFilling : List ℕ → Bool
+isFilling bytes = every (λ b. eqb b 0xFF) bytes
+
+unfoldable pub entriesEnd : ℕ → List ℕ → ℕ
+entriesEnd start payload = cond (eqb (length payload) 8 && isFilling (drop (start + 3) payload)) (start + 3) (length payload)
+
+-- the bytes from `start` up to `end`
+abbrev pub between : ℕ → ℕ → List ℕ → List ℕ
+between start end payload = take (end - start) (drop start payload)
+
+unfoldable pub holdsEntries : ℕ → List ℕ → Bool
+holdsEntries start payload = wellFormed (between start (entriesEnd start payload) payload)
+
+-- Add, Delete and Create hold entries, the others are of 8 bytes
+unfoldable pub hasGoodBody : ℕ → List ℕ → Bool
+hasGoodBody function payload =
+    cond (listed function (2 ∷ 3 ∷ 6 ∷ [])) (holdsEntries (entriesStart function) payload) (eqb (length payload) 8)
+
+-- ---- 13: Create mode, in byte 3, not 0 or 1
+unfoldable pub hasWrongMode : ℕ → List ℕ → Bool
+hasWrongMode function payload = eqb function 6 && ltb 1 (getD payload 2 0)
+
+-- ---- the whole
+unfoldable pub refusalOf : ℕ → ℕ → ℕ → ℕ → ℕ → List ℕ → ℕ
+refusalOf ports port function from to payload =
+    first
+    (check (not (isKnown function)) 9
+    ∷ check (not (namesPorts ports function from to)) 10
+    ∷ check (not (mayName port function from to)) 11
+    ∷ check (not (hasGoodBody function payload)) 12
+    ∷ check (hasWrongMode function payload) 13
+    ∷ [])
+
+unfoldable pub commandOf : ℕ → ℕ → ℕ → List ℕ → Command
+commandOf function from to payload =
+    cond (eqb function 0) (Request from to)
+    (cond (eqb function 2) (Add from to 2 (entriesEnd 2 payload))
+    (cond (eqb function 3) (Delete from to 2 (entriesEnd 2 payload))
+    (cond (eqb function 4) (Clear from to)
+    (cond (eqb function 6) (Create from to (eqb (getD payload 2 0) 1) 3 (entriesEnd 3 payload))
+    (AddressList to)))))
+
+-- a payload that arrived at a port is refused with the first number that applies, else it is its command
+abbrev pub answered : ℕ → Command → Command
+answered number command = cond (eqb number 0) command (Refused number)
+
+unfoldable pub decoded : ℕ → ℕ → List ℕ → Command
+decoded ports port payload =
+    answered
+    (refusalOf ports port (functionOf payload) (fromOf (pairOf payload)) (toOf (pairOf payload)) payload)
+    (commandOf (functionOf payload) (fromOf (pairOf payload)) (toOf (pairOf payload)) payload)

@@ -1,0 +1,4 @@
+pub mod Checks
+pub mod Decoding
+pub mod Replies
+pub mod Commands

@@ -1,0 +1,121 @@
+// The bytes of the network message: a payload is a command or is refused, and replies and acknowledgments are written. It knows bytes and nothing of the
+// unit: what a command does is another's to say.
+mod checks;
+mod replies;
+
+pub use replies::acknowledge;
+pub use replies::control;
+pub use replies::reply_addresses;
+pub use replies::reply_list;
+ghost use mathlib.Core.Path.{_≡_};
+ghost use Prim.Native.Nat.{_≤_};
+ghost use lib.ListN.{length};
+ghost use Rattle.network_message.specs.Decoding.{fromOf, toOf, commandOf, decoded};
+
+// The functions.
+pub const REQUEST: u8 = 0;
+
+pub const ADD: u8 = 2;
+
+pub const DELETE: u8 = 3;
+
+pub const CLEAR: u8 = 4;
+
+pub const CREATE: u8 = 6;
+
+pub const ADDRESS_LIST: u8 = 64;
+
+// What a payload asks, or the number that refuses it. A `to` of 15 is all pairs from that port. Entries are the payload's bytes from `start` up to `end`.
+pub enum Command {
+    Refused(u32),
+    Request {
+        from: u32,
+        to: u32,
+    },
+    Add {
+        from: u32,
+        to: u32,
+        start: usize,
+        end: usize,
+    },
+    Delete {
+        from: u32,
+        to: u32,
+        start: usize,
+        end: usize,
+    },
+    Clear {
+        from: u32,
+        to: u32,
+    },
+    Create {
+        from: u32,
+        to: u32,
+        pass: bool,
+        start: usize,
+        end: usize,
+    },
+    AddressList {
+        port: u32,
+    },
+}
+
+// The upper half of the pair byte.
+fn from_port(pair: u8) -> u32
+    ensures { λ r. ⌜ r ≡ fromOf pair ⌝ }
+{
+    (pair / 16) as u32
+}
+
+// The lower half of the pair byte.
+fn to_port(pair: u8) -> u32
+    ensures { λ r. ⌜ r ≡ toOf pair ⌝ }
+{
+    (pair % 16) as u32
+}
+
+// The command of a payload that is not refused.
+fn command_of(function: u8, from: u32, to: u32, payload: &[u8]) -> Command
+    requires { ⌜ 8 ≤ length (now payload) ⌝ }
+    ensures { λ r. ⌜ r ≡ commandOf function from to (now (payload .entry)) ⌝ }
+{
+    match function {
+        REQUEST => Command::Request { from, to },
+        ADD => Command::Add {
+            from,
+            to,
+            start: 2,
+            end: checks::entries_end(2, payload),
+        },
+        DELETE => Command::Delete {
+            from,
+            to,
+            start: 2,
+            end: checks::entries_end(2, payload),
+        },
+        CLEAR => Command::Clear { from, to },
+        CREATE => Command::Create {
+            from,
+            to,
+            pass: payload[2] == 1,
+            start: 3,
+            end: checks::entries_end(3, payload),
+        },
+        _ => Command::AddressList { port: to },
+    }
+}
+
+// What a payload of at least 8 bytes that arrived at a port asks, or the number that refuses it.
+pub fn decode(port: u32, payload: &[u8]) -> Command
+    requires { ⌜ 8 ≤ length (now payload) ⌝ }
+    ensures { λ r. ⌜ r ≡ decoded 4 port (now (payload .entry)) ⌝ }
+{
+    let function = payload[0];
+    let from = from_port(payload[1]);
+    let to = to_port(payload[1]);
+    let number = checks::refusal(port, function, from, to, payload);
+    if number != 0 {
+        return Command::Refused(number);
+    }
+    command_of(function, from, to, payload)
+}
