@@ -1,5 +1,5 @@
--- Document 01, "Examples, hex": those marked (P), as one table. Assumes nothing.
-use mathlib.Core.Path.{_≡_, refl}
+-- Document 01, "Examples, hex": those marked (P), as one table, proved in proofs/Examples.antt.
+use mathlib.Core.Path.{_≡_}
 use mathlib.Core.Bool.{true, false}
 use mathlib.Core.List.{List, [], _∷_}
 use mathlib.Core.Option.{Option, some}
@@ -9,46 +9,62 @@ use Rattle.delivery.specs.Row.{pull, given}
 use Rattle.delivery.specs.Port.{Event, Join, Take, rowAfter}
 use Rattle.queue.specs.declared.Frame.{Frame}
 use Rattle.queue.specs.Queue.{priority}
-use Rattle.filter.specs.Filter.{pass, clear, asked, permits, listed, place}
+use Rattle.filter.specs.Filter.{Filter, pass, clear}
 use Rattle.addresses.specs.declared.Place.the-variants.{Free}
 use Rattle.bridge.specs.declared.unit.Claim.the-variants.{Claimed}
-use Rattle.bridge.specs.Ports.{mask, total}
 use Rattle.bridge.specs.Model.{Model}
-use Rattle.bridge.specs.Forwarding.{frameOf, consumes, isOwn, verdict, offered}
+use Rattle.bridge.specs.Forwarding.{frameOf}
+use Rattle.bridge.specs.Messages.{Replied, messaged}
 use Rattle.bridge.specs.Calls.{framePassed}
 use Rattle.identifier.specs.Identifier.{priorityOf, pgnOf, destinationOf, tooWide, wrongSource}
 
 -- an empty frame
-abbrev frame : ℕ → Frame
+abbrev pub frame : ℕ → Frame
 frame id = record { id = id; len = 0; bytes = 0 }
 
 -- what a take gives after what happened at a port
-abbrev taken : List (Event Frame) → Option Frame
+abbrev pub taken : List (Event Frame) → Option Frame
 taken h = given (pull priority (rowAfter priority [] h))
 
 -- P11's frames, by priority
-abbrev six₁ : Frame
+abbrev pub six₁ : Frame
 six₁ = frame 0x18FEF121
 
-abbrev six₂ : Frame
+abbrev pub six₂ : Frame
 six₂ = frame 0x18FEF122
 
-abbrev three : Frame
+abbrev pub three : Frame
 three = frame 0x0CF00400
 
-abbrev accepted : List (Event Frame) → List (Event Frame)
+abbrev pub accepted : List (Event Frame) → List (Event Frame)
 accepted h = Join six₁ ∷ Join six₂ ∷ Join three ∷ h
 
--- "Before P5 the unit is Claimed at an address no example uses, all pairs are cleared and all queues empty"; after P5 pair 1 to 2 passes PGN 65265 alone
-abbrev afterP5 : Model
-afterP5 = record {
-  rest = record {
-    own = record { claim = Claimed; address = 0x80; preferred = 0x80; name = 1 };
-    pairs = record { mode = pass; entries = 65265 ∷ [] } ∷ replicate 11 clear;
-    table = replicate 254 Free;
-  };
+-- "Before P5 the unit is Claimed at an address no example uses, all pairs are cleared and all queues empty"
+abbrev pub with : List Filter → Model
+with pairs = record {
+  rest = record { own = record { claim = Claimed; address = 0x80; preferred = 0x80; name = 1 }; pairs = pairs; table = replicate 254 Free };
   rows = replicate 4 [];
 }
+
+abbrev pub beforeP5 : Model
+beforeP5 = with (replicate 12 clear)
+
+-- after P5 pair 1 to 2 passes PGN 65265 alone
+abbrev pub afterP5 : Model
+afterP5 = with (record { mode = pass; entries = 65265 ∷ [] } ∷ replicate 11 clear)
+
+-- "Unless said, the tool is on port 1 with requester 21 and the buffer is long enough"
+abbrev pub message : Model → ℕ → List ℕ → Replied
+message m port payload = messaged 4 1180 1785 (m .rest) port 0x21 payload
+
+abbrev pub create : List ℕ
+create = 0x06 ∷ 0x12 ∷ 0x01 ∷ 0xF1 ∷ 0xFE ∷ 0x00 ∷ 0xFF ∷ 0xFF ∷ []
+
+abbrev pub ask : List ℕ
+ask = 0x00 ∷ 0x12 ∷ 0xFF ∷ 0xFF ∷ 0xFF ∷ 0xFF ∷ 0xFF ∷ 0xFF ∷ []
+
+abbrev pub add : ℕ → ℕ → ℕ → ℕ → List ℕ
+add pair a b c = 0x02 ∷ pair ∷ a ∷ b ∷ c ∷ 0xFF ∷ 0xFF ∷ 0xFF ∷ []
 
 pub record Examples : Type 0 where
   -- id 0CF00400: priority 3, PGN 61444
@@ -59,20 +75,21 @@ pub record Examples : Type 0 where
   pub p3 : tooWide 0x20000000 ≡ true
   -- id 1FFFFFFF: refused with 5, and not with 3
   pub p4 : (tooWide 0x1FFFFFFF ≡ false) × (wrongSource 0x1FFFFFFF ≡ true)
+  -- 06 12 01 F1 FE 00 FF FF, port 1, requester 21: 00 06 FF FF 21 00 ED 00, and it is done
+  pub p5 : (message beforeP5 1 create .number ≡ 0)
+      × (message beforeP5 1 create .written ≡ 0x00 ∷ 0x06 ∷ 0xFF ∷ 0xFF ∷ 0x21 ∷ 0x00 ∷ 0xED ∷ 0x00 ∷ [])
+      × (message beforeP5 1 create .pairs ≡ afterP5 .rest .pairs)
+  -- then 00 12 and six FF: 01 12 01 F1 FE 00 FF FF
+  pub p6 : (message afterP5 1 ask .number ≡ 0) × (message afterP5 1 ask .written ≡ 0x01 ∷ 0x12 ∷ 0x01 ∷ 0xF1 ∷ 0xFE ∷ 0x00 ∷ 0xFF ∷ 0xFF ∷ [])
+  -- P6 from port 3: 11; 02 00 FF FF 21 00 ED 00
+  pub p7 : (message afterP5 3 ask .number ≡ 11) × (message afterP5 3 ask .written ≡ 0x02 ∷ 0x00 ∷ 0xFF ∷ 0xFF ∷ 0x21 ∷ 0x00 ∷ 0xED ∷ 0x00 ∷ [])
+  -- 02 11 F1 FE 00 FF FF FF: 10
+  pub p8 : message afterP5 1 (add 0x11 0xF1 0xFE 0x00) .number ≡ 10
+  -- 02 12 FF FF FF FF FF FF, after P5: 12
+  pub p9 : message afterP5 1 (add 0x12 0xFF 0xFF 0xFF) .number ≡ 12
   -- after P5, PGN 61444 from port 1: out of 3 and 4 (bits 2 and 3), compared 1
   pub p10 : (framePassed 4 afterP5 1 (frameOf 0x0CF00400 []) .accepted ≡ 0b1100)
       × (framePassed 4 afterP5 1 (frameOf 0x0CF00400 []) .lost ≡ 0)
       × (framePassed 4 afterP5 1 (frameOf 0x0CF00400 []) .compared ≡ 1)
   -- priorities 6, 6, 3 accepted; three takes: 3, first 6, second 6
   pub p11 : (taken (accepted []) ≡ some three) × (taken (accepted (Take ∷ [])) ≡ some six₁) × (taken (accepted (Take ∷ Take ∷ [])) ≡ some six₂)
-
-pub examples : Examples
-unfolding pgnOf destinationOf wrongSource framePassed mask total offered consumes isOwn verdict asked permits listed place
-examples = record {
-  p1 = (refl, refl);
-  p2 = (refl, refl);
-  p3 = refl;
-  p4 = (refl, refl);
-  p10 = (refl, refl, refl);
-  p11 = (refl, refl, refl);
-}

@@ -33,7 +33,7 @@ module _ {words : List ℕ} {k : Call} where
     refused = λ _. refl;
   }
 
-  pub call-done : {after : List ℕ} → refusal 4 (length words) (modelOf 4 words .rest) k ≡ 0 → length after ≡ length words → modelOf 4 after ≡ performed 4 (modelOf 4 words) k → Calling 4 words after k
+  pub call-done : {after : List ℕ} → refusal 4 (length words) (modelOf 4 words .rest) k ≡ 0 → length after ≡ length words → modelOf 4 after ≡ performed 4 (length words) (modelOf 4 words) k → Calling 4 words after k
   unfolding next
   call-done done long state = record {
     long = long;

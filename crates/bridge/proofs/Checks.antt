@@ -9,7 +9,8 @@ use lib.Dec.{ltb, leb, eqb}
 use Rattle.identifier.specs.Identifier.{saOf, tooWide, wrongSource}
 use Rattle.bridge.specs.declared.unit.Unit.{Unit}
 use Rattle.bridge.specs.Model.{recordLength}
-use Rattle.bridge.specs.Refusals.{noPort, notLong, first, isUnstarted, frameRefusal, takeRefusal, startChecks}
+use Rattle.bridge.specs.Refusals.{noPort, notLong, isUnstarted, frameRefusal, takeRefusal, startChecks}
+use Rattle.network_message.specs.Checks.{first}
 
 pub none : (b : Bool) (n : ℕ) {rest : ℕ} → 0 < n → cond b n rest ≡ 0 → (b ≡ false) × (rest ≡ 0)
 none true n h e = absurd (omega arith)
@@ -26,7 +27,7 @@ passed-first true b rest n e z = absurd (omega arith)
 passed-first false true rest n e z = absurd (omega arith)
 passed-first false false rest n e z = refl
 
-both : (a b : Bool) → a && b ≡ true → (a ≡ true) × (b ≡ true)
+pub both : (a b : Bool) → a && b ≡ true → (a ≡ true) × (b ≡ true)
 both true b e = (refl, e)
 both false b e = let z : _≡_ {A = ℕ} 0 1 = cc in absurd (omega arith)
 

@@ -9,3 +9,5 @@ pub mod Acts
 pub mod Passes
 pub mod PartLaws
 pub mod Laws
+pub mod PairLoop
+pub mod MessageLaws

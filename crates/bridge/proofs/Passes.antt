@@ -19,7 +19,8 @@ use Rattle.bridge.specs.declared.forward.Share.{Share}
 use Rattle.bridge.specs.declared.claims.Acted.{Acted as Done}
 use Rattle.bridge.specs.Ports.{each, mask}
 use Rattle.bridge.specs.Model.{modelOf, recordLength, rowAt, withRows}
-use Rattle.bridge.specs.Refusals.{first, startChecks, frameRefusal, startRefusal}
+use Rattle.bridge.specs.Refusals.{startChecks, frameRefusal, startRefusal}
+use Rattle.network_message.specs.Checks.{first}
 use Rattle.bridge.specs.Forwarding.{frameOf, consumes, verdict, offered, sentIf}
 use Rattle.bridge.specs.Claims.{Acted, framesSent, frameActed, started}
 use Rattle.bridge.specs.Calls.{refusal, restAfter, asks, sends, performed, losesOwn, frameRefused, framePassed, frameAnswer, startAnswer, Framing, Starting}

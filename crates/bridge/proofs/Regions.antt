@@ -5,20 +5,20 @@ use mathlib.Core.Bool.{Bool}
 use mathlib.Core.List.{List, []}
 use Prim.Native.Nat.{ℕ, _+_, _*_, _<_}
 use native.Mathlib.Omega.{arith}
-use lib.ListN.{length, take, drop}
+use lib.ListN.{length, getD, set, take, drop}
 use Rattle.storage.specs.Blocks.{blockAt}
 use Rattle.storage.proofs.Parts.{back, part-in, part-before, part-after, part-apart}
 use Rattle.storage.proofs.Blocks.{length-blocks, blocks-at, blocks-set, blocks-apart}
 use Rattle.filter.specs.declared.Asked.{Asked}
-use Rattle.filter.specs.Filter.{filterOf, clear, Asking}
+use Rattle.filter.specs.Filter.{Filter, filterOf, clear, Asking}
 use Rattle.queue.specs.declared.Frame.{Frame}
 use Rattle.queue.specs.declared.Taken.{Taken}
 use Rattle.queue.specs.Queue.{rowOf, Joining, Taking}
 use Rattle.addresses.specs.declared.Place.{Place}
 use Rattle.addresses.specs.declared.Event.{Event}
 use Rattle.addresses.specs.Table.{tableOf}
-use Rattle.bridge.specs.Model.{modelOf, rowsFrom, tableFrom, recordLength, pairAt, rowAt, withRow, withRest, withTable}
-use Rattle.bridge.specs.Steps.{PairAsking, RowJoining, RowTaking, TableChanging, TableClaiming}
+use Rattle.bridge.specs.Model.{modelOf, rowsFrom, tableFrom, recordLength, pairAt, rowAt, withRow, withRest, withPairs, withTable}
+use Rattle.bridge.specs.Steps.{BlockChanging, PairChanging, PairAsking, RowJoining, RowTaking, TableChanging, TableClaiming}
 
 -- there is a row for each port
 pub rows-four : (words : List ℕ) → length (modelOf 4 words .rows) ≡ 4
@@ -54,12 +54,34 @@ module _ (words : List ℕ) (q : ℕ) (full : length words ≡ recordLength 4) (
     }
 
 -- ---- the filter of a pair
+pair-lent : (words ys : List ℕ) (i : ℕ) → length words ≡ recordLength 4 → i < 12 → length ys ≡ 34
+    → modelOf 4 (back (4 + 34 * i) 34 words ys) ≡ withRest (modelOf 4 words) (withPairs (modelOf 4 words .rest) (set (modelOf 4 words .rest .pairs) i (filterOf ys)))
+unfolding modelOf
+pair-lent words ys i full pair long =
+    rw (
+      part-before (4 + 34 * i) 34 words ys long (omega arith) 0 4 (omega arith),
+      blocks-set 4 34 words ys i long (omega arith) filterOf 12 pair,
+      blocks-apart (4 + 34 * i) 34 words ys long (omega arith) rowOf 65 412 4 (inr (omega arith)),
+      part-apart (4 + 34 * i) 34 words ys long (omega arith) (tableFrom 4) 508 (inr (omega arith)),
+    )
+
 pub pair-asked : (words : List ℕ) (p q pgn i : ℕ) (r : Asked) → i ≡ pairAt 4 p q → i < 12 → Asking (take 34 (drop (4 + 34 * i) words)) pgn r → PairAsking 4 words p q pgn r
 unfolding modelOf blockAt
 pair-asked words p q pgn i r e h A = record {
   answer = rw (← e, blocks-at filterOf 34 4 12 words i clear h) (A .answer);
   small = A .small;
 }
+
+module _ (words : List ℕ) (i : ℕ) (full : length words ≡ recordLength 4) (pair : i < 12) where
+  pub pair-of : getD (modelOf 4 words .rest .pairs) i clear ≡ filterOf (take 34 (drop (4 + 34 * i) words))
+  unfolding modelOf blockAt
+  pair-of = blocks-at filterOf 34 4 12 words i clear pair
+
+  pub pair-changed : (ys : List ℕ) (change : Filter → Filter) → length ys ≡ 34 → BlockChanging (take 34 (drop (4 + 34 * i) words)) ys change → PairChanging 4 words (back (4 + 34 * i) 34 words ys) i change
+  pair-changed ys change long C = record { state = pair-back ∙ rw (C .state, pair-of) }
+    where
+      pair-back : modelOf 4 (back (4 + 34 * i) 34 words ys) ≡ withRest (modelOf 4 words) (withPairs (modelOf 4 words .rest) (set (modelOf 4 words .rest .pairs) i (filterOf ys)))
+      pair-back = pair-lent words ys i full pair long
 
 -- ---- the address table
 module _ (words ys : List ℕ) (full : length words ≡ recordLength 4) (long : length ys ≡ 508) where

@@ -21,17 +21,20 @@ use Rattle.bridge.specs.declared.unit.Claim.the-variants.{Claimed}
 use Rattle.bridge.specs.declared.unit.Sent.{Sent}
 use Rattle.bridge.specs.declared.FrameAnswer.{FrameAnswer}
 use Rattle.bridge.specs.declared.TakeAnswer.{TakeAnswer}
+use Rattle.bridge.specs.declared.MessageAnswer.{MessageAnswer}
 use Rattle.bridge.specs.declared.StartAnswer.{StartAnswer}
 use Rattle.bridge.specs.Ports.{each, mask, total}
-use Rattle.bridge.specs.Model.{Rest, Model, rowAt, withOwn, rowsFrom, modelOf}
+use Rattle.bridge.specs.Model.{Rest, Model, rowAt, withOwn, withPairs, rowsFrom, modelOf}
 use Rattle.bridge.specs.Refusals.{powerOnRefusal, frameRefusal, takeRefusal, startRefusal, quietRefusal}
 use Rattle.bridge.specs.Forwarding.{frameOf, consumes, offered, sentIf, accepts, loses}
+use Rattle.bridge.specs.Messages.{Replied, messaged}
 use Rattle.bridge.specs.Claims.{freshUnit, moved, framesSent, Acted, frameActed, started}
 
 -- a call, by its arguments
 pub data Call : Type 0 where
   FrameIn : (port id : ℕ) (bytes : List ℕ) → Call
   TakeOut : (port : ℕ) → Call
+  Message : (port requester : ℕ) (payload : List ℕ) (lentReply : ℕ) → Call
   Start : Call
   Quiet : Call
 
@@ -40,6 +43,7 @@ pub data Call : Type 0 where
 unfoldable pub refusal : ℕ → ℕ → Rest → Call → ℕ
 refusal ports lent rest (FrameIn port id bytes) = frameRefusal ports lent port id (length bytes)
 refusal ports lent rest (TakeOut port) = takeRefusal ports lent port
+refusal ports lent rest (Message port requester payload lentReply) = messaged ports lent lentReply rest port requester payload .number
 refusal ports lent rest Start = startRefusal ports lent (rest .own)
 refusal ports lent rest Quiet = quietRefusal ports lent (rest .own)
 
@@ -48,16 +52,18 @@ abbrev pub frameDone : Rest → ℕ → Frame → Acted
 frameDone rest port f = frameActed rest port (consumes (rest .own) (f .id)) f
 
 -- the rest of the model
-unfoldable pub restAfter : Rest → Call → Rest
-restAfter rest (FrameIn port id bytes) = frameDone rest port (frameOf id bytes) .rest
-restAfter rest (TakeOut port) = rest
-restAfter rest Start = started rest .rest
-restAfter rest Quiet = withOwn rest (moved (rest .own) Claimed (rest .own .address))
+unfoldable pub restAfter : ℕ → ℕ → Rest → Call → Rest
+restAfter ports lent rest (FrameIn port id bytes) = frameDone rest port (frameOf id bytes) .rest
+restAfter ports lent rest (TakeOut port) = rest
+restAfter ports lent rest (Message port requester payload lentReply) = withPairs rest (messaged ports lent lentReply rest port requester payload .pairs)
+restAfter ports lent rest Start = started rest .rest
+restAfter ports lent rest Quiet = withOwn rest (moved (rest .own) Claimed (rest .own .address))
 
 -- the port that a take is made on
 unfoldable pub asks : Call → Option ℕ
 asks (FrameIn port id bytes) = none
 asks (TakeOut port) = some (port - 1)
+asks (Message port requester payload lentReply) = none
 asks Start = none
 asks Quiet = none
 
@@ -68,19 +74,20 @@ frameSends ports rest port f q = sentIf (offered ports rest (port - 1) (f .id) q
 unfoldable pub sends : ℕ → Rest → Call → ℕ → List Frame
 sends ports rest (FrameIn port id bytes) q = frameSends ports rest port (frameOf id bytes) q
 sends ports rest (TakeOut port) q = []
+sends ports rest (Message port requester payload lentReply) q = []
 sends ports rest Start q = framesSent (started rest .sent)
 sends ports rest Quiet q = []
 
 -- each row by itself: frames join under rule 3, or a take is made under rule 4
-unfoldable pub performed : ℕ → Model → Call → Model
-performed ports m k = record {
-  rest = restAfter (m .rest) k;
+unfoldable pub performed : ℕ → ℕ → Model → Call → Model
+performed ports lent m k = record {
+  rest = restAfter ports lent (m .rest) k;
   rows = each (λ q row. rowNext priority size (asks k) q row (sends ports (m .rest) k q)) ports (m .rows);
 }
 
 -- a refused call changes nothing
 unfoldable pub next : ℕ → ℕ → Model → Call → Model
-next ports lent m k = cond (eqb (refusal ports lent (m .rest) k) 0) (performed ports m k) m
+next ports lent m k = cond (eqb (refusal ports lent (m .rest) k) 0) (performed ports lent m k) m
 
 -- ---- what a call answers
 -- whether the unit's own frame is lost at a row
@@ -168,6 +175,17 @@ pub record TakingOut (ports : ℕ) (before after : List ℕ) (port : ℕ) (r : T
   pub answer : r ≡ takeAnswer ports (length before) (modelOf ports before) port
   pub ahead : take (queueAt ports port) after ≡ take (queueAt ports port) before
   pub behind : drop (queueAt ports port + queueLength) after ≡ drop (queueAt ports port + queueLength) before
+
+-- "The answer gives the PGN and the length of what was written, 0 and 0 for nothing; buffer bytes past that length are untouched."
+abbrev pub messageAnswer : Replied → MessageAnswer
+messageAnswer r = record { refusal = r .number; pgn = r .pgn; length = length (r .written) }
+
+pub record Messaging (ports : ℕ) (before after : List ℕ) (port requester : ℕ) (payload lent back : List ℕ) (r : MessageAnswer) : Type 0 where
+  pub call : Calling ports before after (Message port requester payload (length lent))
+  pub answer : r ≡ messageAnswer (messaged ports (length before) (length lent) (modelOf ports before .rest) port requester payload)
+  pub written : back
+      ≡ messaged ports (length before) (length lent) (modelOf ports before .rest) port requester payload .written
+      ++ drop (length (messaged ports (length before) (length lent) (modelOf ports before .rest) port requester payload .written)) lent
 
 pub record Starting (ports : ℕ) (before after : List ℕ) (r : StartAnswer) : Type 0 where
   pub call : Calling ports before after Start

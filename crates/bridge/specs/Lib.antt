@@ -3,6 +3,7 @@ pub mod Model
 pub mod Refusals
 pub mod Forwarding
 pub mod Claims
+pub mod Messages
 pub mod Calls
 pub mod Steps
 pub mod Parts

@@ -41,6 +41,9 @@ pairAt ports p q = (ports - 1) * p + cond (ltb q p) q (q - 1)
 abbrev pub withOwn : Rest → Unit → Rest
 withOwn rest own = record { own = own; pairs = rest .pairs; table = rest .table }
 
+abbrev pub withPairs : Rest → List Filter → Rest
+withPairs rest pairs = record { own = rest .own; pairs = pairs; table = rest .table }
+
 abbrev pub withTable : Rest → List Place → Rest
 withTable rest table = record { own = rest .own; pairs = rest .pairs; table = table }
 

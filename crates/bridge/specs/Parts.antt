@@ -19,7 +19,8 @@ use Rattle.bridge.specs.declared.parts.JoinAnswer.{JoinAnswer}
 use Rattle.bridge.specs.declared.parts.ActAnswer.{ActAnswer}
 use Rattle.bridge.specs.declared.parts.AnnounceAnswer.{AnnounceAnswer}
 use Rattle.bridge.specs.Model.{Model, rowAt, withRest, withRow, modelOf}
-use Rattle.bridge.specs.Refusals.{check, first, noPort, notLong, powerOnRefusal, takeRefusal}
+use Rattle.bridge.specs.Refusals.{noPort, notLong, powerOnRefusal, takeRefusal}
+use Rattle.network_message.specs.Checks.{check, first}
 use Rattle.bridge.specs.Forwarding.{verdict}
 use Rattle.bridge.specs.Claims.{Acted, frameActed}
 use Rattle.bridge.specs.Steps.{announcedTo, unsentTo}

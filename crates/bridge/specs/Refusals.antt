@@ -1,25 +1,15 @@
 -- Document 01, "Numbers given back": the checks of each call in order, and the number of the first that applies, 0 where none does.
 -- Assumes nothing.
 use Prim.Native.Nat.{ℕ}
-use mathlib.Core.Bool.{Bool, true, false, not, _&&_, cond}
+use mathlib.Core.Bool.{Bool, true, false, not, _&&_}
 use mathlib.Core.List.{List, [], _∷_}
 use lib.Dec.{ltb, leb, eqb}
+use Rattle.network_message.specs.Checks.{Check, check, first}
 use Rattle.identifier.specs.Identifier.{tooWide, wrongSource}
 use Rattle.bridge.specs.declared.unit.Claim.{Claim}
 use Rattle.bridge.specs.declared.unit.Claim.the-variants.{Unstarted, Claiming, Claimed, Lost}
 use Rattle.bridge.specs.declared.unit.Unit.{Unit}
 use Rattle.bridge.specs.Model.{recordLength}
-
-pub record Check : Type 0 where
-  pub applies : Bool
-  pub number : ℕ
-
-abbrev pub check : Bool → ℕ → Check
-check applies number = record { applies = applies; number = number }
-
-abbrev pub first : List Check → ℕ
-first [] = 0
-first (c ∷ cs) = cond (c .applies) (c .number) (first cs)
 
 -- 1: port not 1 to 4
 abbrev pub noPort : ℕ → ℕ → Bool

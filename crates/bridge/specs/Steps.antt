@@ -1,14 +1,15 @@
 -- The contracts of the steps inside a call: what each does to the model of a record, at one port or at all. Only private functions cite these.
 -- Assumes nothing.
-use Prim.Native.Nat.{ℕ, _+_, _*_, _≤_}
+use Prim.Native.Nat.{ℕ, _+_, _-_, _*_, _≤_}
 use mathlib.Core.Bool.{Bool, cond}
 use mathlib.Core.Path.{_≡_}
-use mathlib.Core.List.{List, [], _∷_}
-use lib.ListN.{take, drop, getD}
+use mathlib.Core.List.{List, [], _∷_, _++_}
+use lib.ListN.{length, take, drop, getD, set}
 use Rattle.delivery.specs.Row.{room, join, pull, given, kept}
 use Rattle.delivery.specs.Unit.{joinAll}
 use Rattle.filter.specs.declared.Asked.{Asked}
-use Rattle.filter.specs.Filter.{clear, asked, listSize}
+use Rattle.filter.specs.Filter.{Filter, filterOf, clear, asked, listSize}
+use Rattle.network_message.specs.Replies.{controlOf, acknowledgment}
 use Rattle.queue.specs.declared.Frame.{Frame}
 use Rattle.queue.specs.declared.Taken.{Taken}
 use Rattle.queue.specs.Queue.{size, priority, takenOf}
@@ -19,14 +20,17 @@ use Rattle.bridge.specs.declared.unit.Claim.{Claim}
 use Rattle.bridge.specs.declared.unit.Claim.the-variants.{Unstarted, Claiming, Claimed, Lost}
 use Rattle.bridge.specs.declared.unit.Sent.{Sent}
 use Rattle.bridge.specs.declared.FrameAnswer.{FrameAnswer}
+use Rattle.bridge.specs.declared.MessageAnswer.{MessageAnswer}
 use Rattle.bridge.specs.declared.Response.{Response}
+use Rattle.bridge.specs.declared.pairs.Change.{Change}
 use Rattle.bridge.specs.declared.forward.Share.{Share}
 use Rattle.bridge.specs.declared.claims.Acted.{Acted as Done}
 use Rattle.bridge.specs.Ports.{each, mask, total}
-use Rattle.bridge.specs.Model.{Model, rowAt, pairAt, withRest, withTable, withRow, withRows, rowsFrom, modelOf}
+use Rattle.bridge.specs.Model.{Model, rowAt, pairAt, withRest, withPairs, withTable, withRow, withRows, rowsFrom, modelOf}
 use Rattle.bridge.specs.Forwarding.{verdict, sentIf, accepts, loses}
 use Rattle.bridge.specs.Claims.{framesSent, Acted}
-use Rattle.bridge.specs.Calls.{frameDone, frameSends, losesOwn, framePassed}
+use Rattle.bridge.specs.Messages.{Replied, changeOf, changeNamed, listRefusal, commanded}
+use Rattle.bridge.specs.Calls.{frameDone, frameSends, losesOwn, framePassed, messageAnswer}
 
 -- the word that stands for a claim state
 abbrev pub claimWord : Claim → ℕ
@@ -47,6 +51,27 @@ pub record TableClaiming (ports : ℕ) (before after : List ℕ) (change : List 
 pub record PairAsking (ports : ℕ) (words : List ℕ) (p q pgn : ℕ) (r : Asked) : Type 0 where
   pub answer : r ≡ asked (getD (modelOf ports words .rest .pairs) (pairAt ports p q) clear) pgn
   pub small : r .compared ≤ listSize
+
+-- a pair's block was changed, and in the record
+pub record BlockChanging (before after : List ℕ) (change : Filter → Filter) : Type 0 where
+  pub state : filterOf after ≡ change (filterOf before)
+  pub long : length after ≡ length before
+
+pub record PairChanging (ports : ℕ) (before after : List ℕ) (i : ℕ) (change : Filter → Filter) : Type 0 where
+  pub state : modelOf ports after
+      ≡ withRest (modelOf ports before) (withPairs (modelOf ports before .rest) (set (modelOf ports before .rest .pairs) i (change (getD (modelOf ports before .rest .pairs) i clear))))
+
+-- a command was done on the pairs that it names
+pub record PairsChanging (ports : ℕ) (before after : List ℕ) (from to : ℕ) (change : Change) (xs : List ℕ) : Type 0 where
+  pub state : modelOf ports after
+      ≡ withRest (modelOf ports before) (withPairs (modelOf ports before .rest) (changeNamed ports (ports - 1) (changeOf change xs) from to (modelOf ports before .rest .pairs)))
+
+-- or refused
+pub record Commanding (ports : ℕ) (before after : List ℕ) (from to : ℕ) (change : Change) (xs : List ℕ) (r : ℕ) : Type 0 where
+  pub answer : r ≡ listRefusal ports change xs from to (modelOf ports before .rest .pairs)
+  pub state : modelOf ports after
+      ≡ withRest (modelOf ports before) (withPairs (modelOf ports before .rest) (commanded ports change xs from to (modelOf ports before .rest .pairs)))
+  pub refused : (r ≡ 0 → ⊥) → after ≡ before
 
 -- a frame was sent to port q
 pub record RowJoining (ports : ℕ) (before after : List ℕ) (q : ℕ) (f : Frame) (r : Bool) : Type 0 where
@@ -122,3 +147,21 @@ framed ports m port f = record {
 pub record Passing (ports : ℕ) (before after : List ℕ) (port : ℕ) (f : Frame) (r : FrameAnswer) : Type 0 where
   pub answer : r ≡ framePassed ports (modelOf ports before) port f
   pub state : modelOf ports after ≡ framed ports (modelOf ports before) port f
+
+-- ---- messages
+-- a command was acknowledged
+pub record Telling (before after : List ℕ) (number function requester : ℕ) (r : MessageAnswer) : Type 0 where
+  pub answer : r ≡ record { refusal = number; pgn = 59392; length = 8 }
+  pub written : after ≡ acknowledgment (controlOf number) function requester ++ drop 8 before
+
+-- a reply was written
+pub record Reporting (bytes before after : List ℕ) (r : MessageAnswer) : Type 0 where
+  pub answer : r ≡ record { refusal = 0; pgn = 60672; length = length bytes }
+  pub written : after ≡ bytes ++ drop (length bytes) before
+
+-- what a message does and is answered
+pub record Replying (ports : ℕ) (before after lent back : List ℕ) (reply : Replied) (r : MessageAnswer) : Type 0 where
+  pub answer : r ≡ messageAnswer reply
+  pub written : back ≡ reply .written ++ drop (length (reply .written)) lent
+  pub state : modelOf ports after ≡ withRest (modelOf ports before) (withPairs (modelOf ports before .rest) (reply .pairs))
+  pub refused : (reply .number ≡ 0 → ⊥) → after ≡ before

@@ -2,6 +2,8 @@
 // number, and a refusal changes nothing.
 mod claims;
 mod forward;
+mod messages;
+mod pairs;
 pub mod parts;
 mod record;
 mod refusals;
@@ -20,7 +22,7 @@ ghost use Rattle.identifier.specs.Identifier.{saOf};
 ghost use Rattle.bridge.specs.Model.{modelOf, recordLength};
 ghost use Rattle.bridge.specs.Forwarding.{consumes};
 ghost use Rattle.bridge.specs.Claims.{frameActed};
-ghost use Rattle.bridge.specs.Calls.{frameRefused, Framing, TakingOut, Starting, Quieting};
+ghost use Rattle.bridge.specs.Calls.{frameRefused, Framing, TakingOut, Messaging, Starting, Quieting};
 ghost use Rattle.bridge.specs.Steps.{Responding, Passing};
 
 // What came of a frame. Ports are masks, bit p - 1 for port p. A refusal of 0 is none; refused, the rest is empty.
@@ -44,6 +46,13 @@ pub enum TakeAnswer {
 pub struct StartAnswer {
     pub refusal: u32,
     pub unsent: u32,
+}
+
+// What was written to the reply buffer: the PGN and the length, 0 and 0 for nothing; and the number that refused the message, or 0.
+pub struct MessageAnswer {
+    pub refusal: u32,
+    pub pgn: u32,
+    pub length: u32,
 }
 
 // The claim event, and the ports where the unit's own frame was lost.
@@ -199,4 +208,26 @@ pub fn quiet(words: &mut [u64]) -> u32
         return 0;
     }
     18
+}
+
+// A network message to the unit, handed in whole, with a buffer for what is to be sent back.
+pub fn message(
+    words: &mut [u64],
+    port: u32,
+    requester: u32,
+    payload: &[u8],
+    reply: &mut [u8],
+) -> MessageAnswer
+    ensures { λ r. ⌜ Messaging 4 (now (words .entry)) (now (words .exit)) port requester (now (payload .entry)) (now (reply .entry)) (now (reply .exit)) r ⌝ }
+{
+    let number = messages::refusal(words, port, requester, payload.len(), reply.len());
+    if number != 0 {
+        return MessageAnswer {
+            refusal: number,
+            pgn: 0,
+            length: 0,
+        };
+    }
+    let command = network_message::decode(port, payload);
+    messages::perform(words, requester, payload, command, reply)
 }

@@ -1,4 +1,6 @@
 // The record's parts: a filter, a queue or the address table is lent to its crate, one at a time.
+use crate::pairs::Change;
+use crate::pairs::Question;
 use crate::unit::Claim;
 use crate::unit::Unit;
 use addresses::Event;
@@ -7,11 +9,15 @@ use filter::Asked;
 use queue::Frame;
 use queue::Taken;
 ghost use mathlib.Core.Path.{_≡_};
-ghost use Prim.Native.Nat.{_<_};
+ghost use Prim.Native.Nat.{_≤_, _<_};
 ghost use lib.ListN.{length, getD, replicate, set};
 ghost use Rattle.addresses.specs.Claims.{claimed, claimEvent, withdrawn, withdrawEvent, othersDropped, settled};
+ghost use Rattle.filter.specs.Filter.{blockSize, filterOf, clear};
+ghost use Rattle.filter.specs.Entries.{entriesOf};
+ghost use Rattle.network_message.specs.Replies.{longest, listReply, addressReply, Writing};
+ghost use Rattle.bridge.specs.Messages.{holdsOf, changeOf};
 ghost use Rattle.bridge.specs.Model.{modelOf, recordLength, pairAt, withOwn, withRest};
-ghost use Rattle.bridge.specs.Steps.{PairAsking, RowJoining, RowTaking, TableChanging, TableClaiming};
+ghost use Rattle.bridge.specs.Steps.{BlockChanging, PairChanging, PairAsking, RowJoining, RowTaking, TableChanging, TableClaiming};
 
 // Where the regions begin: the unit's own words stand first.
 const PAIRS: usize = 4;
@@ -79,6 +85,60 @@ pub fn ask_pair(words: &[u64], from: usize, to: usize, pgn: u32) -> Asked
     let a = PAIRS + filter::BLOCK_SIZE * i;
     let e = a + filter::BLOCK_SIZE;
     filter::ask(&words[a..e], pgn)
+}
+
+// A question to pair i, before a command with these entries.
+pub fn question(words: &[u64], i: usize, question: Question, entries: &[u8]) -> bool
+    requires { ⌜ (length (now words) ≡ recordLength 4) × (i < 12) ⌝ }
+    ensures { λ r. ⌜ r ≡ holdsOf question (entriesOf (now (entries .entry))) (getD (modelOf 4 (now (words .entry)) .rest .pairs) i clear) ⌝ }
+{
+    let a = PAIRS + filter::BLOCK_SIZE * i;
+    let e = a + filter::BLOCK_SIZE;
+    answer(&words[a..e], question, entries)
+}
+
+// The same of a pair's block.
+fn answer(block: &[u64], question: Question, entries: &[u8]) -> bool
+    requires { ⌜ length (now block) ≡ blockSize ⌝ }
+    ensures { λ r. ⌜ r ≡ holdsOf question (entriesOf (now (entries .entry))) (filterOf (now (block .entry))) ⌝ }
+{
+    match question {
+        Question::IsCleared => filter::is_cleared(block),
+        Question::IsNotCleared => !filter::is_cleared(block),
+        Question::WouldPass => filter::would_pass(block, entries),
+        Question::Lacks => filter::lacks(block, entries),
+    }
+}
+
+// A command changes pair i.
+pub fn change(words: &mut [u64], i: usize, change: Change, entries: &[u8])
+    requires { ⌜ (length (now words) ≡ recordLength 4) × (i < 12) ⌝ }
+    ensures { λ _. ⌜ PairChanging 4 (now (words .entry)) (now (words .exit)) i (changeOf change (entriesOf (now (entries .entry)))) ⌝ }
+{
+    let a = PAIRS + filter::BLOCK_SIZE * i;
+    let e = a + filter::BLOCK_SIZE;
+    apply(&mut words[a..e], change, entries);
+}
+
+// The same of a pair's block.
+fn apply(block: &mut [u64], change: Change, entries: &[u8])
+    requires { ⌜ length (now block) ≡ blockSize ⌝ }
+    ensures { λ _. ⌜ BlockChanging (now (block .entry)) (now (block .exit)) (changeOf change (entriesOf (now (entries .entry)))) ⌝ }
+{
+    match change {
+        Change::Adds => {
+            filter::add(block, entries);
+        }
+        Change::Deletes => {
+            filter::delete(block, entries);
+        }
+        Change::Clears => {
+            filter::clear(block);
+        }
+        Change::Creates(passing) => {
+            filter::create(block, passing, entries);
+        }
+    }
 }
 
 // A frame joins a port's queue, or is lost there.
@@ -159,4 +219,25 @@ pub fn withdraw(words: &mut [u64], name: u64) -> Event
     let a = TABLE;
     let e = END;
     addresses::withdraw(&mut words[a..e], name)
+}
+
+// Writes the reply that reports a pair's list, and tells its length.
+pub fn reply_list(words: &[u64], from: usize, to: usize, pair: u8, reply: &mut [u8]) -> usize
+    requires { ⌜ (length (now words) ≡ recordLength 4) × (from < 4) × (to < 4) × (from ≡ to → ⊥) × (longest ≤ length (now reply)) ⌝ }
+    ensures { λ r. ⌜ Writing (listReply pair (getD (modelOf 4 (now (words .entry)) .rest .pairs) (pairAt 4 from to) clear)) (now (reply .entry)) (now (reply .exit)) longest r ⌝ }
+{
+    let i = pair_at(from, to);
+    let a = PAIRS + filter::BLOCK_SIZE * i;
+    let e = a + filter::BLOCK_SIZE;
+    network_message::reply_list(&words[a..e], pair, reply)
+}
+
+// Writes the reply that reports the addresses on a port, and tells its length.
+pub fn reply_addresses(words: &[u64], port: u32, except: usize, reply: &mut [u8]) -> usize
+    requires { ⌜ (length (now words) ≡ recordLength 4) × (port < 256) × (longest ≤ length (now reply)) ⌝ }
+    ensures { λ r. ⌜ Writing (addressReply port except (modelOf 4 (now (words .entry)) .rest .table)) (now (reply .entry)) (now (reply .exit)) longest r ⌝ }
+{
+    let a = TABLE;
+    let e = END;
+    network_message::reply_addresses(&words[a..e], port, except, reply)
 }

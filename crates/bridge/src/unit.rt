@@ -3,9 +3,11 @@ use crate::record;
 use queue::Frame;
 ghost use mathlib.Core.Path.{_≡_};
 ghost use Rattle.bridge.specs.Model.{claimFrom};
-ghost use Rattle.bridge.specs.Refusals.{isUnstarted, isClaiming, first, startChecks};
+ghost use Rattle.bridge.specs.Refusals.{isUnstarted, isClaiming, startChecks};
+ghost use Rattle.network_message.specs.Checks.{first};
 ghost use Rattle.bridge.specs.Forwarding.{holdsAddress, isOwn, consumes};
 ghost use Rattle.bridge.specs.Claims.{freshUnit, moved, claimFrame, cannotClaimFrame, requestAnswer};
+ghost use Rattle.bridge.specs.Messages.{isClaimed};
 ghost use Rattle.bridge.specs.Calls.{PoweringOn};
 ghost use Rattle.bridge.specs.Steps.{claimWord};
 
@@ -80,6 +82,17 @@ impl Claim {
             Claim::Unstarted => false,
             Claim::Claiming => true,
             Claim::Claimed => false,
+            Claim::Lost => false,
+        }
+    }
+
+    pub fn is_claimed(self) -> bool
+        ensures { λ r. ⌜ r ≡ isClaimed self ⌝ }
+    {
+        match self {
+            Claim::Unstarted => false,
+            Claim::Claiming => false,
+            Claim::Claimed => true,
             Claim::Lost => false,
         }
     }

@@ -1,0 +1,30 @@
+-- The table of examples, each by computing. Assumes nothing.
+use mathlib.Core.Path.{refl}
+use Rattle.filter.specs.Filter.{asked, permits, listed, place, reportedMode}
+use Rattle.filter.specs.Entries.{entriesOf, every, wellFormed, reported}
+use Rattle.filter.specs.Changes.{addOne, addAll, isCleared, wouldPass, mayCreate, modeFor, created}
+use Rattle.network_message.specs.Decoding.{isKnown, isPort, mayBeAll, isPair, namesPorts, mayName, isFilling, entriesEnd, holdsEntries, hasGoodBody, hasWrongMode, refusalOf, commandOf, decoded}
+use Rattle.network_message.specs.Replies.{controlOf, acknowledgment, filled, listBody, listReply}
+use Rattle.storage.specs.Bytes.{packed, bytesOf}
+use Rattle.bridge.specs.Ports.{each, mask, total}
+use Rattle.bridge.specs.Forwarding.{consumes, isOwn, verdict, offered}
+use Rattle.bridge.specs.Messages.{names, anyBelow, anyNamed, changeNamed, holdsOf, changeOf, listRefusal, commanded, messageRefusal, performedBy, messaged}
+use Rattle.bridge.specs.Calls.{framePassed}
+use Rattle.identifier.specs.Identifier.{pgnOf, destinationOf, isPgn, wrongSource}
+use Rattle.assurance.specs.Examples.{Examples}
+
+pub examples : Examples
+unfolding pgnOf destinationOf wrongSource framePassed mask total offered consumes isOwn verdict asked permits listed place messaged messageRefusal decoded refusalOf isKnown namesPorts isPair isPort mayBeAll mayName hasGoodBody holdsEntries entriesEnd isFilling wellFormed entriesOf every packed isPgn hasWrongMode commandOf performedBy listRefusal anyNamed anyBelow names holdsOf isCleared wouldPass addAll addOne commanded changeNamed each changeOf created mayCreate modeFor acknowledgment controlOf listReply filled listBody reportedMode reported bytesOf
+examples = record {
+  p1 = (refl, refl);
+  p2 = (refl, refl);
+  p3 = refl;
+  p4 = (refl, refl);
+  p5 = (refl, refl, refl);
+  p6 = (refl, refl);
+  p7 = (refl, refl);
+  p8 = refl;
+  p9 = refl;
+  p10 = (refl, refl, refl);
+  p11 = (refl, refl, refl);
+}
