@@ -15,11 +15,15 @@ use Rattle.network_message.specs.declared.Command.the-variants.{Refused, Reques
 use Rattle.network_message.specs.Decoding.{between, decoded}
 use Rattle.network_message.specs.Commands.{Named, named, reaches, Ports, Good}
 use Rattle.network_message.proofs.Decoding.{decoded-good}
-use Rattle.bridge.specs.declared.pairs.Change.{Change}
-use Rattle.bridge.specs.declared.pairs.Change.the-variants.{Adds, Deletes, Clears, Creates}
-use Rattle.bridge.specs.Model.{Rest, pairAt}
-use Rattle.bridge.specs.Messages.{Replied, changeOf, changeNamed, listRefusal, commanded, messageRefusal, performedBy, messaged}
-use Rattle.bridge.proofs.MessageLaws.{message-goes}
+use Rattle.record.specs.declared.pairs.Change.{Change}
+use Rattle.record.specs.declared.pairs.Change.the-variants.{Adds, Deletes, Clears, Creates}
+use Rattle.unit.specs.Model.{Rest, pairAt}
+use Rattle.message_answers.specs.Messages.{Replied, performedBy}
+use Rattle.record.specs.Pairs.{changeOf}
+use Rattle.list_commands.specs.Commands.{changeNamed, listRefusal, commanded}
+use Rattle.refusals.specs.Refusals.{messageRefusal}
+use Rattle.bridge.specs.Calls.{messaged}
+use Rattle.refusals.proofs.Checks.{message-goes}
 use Rattle.assurance.specs.Demand2.{IsPair, namesPair}
 use Rattle.assurance.proofs.Pairs.{changed-pair}
 

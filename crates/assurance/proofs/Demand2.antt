@@ -18,21 +18,25 @@ use Rattle.network_message.specs.Decoding.{functionOf, pairOf, fromOf, toOf, is
 use Rattle.network_message.specs.Commands.{asCreate}
 use Rattle.network_message.specs.Replies.{longest, listReply}
 use Rattle.bridge.specs.declared.FrameAnswer.{FrameAnswer}
-use Rattle.bridge.specs.declared.MessageAnswer.{MessageAnswer}
-use Rattle.bridge.specs.declared.unit.Claim.the-variants.{Claimed}
-use Rattle.bridge.specs.Ports.{each, bitAt}
-use Rattle.bridge.specs.Model.{Model, Rest, rowAt, pairAt, withPairs, modelOf, recordLength}
-use Rattle.bridge.specs.Forwarding.{offered, silent, frameOf}
-use Rattle.bridge.specs.Refusals.{frameRefusal}
-use Rattle.bridge.specs.Messages.{Replied, messaged}
-use Rattle.bridge.specs.Claims.{framesSent}
-use Rattle.bridge.specs.Calls.{Call, FrameIn, Message, refusal, restAfter, asks, sends, performed, next, frameDone, framePassed, frameRefused, frameAnswer, messageAnswer, Framing, Messaging}
-use Rattle.bridge.proofs.Checks.{frame-goes}
-use Rattle.bridge.proofs.Ports.{each-at, each-none}
-use Rattle.bridge.proofs.Regions.{rows-four}
-use Rattle.bridge.proofs.PairLoop.{pairs-twelve}
+use Rattle.message_answers.specs.declared.MessageAnswer.{MessageAnswer}
+use Rattle.unit.specs.declared.Claim.the-variants.{Claimed}
+use Rattle.unit.specs.Ports.{each, bitAt}
+use Rattle.unit.specs.Model.{Model, Rest, rowAt, pairAt, withPairs, modelOf, recordLength}
+use Rattle.bridge.specs.Calls.{offered, frameOf}
+use Rattle.forwarding.specs.Forwarding.{silent}
+use Rattle.refusals.specs.Refusals.{frameRefusal}
+use Rattle.message_answers.specs.Messages.{Replied}
+use Rattle.bridge.specs.Calls.{messaged}
+use Rattle.unit.specs.Own.{framesSent}
+use Rattle.bridge.specs.Calls.{Call, FrameIn, Message, refusal, restAfter, asks, sends, performed, next, frameDone, framePassed, frameRefused, frameAnswer, Framing, Messaging}
+use Rattle.message_answers.specs.Messages.{messageAnswer}
+use Rattle.refusals.proofs.Checks.{frame-goes}
+use Rattle.unit.proofs.Ports.{each-at, each-none}
+use Rattle.record.proofs.Regions.{rows-four}
+use Rattle.list_commands.proofs.PairLoop.{pairs-twelve}
 use Rattle.bridge.proofs.Laws.{not-offered-back, not-sent-back, not-accepted-back, lost-at}
-use Rattle.assurance.specs.Demand2.{Arrived, arrived, Handed, handed, restOf, pairOn, IsPair, NotBack, OnlyNamed, SameTo, Kept, Demand2}
+use Rattle.assurance.specs.Demand2.{restOf, pairOn, IsPair, NotBack, OnlyNamed, SameTo, Kept, Demand2}
+use Rattle.assurance.proofs.Made.{framing, messaging}
 use Rattle.assurance.proofs.Commands.{messaged-other}
 use Rattle.assurance.proofs.Privacy.{messaged-told}
 use Rattle.assurance.proofs.RoundTrip.{request-reported, sent-back}
@@ -157,13 +161,7 @@ module _ {words payload lent after back other lent₂ after₂ back₂ : List �
         ap (λ (w : Model). pairOn (w .rest) from to) (rw z at (N′ .call .state)) ∙ p,
       )
 
--- ---- the whole. Neither function requires anything, so what it ensures holds.
-framing : {words bytes after : List ℕ} {port id : ℕ} {r : FrameAnswer} → Arrived words port id bytes r after → Framing 4 words after port id bytes r
-framing (arrived κs w w′ b b′ port id r c) = c tt
-
-messaging : {words payload lent after back : List ℕ} {port requester : ℕ} {r : MessageAnswer} → Handed words port requester payload lent r after back → Messaging 4 words after port requester payload lent back r
-messaging (handed κs w w′ p p′ b b′ port requester r c) = c tt
-
+-- ---- the whole
 pub demand-2 : Demand2
 demand-2 = record {
   not-back = λ h. frame-back (framing h);

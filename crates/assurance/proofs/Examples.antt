@@ -6,9 +6,15 @@ use Rattle.filter.specs.Changes.{addOne, addAll, isCleared, wouldPass, mayCreat
 use Rattle.network_message.specs.Decoding.{isKnown, isPort, mayBeAll, isPair, namesPorts, mayName, isFilling, entriesEnd, holdsEntries, hasGoodBody, hasWrongMode, refusalOf, commandOf, decoded}
 use Rattle.network_message.specs.Replies.{controlOf, acknowledgment, filled, listBody, listReply}
 use Rattle.storage.specs.Bytes.{packed, bytesOf}
-use Rattle.bridge.specs.Ports.{each, mask, total}
-use Rattle.bridge.specs.Forwarding.{consumes, isOwn, verdict, offered}
-use Rattle.bridge.specs.Messages.{names, anyBelow, anyNamed, changeNamed, holdsOf, changeOf, listRefusal, commanded, messageRefusal, performedBy, messaged}
+use Rattle.unit.specs.Ports.{each, mask, total}
+use Rattle.unit.specs.Own.{consumes, isOwn}
+use Rattle.forwarding.specs.Forwarding.{verdict}
+use Rattle.bridge.specs.Calls.{offered}
+use Rattle.list_commands.specs.Commands.{names, anyBelow, anyNamed, changeNamed, listRefusal, commanded}
+use Rattle.record.specs.Pairs.{holdsOf, changeOf}
+use Rattle.refusals.specs.Refusals.{messageRefusal}
+use Rattle.message_answers.specs.Messages.{performedBy}
+use Rattle.bridge.specs.Calls.{messaged}
 use Rattle.bridge.specs.Calls.{framePassed}
 use Rattle.identifier.specs.Identifier.{pgnOf, destinationOf, isPgn, wrongSource}
 use Rattle.assurance.specs.Examples.{Examples}

@@ -23,16 +23,22 @@ use Rattle.network_message.specs.declared.Command.the-variants.{Refused, Reques
 use Rattle.network_message.specs.Decoding.{between, decoded}
 use Rattle.network_message.specs.Commands.{Ports, Holding, Good}
 use Rattle.network_message.proofs.Decoding.{decoded-good}
-use Rattle.bridge.specs.declared.pairs.Change.{Change}
-use Rattle.bridge.specs.declared.pairs.Change.the-variants.{Adds, Deletes, Clears, Creates}
-use Rattle.bridge.specs.Ports.{each}
-use Rattle.bridge.specs.Model.{Rest, Model}
-use Rattle.bridge.specs.Forwarding.{isOwn, frameOf, consumes}
-use Rattle.bridge.specs.Claims.{heldUnder, Acted, isClaim, isRequestToUnit, contested, claimActed, frameActed, started}
-use Rattle.bridge.specs.Messages.{firstPair, changeOf, changeAt, changeNamed, names, listRefusal, commanded, Replied, silentReply, messageRefusal, performedBy, messaged}
-use Rattle.bridge.specs.Calls.{Call, FrameIn, TakeOut, Message, Start, Quiet, refusal, restAfter, performed, next, fresh}
-use Rattle.bridge.proofs.Ports.{length-each}
-use Rattle.bridge.proofs.MessageLaws.{message-goes}
+use Rattle.record.specs.declared.pairs.Change.{Change}
+use Rattle.record.specs.declared.pairs.Change.the-variants.{Adds, Deletes, Clears, Creates}
+use Rattle.unit.specs.Ports.{each}
+use Rattle.unit.specs.Model.{Rest, Model}
+use Rattle.unit.specs.Own.{isOwn, consumes}
+use Rattle.bridge.specs.Calls.{frameOf}
+use Rattle.claims.specs.Claims.{heldUnder, Acted, isClaim, isRequestToUnit, contested, claimActed, frameActed, started}
+use Rattle.list_commands.specs.Commands.{firstPair, changeAt, changeNamed, names, listRefusal, commanded}
+use Rattle.record.specs.Pairs.{changeOf}
+use Rattle.message_answers.specs.Messages.{Replied, performedBy}
+use Rattle.bridge.specs.Calls.{silentReply, messaged}
+use Rattle.refusals.specs.Refusals.{messageRefusal}
+use Rattle.bridge.specs.Calls.{Call, FrameIn, TakeOut, Message, Start, Quiet, refusal, restAfter, performed, next}
+use Rattle.unit.specs.PowerOn.{fresh}
+use Rattle.unit.proofs.Ports.{length-each}
+use Rattle.refusals.proofs.Checks.{message-goes}
 use Rattle.assurance.specs.Demand2.{Kept}
 use Rattle.assurance.proofs.Pairs.{changed-at, else-still}
 

@@ -13,11 +13,12 @@ use Rattle.filter.specs.Filter.{Filter, clear}
 use Rattle.filter.proofs.Lists.{both}
 use Rattle.network_message.specs.Decoding.{isPort, allPorts}
 use Rattle.network_message.specs.Commands.{reaches}
-use Rattle.bridge.specs.declared.pairs.Change.{Change}
-use Rattle.bridge.specs.Ports.{each}
-use Rattle.bridge.specs.Model.{pairAt}
-use Rattle.bridge.specs.Messages.{targetOf, firstPair, names, changeAt, changeOf, changeNamed, listRefusal, commanded}
-use Rattle.bridge.proofs.Ports.{each-at, each-later}
+use Rattle.record.specs.declared.pairs.Change.{Change}
+use Rattle.unit.specs.Ports.{each}
+use Rattle.unit.specs.Model.{pairAt}
+use Rattle.list_commands.specs.Commands.{targetOf, firstPair, names, changeAt, changeNamed, listRefusal, commanded}
+use Rattle.record.specs.Pairs.{changeOf}
+use Rattle.unit.proofs.Ports.{each-at, each-later}
 use Rattle.assurance.specs.Demand2.{IsPair}
 
 pub port-in : (a : ℕ) → isPort 4 a ≡ true → (1 ≤ a) × (a ≤ 4)

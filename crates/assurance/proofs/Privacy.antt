@@ -19,11 +19,15 @@ use Rattle.network_message.specs.Decoding.{isPort, allPorts, between, decoded}
 use Rattle.network_message.specs.Commands.{Named, named, reaches, Own, Ports, Good}
 use Rattle.network_message.specs.Replies.{addressReply}
 use Rattle.network_message.proofs.Decoding.{decoded-good, decoded-own}
-use Rattle.bridge.specs.declared.pairs.Change.{Change}
-use Rattle.bridge.specs.declared.pairs.Change.the-variants.{Adds, Deletes, Clears, Creates}
-use Rattle.bridge.specs.Model.{Rest, pairAt}
-use Rattle.bridge.specs.Messages.{firstPair, names, anyBelow, anyNamed, holdsAt, listRefusal, changedBy, Replied, silentReply, messageRefusal, performedBy, messaged}
-use Rattle.bridge.proofs.MessageLaws.{message-goes, one-port}
+use Rattle.record.specs.declared.pairs.Change.{Change}
+use Rattle.record.specs.declared.pairs.Change.the-variants.{Adds, Deletes, Clears, Creates}
+use Rattle.unit.specs.Model.{Rest, pairAt}
+use Rattle.list_commands.specs.Commands.{firstPair, names, anyBelow, anyNamed, holdsAt, listRefusal}
+use Rattle.message_answers.specs.Messages.{changedBy, Replied, performedBy}
+use Rattle.bridge.specs.Calls.{silentReply, messaged}
+use Rattle.refusals.specs.Refusals.{messageRefusal}
+use Rattle.refusals.proofs.Checks.{message-goes}
+use Rattle.message_answers.proofs.Replies.{one-port}
 use Rattle.assurance.specs.Demand2.{IsPair, SameTo}
 use Rattle.assurance.proofs.Pairs.{names-is, target, target-pair, target-rank, target-at}
 

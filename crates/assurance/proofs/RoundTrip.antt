@@ -23,13 +23,18 @@ use Rattle.network_message.specs.Commands.{reaches, Ports, Good, asCreate, Sent
 use Rattle.network_message.specs.Replies.{longest, listReply}
 use Rattle.network_message.proofs.Decoding.{decoded-good}
 use Rattle.network_message.proofs.RoundTrip.{round-trip}
-use Rattle.bridge.specs.declared.unit.Claim.the-variants.{Claimed}
-use Rattle.bridge.specs.declared.pairs.Question.the-variants.{IsNotCleared, WouldPass}
-use Rattle.bridge.specs.declared.pairs.Change.the-variants.{Creates}
-use Rattle.bridge.specs.Model.{Rest, pairAt, recordLength}
-use Rattle.bridge.specs.Messages.{firstPair, names, anyBelow, anyNamed, holdsAt, holdsOf, changeOf, listRefusal, commanded, Replied, silentReply, acknowledged, replied, messageRefusal, performedBy, messaged}
-use Rattle.bridge.specs.Refusals.{noPort}
-use Rattle.bridge.proofs.MessageLaws.{message-goes, one-port}
+use Rattle.unit.specs.declared.Claim.the-variants.{Claimed}
+use Rattle.record.specs.declared.pairs.Question.the-variants.{IsNotCleared, WouldPass}
+use Rattle.record.specs.declared.pairs.Change.the-variants.{Creates}
+use Rattle.unit.specs.Model.{Rest, pairAt, recordLength}
+use Rattle.list_commands.specs.Commands.{firstPair, names, anyBelow, anyNamed, holdsAt, listRefusal, commanded}
+use Rattle.record.specs.Pairs.{holdsOf, changeOf}
+use Rattle.message_answers.specs.Messages.{Replied, acknowledged, replied, performedBy}
+use Rattle.bridge.specs.Calls.{silentReply, messaged}
+use Rattle.refusals.specs.Refusals.{messageRefusal}
+use Rattle.refusals.specs.Refusals.{noPort}
+use Rattle.refusals.proofs.Checks.{message-goes}
+use Rattle.message_answers.proofs.Replies.{one-port}
 use Rattle.assurance.specs.Demand2.{IsPair, pairOn}
 use Rattle.assurance.proofs.Pairs.{names-is, target, target-pair, target-rank, target-at}
 use Rattle.assurance.proofs.Commands.{commanded-named}

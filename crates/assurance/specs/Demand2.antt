@@ -5,8 +5,6 @@ use mathlib.Core.Logic.{_⊎_}
 use mathlib.Core.Bool.{Bool, true, false, _&&_}
 use mathlib.Core.List.{List, [], _∷_}
 use Prim.Native.Nat.{ℕ, _-_, _≤_, _<_}
-use contract.Lifetimes.{Lfts}
-use denote.Ref.{RefT}
 use lib.ListN.{length, take, getD}
 use lib.Dec.{eqb}
 use Rattle.identifier.specs.Identifier.{isPgn}
@@ -24,29 +22,15 @@ use Rattle.network_message.specs.Decoding.{functionOf, pairOf, fromOf, toOf, is
 use Rattle.network_message.specs.Commands.{Named, named, reaches, asCreate}
 use Rattle.network_message.specs.Replies.{longest}
 use Rattle.bridge.specs.declared.FrameAnswer.{FrameAnswer}
-use Rattle.bridge.specs.declared.MessageAnswer.{MessageAnswer}
-use Rattle.bridge.specs.declared.unit.Claim.the-variants.{Claimed}
-use Rattle.bridge.specs.Ports.{bitAt}
-use Rattle.bridge.specs.Model.{Rest, rowAt, pairAt, modelOf, recordLength}
-use Rattle.bridge.specs.Forwarding.{frameOf}
-use Rattle.bridge.specs.Claims.{framesSent}
-use Rattle.bridge.specs.Calls.{Call, frameDone, next, fresh}
-use Rattle.bridge.proofs.frame.Reads as frame
-use Rattle.bridge.proofs.message.Reads as message
-
--- ---- the calls. Of a call the function's contract is known, and nothing else.
--- A frame arrived at a port of the record `words`, was answered with r and left the record as `after`.
-pub data Arrived : (words : List ℕ) (port id : ℕ) (bytes : List ℕ) (r : FrameAnswer) (after : List ℕ) → Type 0 where
-  arrived : (κs : Lfts 2) (w w′ b b′ : RefT (List ℕ)) (port id : ℕ) (r : FrameAnswer)
-      → (frame.Pre κs (w, (port, (id, (b, tt)))) → frame.Post κs (w, (port, (id, (b, tt)))) r (w′, (port, (id, (b′, tt)))))
-      → Arrived (w .now) port id (b .now) r (w′ .now)
-
--- A message was handed in with a reply buffer `lent`, was answered with r and left the record as `after` and the buffer as `back`.
-pub data Handed : (words : List ℕ) (port requester : ℕ) (payload lent : List ℕ) (r : MessageAnswer) (after back : List ℕ) → Type 0 where
-  handed : (κs : Lfts 3) (w w′ p p′ b b′ : RefT (List ℕ)) (port requester : ℕ) (r : MessageAnswer)
-      → (message.Pre κs (w, (port, (requester, (p, (b, tt)))))
-      → message.Post κs (w, (port, (requester, (p, (b, tt))))) r (w′, (port, (requester, (p′, (b′, tt))))))
-      → Handed (w .now) port requester (p .now) (b .now) r (w′ .now) (b′ .now)
+use Rattle.message_answers.specs.declared.MessageAnswer.{MessageAnswer}
+use Rattle.unit.specs.declared.Claim.the-variants.{Claimed}
+use Rattle.unit.specs.Ports.{bitAt}
+use Rattle.unit.specs.Model.{Rest, rowAt, pairAt, modelOf, recordLength}
+use Rattle.bridge.specs.Calls.{frameOf}
+use Rattle.unit.specs.Own.{framesSent}
+use Rattle.bridge.specs.Calls.{Call, frameDone, next}
+use Rattle.unit.specs.PowerOn.{fresh}
+use Rattle.assurance.specs.Made.{Arrived, Handed}
 
 -- what a record means besides its rows
 abbrev pub restOf : List ℕ → Rest

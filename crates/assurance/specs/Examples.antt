@@ -11,10 +11,11 @@ use Rattle.queue.specs.declared.Frame.{Frame}
 use Rattle.queue.specs.Queue.{priority}
 use Rattle.filter.specs.Filter.{Filter, pass, clear}
 use Rattle.addresses.specs.declared.Place.the-variants.{Free}
-use Rattle.bridge.specs.declared.unit.Claim.the-variants.{Claimed}
-use Rattle.bridge.specs.Model.{Model}
-use Rattle.bridge.specs.Forwarding.{frameOf}
-use Rattle.bridge.specs.Messages.{Replied, messaged}
+use Rattle.unit.specs.declared.Claim.the-variants.{Claimed}
+use Rattle.unit.specs.Model.{Model}
+use Rattle.bridge.specs.Calls.{frameOf}
+use Rattle.message_answers.specs.Messages.{Replied}
+use Rattle.bridge.specs.Calls.{messaged}
 use Rattle.bridge.specs.Calls.{framePassed}
 use Rattle.identifier.specs.Identifier.{priorityOf, pgnOf, destinationOf, tooWide, wrongSource}
 

@@ -6,10 +6,10 @@ use mathlib.Core.Path.{_≡_}
 use mathlib.Core.List.{List}
 use lib.ListN.{length}
 use Rattle.queue.specs.declared.Taken.the-variants.{Given, Nothing}
+use Rattle.unit.specs.Model.{modelOf}
 use Rattle.bridge.specs.declared.FrameAnswer.{FrameAnswer}
 use Rattle.bridge.specs.declared.TakeAnswer.{TakeAnswer}
 use Rattle.bridge.specs.declared.TakeAnswer.the-variants.{Refused, Took}
-use Rattle.bridge.specs.Model.{modelOf}
 use Rattle.bridge.specs.Calls.{FrameIn, TakeOut, Calling, frameAnswer, takeAnswer}
 use Rattle.bench_bridge.specs.declared.FrameC.{FrameC}
 use Rattle.bench_bridge.specs.declared.TakeC.{TakeC}

@@ -5,23 +5,21 @@ use mathlib.Core.List.{List, []}
 use Prim.Native.Nat.{ℕ, _-_}
 use native.Mathlib.Omega.{arith}
 use borrow.Author.Tests.{eq-eqb, ne-eqb}
-use lib.ListN.{length, replicate}
+use lib.ListN.{length}
 use Rattle.delivery.specs.Row.{pull, kept}
 use Rattle.queue.specs.declared.Taken.{Taken}
 use Rattle.queue.specs.Queue.{priority}
-use Rattle.bridge.specs.declared.unit.Claim.the-variants.{Claimed}
-use Rattle.bridge.specs.declared.unit.Sent.{Sent}
-use Rattle.bridge.specs.declared.unit.Unit.{Unit}
+use Rattle.unit.specs.declared.Claim.the-variants.{Claimed}
+use Rattle.unit.specs.declared.Unit.{Unit}
 use Rattle.bridge.specs.declared.TakeAnswer.{TakeAnswer}
-use Rattle.bridge.specs.Model.{modelOf, recordLength, withOwn, withRest}
-use Rattle.bridge.specs.Refusals.{isClaiming, powerOnRefusal, takeRefusal, quietRefusal}
-use Rattle.bridge.specs.Claims.{freshUnit, moved}
-use Rattle.bridge.specs.Calls.{Call, refusal, restAfter, asks, sends, performed, next, takeAnswer, PoweringOn, Calling, TakingOut, Quieting}
-use Rattle.bridge.specs.Steps.{RowTaking, announcedTo, unsentTo, Announcing}
-use Rattle.bridge.proofs.Ports.{each-none, each-one, mask-none}
-use Rattle.bridge.proofs.Regions.{rows-four}
-use Rattle.bridge.proofs.Own.{wiped}
-use Rattle.bridge.proofs.Checks.{take-goes}
+use Rattle.unit.specs.Model.{modelOf, recordLength, withOwn, withRest}
+use Rattle.unit.specs.Own.{isClaiming, moved}
+use Rattle.refusals.specs.Refusals.{takeRefusal, quietRefusal}
+use Rattle.bridge.specs.Calls.{Call, refusal, restAfter, asks, sends, performed, next, takeAnswer, Calling, TakingOut, Quieting}
+use Rattle.record.specs.Steps.{RowTaking}
+use Rattle.unit.proofs.Ports.{each-none, each-one}
+use Rattle.record.proofs.Regions.{rows-four}
+use Rattle.refusals.proofs.Checks.{take-goes}
 
 -- ---- any call
 module _ {words : List ℕ} {k : Call} where
@@ -39,27 +37,6 @@ module _ {words : List ℕ} {k : Call} where
     long = long;
     state = rw (eq-eqb (refusal 4 (length words) (modelOf 4 words .rest) k) 0 done) state;
     refused = λ h. absurd (h done);
-  }
-
--- ---- power-on
-module _ {words : List ℕ} {name preferred : ℕ} where
-  pub powered : {zeros after : List ℕ} {u : Unit} → length words ≡ recordLength 4 → length after ≡ length words → zeros ≡ replicate (length words) 0
-      → u ≡ freshUnit name preferred → modelOf 4 after ≡ withRest (modelOf 4 zeros) (withOwn (modelOf 4 zeros .rest) u) → PoweringOn 4 words after name preferred 0
-  unfolding powerOnRefusal
-  powered full long z u state = record {
-    long = long;
-    answer = rw (eq-eqb (length words) (recordLength 4) full);
-    state = λ _. state ∙ rw (z, u) (wiped (length words) (freshUnit name preferred) full);
-    refused = λ h. absurd (h refl);
-  }
-
-  pub not-powered : (length words ≡ recordLength 4 → ⊥) → PoweringOn 4 words words name preferred 2
-  unfolding powerOnRefusal
-  not-powered h = record {
-    long = refl;
-    answer = rw (ne-eqb (length words) (recordLength 4) h);
-    state = λ z. absurd (omega arith);
-    refused = λ _. refl;
   }
 
 -- ---- take
@@ -121,11 +98,3 @@ module _ {words : List ℕ} where
               (state ∙ rw (u, each-none 4 (modelOf 4 words .rows)));
           answer = e;
         }
-
--- ---- the unit's own frame, where it sends none
-pub told-nothing : {words : List ℕ} {s : Sent} → s ≡ Sent.Nothing → Announcing 4 words words s 0
-unfolding announcedTo unsentTo
-told-nothing {words} e = record {
-  answer = rw (e, mask-none 4);
-  state = rw (e, each-none 4 (modelOf 4 words .rows));
-}

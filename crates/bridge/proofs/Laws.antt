@@ -5,11 +5,12 @@ use mathlib.Core.List.{[]}
 use Prim.Native.Nat.{ℕ, _-_, _<_}
 use borrow.Author.Tests.{eq-eqb}
 use Rattle.queue.specs.declared.Frame.{Frame}
-use Rattle.bridge.specs.Ports.{bitAt}
-use Rattle.bridge.specs.Model.{Rest, Model, rowAt}
-use Rattle.bridge.specs.Forwarding.{verdict, offered, consumes, silent, sentIf, accepts, loses}
-use Rattle.bridge.specs.Calls.{framePassed}
-use Rattle.bridge.proofs.Ports.{mask-bit}
+use Rattle.unit.specs.Ports.{bitAt}
+use Rattle.unit.specs.Model.{Rest, Model, rowAt}
+use Rattle.forwarding.specs.Forwarding.{verdict, silent, sentIf, accepts, loses}
+use Rattle.bridge.specs.Calls.{offered, framePassed}
+use Rattle.unit.specs.Own.{consumes}
+use Rattle.unit.proofs.Ports.{mask-bit}
 
 -- "No frame is sent back to its arrival port": the pair from a port to itself is never asked
 pub not-offered-back : (ports : ℕ) (rest : Rest) (p id : ℕ) → offered ports rest p id p ≡ silent

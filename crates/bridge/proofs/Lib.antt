@@ -1,13 +1,4 @@
-pub mod Ports
-pub mod Regions
-pub mod Own
-pub mod Sends
-pub mod Loop
-pub mod Checks
 pub mod Answers
-pub mod Acts
 pub mod Passes
-pub mod PartLaws
 pub mod Laws
-pub mod PairLoop
 pub mod MessageLaws

@@ -15,18 +15,21 @@ use Rattle.queue.specs.declared.Frame.{Frame}
 use Rattle.queue.specs.Queue.{size}
 use Rattle.bridge.specs.declared.FrameAnswer.{FrameAnswer}
 use Rattle.bridge.specs.declared.Response.{Response}
-use Rattle.bridge.specs.declared.forward.Share.{Share}
-use Rattle.bridge.specs.declared.claims.Acted.{Acted as Done}
-use Rattle.bridge.specs.Ports.{each, mask}
-use Rattle.bridge.specs.Model.{modelOf, recordLength, rowAt, withRows}
-use Rattle.bridge.specs.Refusals.{startChecks, frameRefusal, startRefusal}
+use Rattle.forwarding.specs.declared.Share.{Share}
+use Rattle.claims.specs.declared.Acted.{Acted as Done}
+use Rattle.unit.specs.Ports.{each, mask}
+use Rattle.unit.specs.Model.{modelOf, recordLength, rowAt, withRows}
+use Rattle.unit.specs.Own.{startChecks, consumes, framesSent}
+use Rattle.refusals.specs.Refusals.{frameRefusal, startRefusal}
 use Rattle.network_message.specs.Checks.{first}
-use Rattle.bridge.specs.Forwarding.{frameOf, consumes, verdict, offered, sentIf}
-use Rattle.bridge.specs.Claims.{Acted, framesSent, frameActed, started}
-use Rattle.bridge.specs.Calls.{refusal, restAfter, asks, sends, performed, losesOwn, frameRefused, framePassed, frameAnswer, startAnswer, Framing, Starting}
-use Rattle.bridge.specs.Steps.{forwardedTo, sharesTo, Forwarding, announcedTo, unsentTo, Announcing, Acting, Responding, Passing}
-use Rattle.bridge.proofs.Ports.{each-at, each-same, each-twice, mask-same, mask-none, total-none}
-use Rattle.bridge.proofs.Regions.{rows-four}
+use Rattle.bridge.specs.Calls.{frameOf, offered, refusal, restAfter, asks, sends, performed, frameRefused, framePassed, frameAnswer, startAnswer, Framing, Starting}
+use Rattle.forwarding.specs.Forwarding.{verdict, sentIf, losesOwn}
+use Rattle.claims.specs.Claims.{Acted, frameActed, started}
+use Rattle.forwarding.specs.Steps.{forwardedTo, sharesTo, Forwarding, announcedTo, unsentTo, Announcing}
+use Rattle.claims.specs.Steps.{Acting}
+use Rattle.bridge.specs.Steps.{Responding, Passing}
+use Rattle.unit.proofs.Ports.{each-at, each-same, each-twice, mask-same, mask-none, total-none}
+use Rattle.record.proofs.Regions.{rows-four}
 use Rattle.bridge.proofs.Answers.{call-refused, call-done}
 
 -- frames sent one after the other

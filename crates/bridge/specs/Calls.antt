@@ -2,33 +2,34 @@
 -- `next` is fed the calls' arguments alone. `lent` is the length of the record that was lent.
 -- Assumes nothing.
 use Prim.Native.Nat.{ℕ, _+_, _-_, _*_}
-use mathlib.Core.Bool.{Bool, false, not, cond}
+use mathlib.Core.Bool.{false, cond}
 use mathlib.Core.Path.{_≡_}
 use mathlib.Core.List.{List, [], _++_}
 use mathlib.Core.Option.{Option, none, some}
-use lib.ListN.{length, take, drop, replicate}
+use lib.ListN.{length, take, drop}
 use lib.Dec.{eqb}
-use Rattle.delivery.specs.Row.{room, pull, given}
+use Rattle.storage.specs.Bytes.{packed}
+use Rattle.identifier.specs.Identifier.{pgnOf}
+use Rattle.delivery.specs.Row.{pull, given}
 use Rattle.delivery.specs.Unit.{joinAll, rowNext}
-use Rattle.filter.specs.Filter.{clear}
+use Rattle.filter.specs.declared.Asked.{Asked}
+use Rattle.filter.specs.Filter.{Filter}
 use Rattle.queue.specs.declared.Frame.{Frame}
-use Rattle.queue.specs.Queue.{size, priority, takenOf}
-use Rattle.queue.specs.Queue.{blockLength as queueLength}
-use Rattle.addresses.specs.declared.Place.the-variants.{Free}
+use Rattle.queue.specs.Queue.{size, priority, takenOf, blockLength as queueLength}
 use Rattle.addresses.specs.declared.Event.{Event}
-use Rattle.addresses.specs.Table.{places}
-use Rattle.bridge.specs.declared.unit.Claim.the-variants.{Claimed}
-use Rattle.bridge.specs.declared.unit.Sent.{Sent}
+use Rattle.network_message.specs.Decoding.{decoded}
+use Rattle.unit.specs.declared.Claim.the-variants.{Claimed}
+use Rattle.unit.specs.Ports.{each, mask, total}
+use Rattle.unit.specs.Model.{Rest, Model, rowAt, withOwn, withPairs, rowsFrom, modelOf}
+use Rattle.unit.specs.Own.{consumes, moved, framesSent}
+use Rattle.forwarding.specs.Forwarding.{sentIf, accepts, loses, losesOwn, silent, verdict}
+use Rattle.claims.specs.Claims.{Acted, frameActed, started}
+use Rattle.message_answers.specs.declared.MessageAnswer.{MessageAnswer}
+use Rattle.message_answers.specs.Messages.{Replied, messageAnswer, performedBy}
+use Rattle.refusals.specs.Refusals.{frameRefusal, takeRefusal, startRefusal, quietRefusal, messageRefusal}
 use Rattle.bridge.specs.declared.FrameAnswer.{FrameAnswer}
 use Rattle.bridge.specs.declared.TakeAnswer.{TakeAnswer}
-use Rattle.bridge.specs.declared.MessageAnswer.{MessageAnswer}
 use Rattle.bridge.specs.declared.StartAnswer.{StartAnswer}
-use Rattle.bridge.specs.Ports.{each, mask, total}
-use Rattle.bridge.specs.Model.{Rest, Model, rowAt, withOwn, withPairs, rowsFrom, modelOf}
-use Rattle.bridge.specs.Refusals.{powerOnRefusal, frameRefusal, takeRefusal, startRefusal, quietRefusal}
-use Rattle.bridge.specs.Forwarding.{frameOf, consumes, offered, sentIf, accepts, loses}
-use Rattle.bridge.specs.Messages.{Replied, messaged}
-use Rattle.bridge.specs.Claims.{freshUnit, moved, framesSent, Acted, frameActed, started}
 
 -- a call, by its arguments
 pub data Call : Type 0 where
@@ -37,6 +38,26 @@ pub data Call : Type 0 where
   Message : (port requester : ℕ) (payload : List ℕ) (lentReply : ℕ) → Call
   Start : Call
   Quiet : Call
+
+-- ---- a frame
+-- a frame as it is handed in
+abbrev pub frameOf : ℕ → List ℕ → Frame
+frameOf id bytes = record { id = id; len = length bytes; bytes = packed bytes }
+
+-- what is answered for port q: the pair is asked (rule 2), but a consumed frame is not forwarded (rule 1)
+unfoldable pub offered : ℕ → Rest → ℕ → ℕ → ℕ → Asked
+offered ports rest p id q = cond (consumes (rest .own) id) silent (verdict ports (rest .pairs) p (pgnOf id) q)
+
+-- ---- a message
+-- nothing is written for 1 to 8
+abbrev pub silentReply : ℕ → List Filter → Replied
+silentReply number pairs = record { number = number; pairs = pairs; pgn = 0; written = [] }
+
+unfoldable pub messaged : ℕ → ℕ → ℕ → Rest → ℕ → ℕ → List ℕ → Replied
+messaged ports lent lentReply rest port requester payload =
+    cond (eqb (messageRefusal ports lent lentReply rest port requester (length payload)) 0)
+    (performedBy ports rest requester payload (decoded ports port payload))
+    (silentReply (messageRefusal ports lent lentReply rest port requester (length payload)) (rest .pairs))
 
 -- ---- what a call does
 -- the number that it is refused with, 0 where it is not
@@ -90,11 +111,6 @@ unfoldable pub next : ℕ → ℕ → Model → Call → Model
 next ports lent m k = cond (eqb (refusal ports lent (m .rest) k) 0) (performed ports lent m k) m
 
 -- ---- what a call answers
--- whether the unit's own frame is lost at a row
-abbrev pub losesOwn : Sent → List Frame → Bool
-losesOwn Sent.Nothing row = false
-losesOwn (Sent.One f) row = not (room size row)
-
 -- "A refused frame has no ports, no event, is not consumed and compares 0."
 abbrev pub frameRefused : ℕ → FrameAnswer
 frameRefused number = record {
@@ -141,19 +157,6 @@ startAnswer ports lent m =
     (record { refusal = startRefusal ports lent (m .rest .own); unsent = 0 })
 
 -- ---- the contracts
--- power-on: every pair cleared, every queue empty, the table empty, the unit Unstarted
-abbrev pub fresh : ℕ → ℕ → ℕ → Model
-fresh ports name preferred = record {
-  rest = record { own = freshUnit name preferred; pairs = replicate (ports * (ports - 1)) clear; table = replicate places Free };
-  rows = replicate ports [];
-}
-
-pub record PoweringOn (ports : ℕ) (before after : List ℕ) (name preferred r : ℕ) : Type 0 where
-  pub long : length after ≡ length before
-  pub answer : r ≡ powerOnRefusal ports (length before)
-  pub state : r ≡ 0 → modelOf ports after ≡ fresh ports name preferred
-  pub refused : (r ≡ 0 → ⊥) → after ≡ before
-
 -- a call k on the record
 pub record Calling (ports : ℕ) (before after : List ℕ) (k : Call) : Type 0 where
   pub long : length after ≡ length before
@@ -175,10 +178,6 @@ pub record TakingOut (ports : ℕ) (before after : List ℕ) (port : ℕ) (r : T
   pub answer : r ≡ takeAnswer ports (length before) (modelOf ports before) port
   pub ahead : take (queueAt ports port) after ≡ take (queueAt ports port) before
   pub behind : drop (queueAt ports port + queueLength) after ≡ drop (queueAt ports port + queueLength) before
-
--- "The answer gives the PGN and the length of what was written, 0 and 0 for nothing; buffer bytes past that length are untouched."
-abbrev pub messageAnswer : Replied → MessageAnswer
-messageAnswer r = record { refusal = r .number; pgn = r .pgn; length = length (r .written) }
 
 pub record Messaging (ports : ℕ) (before after : List ℕ) (port requester : ℕ) (payload lent back : List ℕ) (r : MessageAnswer) : Type 0 where
   pub call : Calling ports before after (Message port requester payload (length lent))

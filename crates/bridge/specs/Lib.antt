@@ -1,9 +1,2 @@
-pub mod Ports
-pub mod Model
-pub mod Refusals
-pub mod Forwarding
-pub mod Claims
-pub mod Messages
 pub mod Calls
 pub mod Steps
-pub mod Parts

@@ -1,27 +1,19 @@
 // The unit: a bridge of four ports on one record that the caller lends. No function requires anything of its caller: what is wrong is refused by a
 // number, and a refusal changes nothing.
-mod claims;
-mod forward;
-mod messages;
-mod pairs;
-pub mod parts;
-mod record;
-mod refusals;
-pub mod unit;
-
 use addresses::Event;
+pub use message_answers::MessageAnswer;
 use queue::Frame;
 use queue::Taken;
 use unit::Claim;
-use unit::Unit;
+pub use unit::Unit;
 ghost use mathlib.Core.Path.{_≡_};
 ghost use mathlib.Core.Bool.{true, false};
 ghost use Prim.Native.Nat.{_≤_, _<_};
 ghost use lib.ListN.{length};
 ghost use Rattle.identifier.specs.Identifier.{saOf};
-ghost use Rattle.bridge.specs.Model.{modelOf, recordLength};
-ghost use Rattle.bridge.specs.Forwarding.{consumes};
-ghost use Rattle.bridge.specs.Claims.{frameActed};
+ghost use Rattle.unit.specs.Model.{modelOf, recordLength};
+ghost use Rattle.unit.specs.Own.{consumes};
+ghost use Rattle.claims.specs.Claims.{frameActed};
 ghost use Rattle.bridge.specs.Calls.{frameRefused, Framing, TakingOut, Messaging, Starting, Quieting};
 ghost use Rattle.bridge.specs.Steps.{Responding, Passing};
 
@@ -48,13 +40,6 @@ pub struct StartAnswer {
     pub unsent: u32,
 }
 
-// What was written to the reply buffer: the PGN and the length, 0 and 0 for nothing; and the number that refused the message, or 0.
-pub struct MessageAnswer {
-    pub refusal: u32,
-    pub pgn: u32,
-    pub length: u32,
-}
-
 // The claim event, and the ports where the unit's own frame was lost.
 struct Response {
     event: Event,
@@ -69,7 +54,7 @@ fn respond(words: &mut [u64], port: u64, consumed: bool, f: Frame) -> Response
     let a = claims::act(words, port, consumed, f);
     let event = a.event;
     let sent = a.sent;
-    let unsent = forward::announce(words, sent);
+    let unsent = forwarding::announce(words, sent);
     Response { event, unsent }
 }
 
@@ -97,7 +82,7 @@ fn carry(words: &mut [u64], port: u32, f: Frame) -> FrameAnswer
     ensures { λ r. ⌜ Passing 4 (now (words .entry)) (now (words .exit)) port f r ⌝ }
 {
     let from = port as usize - 1;
-    let s = forward::forward(words, from, identifier::pgn(f.id), f);
+    let s = forwarding::forward(words, from, identifier::pgn(f.id), f);
     let r = respond(words, port as u64, false, f);
     let event = r.event;
     FrameAnswer {
@@ -116,7 +101,7 @@ fn pass(words: &mut [u64], port: u32, f: Frame) -> FrameAnswer
     requires { ⌜ (length (now words) ≡ recordLength 4) × (1 ≤ port) × (port ≤ 4) × (saOf (f .id) < 255) ⌝ }
     ensures { λ r. ⌜ Passing 4 (now (words .entry)) (now (words .exit)) port f r ⌝ }
 {
-    let unit = record::read_unit(words);
+    let unit = unit::read_unit(words);
     if unit.consumes(f.id) {
         return consume(words, port, f);
     }
@@ -179,7 +164,7 @@ pub fn start(words: &mut [u64]) -> StartAnswer
             unsent: 0,
         };
     }
-    let unit = record::read_unit(words);
+    let unit = unit::read_unit(words);
     let number = unit.start_refusal();
     if number != 0 {
         return StartAnswer {
@@ -189,7 +174,7 @@ pub fn start(words: &mut [u64]) -> StartAnswer
     }
     let a = claims::start(words);
     let sent = a.sent;
-    let unsent = forward::announce(words, sent);
+    let unsent = forwarding::announce(words, sent);
     StartAnswer { refusal: 0, unsent }
 }
 
@@ -200,11 +185,11 @@ pub fn quiet(words: &mut [u64]) -> u32
     if words.len() != Unit::RECORD_LENGTH {
         return 2;
     }
-    let unit = record::read_unit(words);
+    let unit = unit::read_unit(words);
     let claim = unit.claim;
     if claim.is_claiming() {
         let claimed = unit.moved(Claim::Claimed, unit.address);
-        record::store_unit(words, claimed);
+        unit::store_unit(words, claimed);
         return 0;
     }
     18
@@ -220,7 +205,7 @@ pub fn message(
 ) -> MessageAnswer
     ensures { λ r. ⌜ Messaging 4 (now (words .entry)) (now (words .exit)) port requester (now (payload .entry)) (now (reply .entry)) (now (reply .exit)) r ⌝ }
 {
-    let number = messages::refusal(words, port, requester, payload.len(), reply.len());
+    let number = refusals::message_refusal(words, port, requester, payload.len(), reply.len());
     if number != 0 {
         return MessageAnswer {
             refusal: number,
@@ -229,5 +214,5 @@ pub fn message(
         };
     }
     let command = network_message::decode(port, payload);
-    messages::perform(words, requester, payload, command, reply)
+    message_answers::perform(words, requester, payload, command, reply)
 }

@@ -2,7 +2,7 @@
 use addresses::Event;
 use bridge::FrameAnswer;
 use bridge::TakeAnswer;
-use bridge::unit::Unit;
+use bridge::Unit;
 use libc::STDOUT_FILENO;
 use queue::Frame;
 use queue::Taken;

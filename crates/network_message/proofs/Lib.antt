@@ -1,7 +1,7 @@
 -- the checks
 mod Keys
 mod Naming
-mod Passing
+pub mod Passing
 -- what is decoded
 pub mod Rights
 pub mod Decoding

@@ -2,7 +2,7 @@
 use mathlib.Core.Path.{refl, sym, _∙_}
 use native.Mathlib.Omega.{arith}
 use lib.ListN.{length}
-use Rattle.bridge.proofs.Checks.{frame-goes}
+use Rattle.refusals.proofs.Checks.{frame-goes}
 use Rattle.bridge.proofs.Passes.{frame-is, frame-refused, frame-passed}
 use borrow.Author.Needs.{needs}
 use Rattle.bridge.proofs.frame.Statement.{statement}

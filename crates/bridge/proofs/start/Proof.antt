@@ -1,7 +1,7 @@
 -- `bridge::start` meets its contract, by the way that the code went. Assumes nothing.
 use mathlib.Core.Path.{sym, _∙_}
 use native.Mathlib.Omega.{arith}
-use Rattle.bridge.proofs.Checks.{start-goes}
+use Rattle.refusals.proofs.Checks.{start-goes}
 use Rattle.bridge.proofs.Passes.{start-short, start-refused, start-done}
 use borrow.Author.Needs.{needs}
 use Rattle.bridge.proofs.start.Statement.{statement}

@@ -2,7 +2,7 @@
 use mathlib.Core.Path.{sym, _∙_}
 use native.Mathlib.Omega.{arith}
 use lib.ListN.{length}
-use Rattle.bridge.proofs.Checks.{take-goes}
+use Rattle.refusals.proofs.Checks.{take-goes}
 use Rattle.bridge.proofs.Answers.{take-refused, taken}
 use borrow.Author.Needs.{needs}
 use Rattle.bridge.proofs.take.Statement.{statement}

@@ -1,0 +1,38 @@
+-- Document 01, "Forwarding", rules 2, 3 and 5, at each port by itself.
+-- Assumes nothing.
+use Prim.Native.Nat.{ℕ}
+use mathlib.Core.Bool.{Bool, false, not, _&&_, cond}
+use mathlib.Core.List.{List, [], _∷_}
+use lib.ListN.{getD}
+use lib.Dec.{eqb}
+use Rattle.delivery.specs.Row.{room}
+use Rattle.filter.specs.declared.Asked.{Asked}
+use Rattle.filter.specs.Filter.{Filter, clear, asked}
+use Rattle.queue.specs.declared.Frame.{Frame}
+use Rattle.queue.specs.Queue.{size}
+use Rattle.unit.specs.declared.Sent.{Sent}
+use Rattle.unit.specs.Model.{pairAt}
+
+-- ---- rule 2, and what rule 5 counts: what is answered for port q
+-- where no pair is asked: nothing crosses and nothing is compared
+abbrev pub silent : Asked
+silent = record { permitted = false; compared = 0 }
+
+-- the pair p to q is asked; the arrival port is no target
+unfoldable pub verdict : ℕ → List Filter → ℕ → ℕ → ℕ → Asked
+verdict ports pairs p pgn q = cond (eqb p q) silent (asked (getD pairs (pairAt ports p q) clear) pgn)
+
+-- ---- rule 3: what is sent to port q, and whether it is accepted or lost there
+abbrev pub sentIf : Asked → Frame → List Frame
+sentIf v f = cond (v .permitted) (f ∷ []) []
+
+abbrev pub accepts : Asked → List Frame → Bool
+accepts v row = v .permitted && room size row
+
+abbrev pub loses : Asked → List Frame → Bool
+loses v row = v .permitted && not (room size row)
+
+-- whether the unit's own frame is lost at a row
+abbrev pub losesOwn : Sent → List Frame → Bool
+losesOwn Sent.Nothing row = false
+losesOwn (Sent.One f) row = not (room size row)

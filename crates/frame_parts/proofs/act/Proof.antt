@@ -1,0 +1,37 @@
+-- `frame_parts::act` meets its contract, by the way that the code went. Assumes nothing.
+use mathlib.Core.Path.{sym, _∙_}
+use native.Mathlib.Omega.{arith}
+use lib.ListN.{length}
+use Rattle.frame_parts.proofs.Laws.{act-goes, act-refused, acted}
+use borrow.Author.Needs.{needs}
+use Rattle.frame_parts.proofs.act.Statement.{statement}
+use Rattle.frame_parts.proofs.act.Tie as tie
+
+act-refusal-requires : tie.Need-act-refusal-requires
+act-refusal-requires c κs = search needs
+
+returns : tie.Need-returns
+returns c =
+    let at = c .before in
+    let args = at .before .before .args in
+    act-refused (args .port) (args .consumed) (args .f) (at .act-refusal .ensures) (c .if1 .taken)
+
+act-requires : tie.Need-act-requires
+act-requires c κs =
+    let at = c .before .before in
+    let args = at .before .before .args in
+    let G = act-goes (length (args .words .now)) (args .port) (args .f .id) (sym (at .act-refusal .ensures) ∙ c .before .if1 .left) in
+    (G .0, G .1)
+
+same-length : tie.Need-same-length
+same-length c = search needs
+
+returns-2 : tie.Need-returns-2
+returns-2 c =
+    let at-act = c .before .before in
+    let at = at-act .before .before .before in
+    let args = at .before .before .args in
+    acted (args .port) (args .consumed) (args .f) (at .act-refusal .ensures) (at-act .before .before .if1 .left) (omega arith) (at-act .act .ensures)
+
+pub act-spec : {M : Type 1} → statement M
+act-spec = tie.close (tie.spec act-refusal-requires returns act-requires same-length returns-2)

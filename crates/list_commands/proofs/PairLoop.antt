@@ -1,0 +1,142 @@
+-- The pairs from a port: one after the other, asked or changed, and the law that only the named ones change. Assumes nothing.
+use mathlib.Core.Path.{_≡_, refl, sym, ap, _∙_}
+use mathlib.Core.Bool.{Bool, true, false, _||_}
+use mathlib.Core.List.{List, [], _∷_, _++_}
+use Prim.Native.Nat.{ℕ, zero, suc, _+_, _-_, _≤_, _<_}
+use native.Mathlib.Decide.{ℕ-discrete}
+use native.Mathlib.Numerals.{add-one}
+use native.Mathlib.Omega.{arith}
+use borrow.Author.Tests.{eq-eqb, ne-eqb, lt-ltb, le-ltb}
+use lib.ListN.{length, getD, set, take, drop, length-drop, take-append-drop}
+use lib.Seq.{length-take-le, getD-append-add, set-getD}
+use lib.Dec.{eqb}
+use Rattle.storage.proofs.Blocks.{length-blocks}
+use Rattle.filter.specs.Filter.{Filter, filterOf, clear}
+use Rattle.record.specs.declared.pairs.Change.{Change}
+use Rattle.unit.specs.Ports.{each}
+use Rattle.unit.specs.Model.{modelOf, recordLength, withRest, withPairs}
+use Rattle.list_commands.specs.Commands.{firstPair, names, anyBelow, changeNamed, changeAt, listRefusal, commanded}
+use Rattle.record.specs.Pairs.{changeOf}
+use Rattle.record.specs.Steps.{PairChanging}
+use Rattle.list_commands.specs.Steps.{PairsChanging, Commanding}
+use Rattle.unit.proofs.Ports.{each-step}
+
+pub pairs-twelve : (words : List ℕ) → length (modelOf 4 words .rest .pairs) ≡ 12
+unfolding modelOf
+pairs-twelve words = length-blocks filterOf 34 4 12 words
+
+-- ---- whether the kth pair is named
+pub named-all : (from to k : ℕ) → to ≡ 15 → true ≡ names from to k
+unfolding names
+named-all from to k e = rw (eq-eqb to 15 e)
+
+pub named-lower : (from to k : ℕ) → (to ≡ 15 → ⊥) → k < from - 1 → eqb to (k + 1) ≡ names from to k
+unfolding names
+named-lower from to k h l = rw (ne-eqb to 15 h, lt-ltb k (from - 1) l, add-one k)
+
+pub named-upper : (from to k : ℕ) → (to ≡ 15 → ⊥) → from - 1 ≤ k → eqb to (k + 2) ≡ names from to k
+unfolding names
+named-upper from to k h l =
+    let e : k + 2 ≡ suc (suc k) = omega arith in
+    rw (ne-eqb to 15 h, le-ltb k (from - 1) l, e)
+
+-- ---- asking: no pair before k had the answer yes
+module _ (test : ℕ → Bool) where
+  pub any-none : false ≡ anyBelow test 0
+  unfolding anyBelow
+  any-none = refl
+
+  or-true : (b : Bool) → true ≡ b || true
+  or-true true = refl
+  or-true false = refl
+
+  -- one that holds is enough
+  pub any-found : (n k : ℕ) → k < n → test k ≡ true → true ≡ anyBelow test n
+  unfolding anyBelow
+  any-found zero k l h = absurd (omega arith)
+  any-found (suc n) k l h =
+      elim (ℕ-discrete k n) [
+        | yes e ↦ rw (← e, h) (or-true (anyBelow test k))
+        | no ne ↦ rw (← (any-found n k (omega arith) h))
+      ]
+
+  pub any-more : (k : ℕ) → false ≡ anyBelow test k → test k ≡ false → false ≡ anyBelow test (k + 1)
+  unfolding anyBelow
+  any-more k h e = rw (add-one k, ← h, e)
+
+-- ---- changing: the first n pairs from a port, of which those named are changed
+module _ {A : Type 0} where
+  set-after : (xs ys : List A) (n : ℕ) (v : A) → set (xs ++ ys) (length xs + n) v ≡ xs ++ set ys n v
+  set-after [] ys n v = let e : 0 + n ≡ n = omega arith in rw e
+  set-after (x ∷ xs) ys n v = let e : suc (length xs) + n ≡ suc (length xs + n) = omega arith in rw e (ap {B = List A} (λ l. x ∷ l) (set-after xs ys n v))
+
+module _ (from to : ℕ) (change : Filter → Filter) (pairs : List Filter) (long : length pairs ≡ 12) (low : 1 ≤ from) (high : from ≤ 4) where
+  head-long : length (take (firstPair 4 from) pairs) ≡ firstPair 4 from
+  head-long = length-take-le (firstPair 4 from) pairs (omega arith)
+
+  pub change-none : changeNamed 4 0 change from to pairs ≡ pairs
+  unfolding changeNamed each
+  change-none = take-append-drop (firstPair 4 from) pairs
+
+  -- the pair that is next is as it was
+  next-still : (n : ℕ) → getD (changeNamed 4 n change from to pairs) (firstPair 4 from + n) clear ≡ getD (each (changeAt change from to) n (drop (firstPair 4 from) pairs)) n clear
+  unfolding changeNamed
+  next-still n = by-length (firstPair 4 from) head-long
+    where
+      by-length : (s : ℕ) → length (take (firstPair 4 from) pairs) ≡ s
+          → getD (take (firstPair 4 from) pairs ++ each (changeAt change from to) n (drop (firstPair 4 from) pairs)) (s + n) clear ≡ getD (each (changeAt change from to) n (drop (firstPair 4 from) pairs)) n clear
+      by-length s e = rw (← e) (getD-append-add (take (firstPair 4 from) pairs) (each (changeAt change from to) n (drop (firstPair 4 from) pairs)) n clear)
+
+  change-at : (n : ℕ) → n < 3 → set (changeNamed 4 n change from to pairs) (firstPair 4 from + n) (changeAt change from to n (getD (changeNamed 4 n change from to pairs) (firstPair 4 from + n) clear)) ≡ changeNamed 4 (n + 1) change from to pairs
+  unfolding changeNamed
+  change-at n l = rw (next-still n) (by-length (firstPair 4 from) head-long)
+    where
+      by-length : (s : ℕ) → length (take (firstPair 4 from) pairs) ≡ s
+          → set (changeNamed 4 n change from to pairs) (s + n) (changeAt change from to n (getD (each (changeAt change from to) n (drop (firstPair 4 from) pairs)) n clear)) ≡ changeNamed 4 (n + 1) change from to pairs
+      by-length s e =
+          rw (← e)
+          (set-after (take (firstPair 4 from) pairs) (each (changeAt change from to) n (drop (firstPair 4 from) pairs)) n (changeAt change from to n (getD (each (changeAt change from to) n (drop (firstPair 4 from) pairs)) n clear))
+          ∙ ap {B = List Filter} (λ l. take (firstPair 4 from) pairs ++ l)
+          (each-step (changeAt change from to) n (drop (firstPair 4 from) pairs) clear (simp length-drop (omega arith))))
+
+-- one pair: changed where it is named, else as it was
+module _ {words : List ℕ} (from to k : ℕ) (change : Filter → Filter) where
+  pub one-named : {after : List ℕ} {i : ℕ} {b : Bool} → b ≡ names from to k → b ≡ true → i ≡ firstPair 4 from + k → PairChanging 4 words after i change → PairChanging 4 words after (firstPair 4 from + k) (changeAt change from to k)
+  one-named n t e P = record { state = rw (← n, t) (rw e at (P .state)) }
+
+  pub one-passed : {b : Bool} → b ≡ names from to k → b ≡ false → PairChanging 4 words words (firstPair 4 from + k) (changeAt change from to k)
+  one-passed n f = record { state = rw (← n, f, set-getD (modelOf 4 words .rest .pairs) (firstPair 4 from + k) clear) }
+
+-- where the loop stands after n pairs
+pub record Walking (start words : List ℕ) (from to : ℕ) (change : Filter → Filter) (n : ℕ) : Type 0 where
+  pub whole : length words ≡ recordLength 4
+  pub within : n ≤ 3
+  pub state : modelOf 4 words ≡ withRest (modelOf 4 start) (withPairs (modelOf 4 start .rest) (changeNamed 4 n change from to (modelOf 4 start .rest .pairs)))
+
+module _ {start : List ℕ} (from to : ℕ) (change : Filter → Filter) (low : 1 ≤ from) (high : from ≤ 4) where
+  pub walk-start : length start ≡ recordLength 4 → Walking start start from to change 0
+  walk-start h = record { whole = h; within = omega arith; state = rw (change-none from to change (modelOf 4 start .rest .pairs) (pairs-twelve start) low high) }
+
+  module _ {words : List ℕ} {n : ℕ} (W : Walking start words from to change n) (l : n < 3) where
+    next : set (changeNamed 4 n change from to (modelOf 4 start .rest .pairs)) (firstPair 4 from + n) (changeAt change from to n (getD (changeNamed 4 n change from to (modelOf 4 start .rest .pairs)) (firstPair 4 from + n) clear)) ≡ changeNamed 4 (n + 1) change from to (modelOf 4 start .rest .pairs)
+    next = change-at from to change (modelOf 4 start .rest .pairs) (pairs-twelve start) low high n l
+
+    pub walk-more : {after : List ℕ} → length after ≡ recordLength 4 → PairChanging 4 words after (firstPair 4 from + n) (changeAt change from to n) → Walking start after from to change (n + 1)
+    walk-more h P = record {
+      whole = h;
+      within = omega arith;
+      state = (rw (W .state) at (P .state)) ∙ ap (λ ps. withRest (modelOf 4 start) (withPairs (modelOf 4 start .rest) ps)) next;
+    }
+
+pub walk-done : {start words : List ℕ} (from to : ℕ) (change : Change) (xs : List ℕ) {n : ℕ} → n ≡ 3 → Walking start words from to (changeOf change xs) n → PairsChanging 4 start words from to change xs
+walk-done from to change xs e W = record { state = rw e at (W .state) }
+
+-- ---- a command: refused, or done
+module _ {start : List ℕ} (from to : ℕ) (change : Change) (xs : List ℕ) {n : ℕ} (e : n ≡ listRefusal 4 change xs from to (modelOf 4 start .rest .pairs)) where
+  pub command-refused : (n ≡ 0 → ⊥) → Commanding 4 start start from to change xs n
+  unfolding commanded
+  command-refused h = record { answer = e; state = rw (← e, ne-eqb n 0 h); refused = λ _. refl }
+
+  pub command-done : {after : List ℕ} → n ≡ 0 → PairsChanging 4 start after from to change xs → Commanding 4 start after from to change xs 0
+  unfolding commanded
+  command-done z P = record { answer = sym z ∙ e; state = rw (← e, eq-eqb n 0 z) (P .state); refused = λ h. absurd (h refl) }

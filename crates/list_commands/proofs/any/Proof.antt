@@ -1,0 +1,61 @@
+-- `list_commands::any` meets its contract. The loop's invariant: no pair before k had the answer yes. Assumes nothing.
+use mathlib.Core.Path.{_≡_, sym, _∙_}
+use mathlib.Core.Bool.{false}
+use Prim.Native.Nat.{_≤_, _-_}
+use native.Mathlib.Omega.{arith}
+use Rattle.filter.specs.Entries.{entriesOf}
+use Rattle.unit.specs.Model.{modelOf}
+use Rattle.list_commands.specs.Commands.{holdsAt, anyBelow, anyNamed}
+use Rattle.record.specs.Pairs.{holdsOf}
+use Rattle.list_commands.proofs.PairLoop.{any-none, any-found, any-more}
+use Rattle.list_commands.proofs.any.Statement.{statement}
+use Rattle.list_commands.proofs.any.Tie as tie
+
+abbrev Inv-loop : tie.InvT-loop
+Inv-loop words from to question entries k₀ k = (k ≤ 3) × (false ≡ anyBelow (holdsAt 4 (holdsOf question (entriesOf entries)) from to (modelOf 4 words .rest .pairs)) k)
+
+abbrev μ-loop : tie.MeasureT-loop
+μ-loop words from to question entries k₀ k = 3 - k
+
+loop-holds : tie.Need-loop-holds Inv-loop μ-loop
+loop-holds c = (omega arith, any-none _)
+
+holds-requires : tie.Need-holds-requires Inv-loop μ-loop
+holds-requires c κs = omega arith
+
+returns : tie.Need-returns Inv-loop μ-loop
+unfolding anyNamed
+returns c =
+    let at-holds = c .before in
+    any-found _ 3 (at-holds .before .before .loop .k) (omega arith) (sym (at-holds .holds .ensures) ∙ c .if1 .taken)
+
+add-k : tie.Need-add-k Inv-loop μ-loop
+add-k c = omega arith
+
+loop-less : tie.Need-loop-less Inv-loop μ-loop
+loop-less c = omega arith
+
+loop-again : tie.Need-loop-again Inv-loop μ-loop
+loop-again c =
+    let at-holds = c .before in
+    (omega arith, any-more _ (at-holds .before .before .loop .k) (at-holds .before .before .loop .inv .1) (sym (at-holds .holds .ensures) ∙ c .if1 .left))
+
+returns-2 : tie.Need-returns-2 Inv-loop μ-loop
+unfolding anyNamed
+returns-2 c =
+    let e : c .before .loop .k ≡ 3 = omega arith in
+    rw e at (c .before .loop .inv .1)
+
+pub any-spec : {M : Type 1} → statement M
+any-spec =
+    tie.close
+    (tie.spec
+    Inv-loop
+    μ-loop
+    loop-holds
+    holds-requires
+    returns
+    add-k
+    loop-less
+    loop-again
+    returns-2)

@@ -1,0 +1,63 @@
+-- Document 01, "Network messages": which pairs a command names, what it is refused with by the lists, and what it does to them.
+-- Assumes nothing.
+use Prim.Native.Nat.{ℕ, zero, suc, _+_, _-_, _*_}
+use mathlib.Core.Bool.{Bool, false, _&&_, _||_, cond}
+use mathlib.Core.List.{List, [], _∷_, _++_}
+use lib.ListN.{take, drop, getD}
+use lib.Dec.{ltb, eqb}
+use Rattle.filter.specs.Filter.{Filter, clear}
+use Rattle.network_message.specs.Checks.{check, first}
+use Rattle.network_message.specs.Decoding.{allPorts}
+use Rattle.unit.specs.Ports.{each}
+use Rattle.record.specs.declared.pairs.Question.the-variants.{IsCleared, IsNotCleared, WouldPass, Lacks}
+use Rattle.record.specs.declared.pairs.Change.{Change}
+use Rattle.record.specs.declared.pairs.Change.the-variants.{Adds, Deletes, Clears, Creates}
+use Rattle.record.specs.Pairs.{holdsOf, changeOf}
+
+-- ---- the pairs that a command names: from a port to one other, or to all others (15)
+-- the other port that the kth pair from port p (from 0) leads to
+abbrev pub targetOf : ℕ → ℕ → ℕ
+targetOf p k = cond (ltb k p) k (suc k)
+
+abbrev pub firstPair : ℕ → ℕ → ℕ
+firstPair ports from = (ports - 1) * (from - 1)
+
+-- whether the kth pair from that port is named
+unfoldable pub names : ℕ → ℕ → ℕ → Bool
+names from to k = eqb to allPorts || eqb to (suc (targetOf (from - 1) k))
+
+unfoldable pub anyBelow : (ℕ → Bool) → ℕ → Bool
+anyBelow test zero = false
+anyBelow test (suc n) = anyBelow test n || test n
+
+-- whether the kth pair from that port is named and a test holds of it
+abbrev pub holdsAt : ℕ → (Filter → Bool) → ℕ → ℕ → List Filter → ℕ → Bool
+holdsAt ports test from to pairs k = names from to k && test (getD pairs (firstPair ports from + k) clear)
+
+-- the kth pair from that port, changed if it is named
+abbrev pub changeAt : (Filter → Filter) → ℕ → ℕ → ℕ → Filter → Filter
+changeAt change from to k f = cond (names from to k) (change f) f
+
+-- whether a test holds of one of the first n pairs from that port that is named
+unfoldable pub anyNamed : ℕ → ℕ → (Filter → Bool) → ℕ → ℕ → List Filter → Bool
+anyNamed ports n test from to pairs = anyBelow (holdsAt ports test from to pairs) n
+
+-- the named ones among the first n pairs from that port are changed, and no other
+unfoldable pub changeNamed : ℕ → ℕ → (Filter → Filter) → ℕ → ℕ → List Filter → List Filter
+changeNamed ports n change from to pairs =
+    take (firstPair ports from) pairs ++ each (changeAt change from to) n (drop (firstPair ports from) pairs)
+
+-- ---- 14 to 17: each asked over all named pairs before the next
+unfoldable pub listRefusal : ℕ → Change → List ℕ → ℕ → ℕ → List Filter → ℕ
+listRefusal ports Adds xs from to pairs =
+    first (check (anyNamed ports (ports - 1) (holdsOf IsCleared xs) from to pairs) 15 ∷ check (anyNamed ports (ports - 1) (holdsOf WouldPass xs) from to pairs) 16 ∷ [])
+listRefusal ports Deletes xs from to pairs =
+    first (check (anyNamed ports (ports - 1) (holdsOf IsCleared xs) from to pairs) 15 ∷ check (anyNamed ports (ports - 1) (holdsOf Lacks xs) from to pairs) 17 ∷ [])
+listRefusal ports Clears xs from to pairs = 0
+listRefusal ports (Creates passing) xs from to pairs =
+    first (check (anyNamed ports (ports - 1) (holdsOf IsNotCleared xs) from to pairs) 14 ∷ check (anyNamed ports (ports - 1) (holdsOf WouldPass xs) from to pairs) 16 ∷ [])
+
+-- "A multi-pair command is done on all its pairs or none."
+unfoldable pub commanded : ℕ → Change → List ℕ → ℕ → ℕ → List Filter → List Filter
+commanded ports change xs from to pairs =
+    cond (eqb (listRefusal ports change xs from to pairs) 0) (changeNamed ports (ports - 1) (changeOf change xs) from to pairs) pairs

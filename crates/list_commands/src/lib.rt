@@ -1,0 +1,126 @@
+// A command on the pairs from a port: judged on all that it names before any is changed.
+use record::pairs::Change;
+use record::pairs::Question;
+ghost use mathlib.Core.Path.{_≡_};
+ghost use Prim.Native.Nat.{_+_, _≤_, _<_};
+ghost use lib.ListN.{length};
+ghost use Rattle.filter.specs.Entries.{entriesOf};
+ghost use Rattle.unit.specs.Model.{modelOf, recordLength};
+ghost use Rattle.list_commands.specs.Commands.{names, firstPair, holdsAt, anyNamed, changeAt, listRefusal};
+ghost use Rattle.record.specs.Pairs.{holdsOf, changeOf};
+ghost use Rattle.record.specs.Steps.{PairChanging};
+ghost use Rattle.list_commands.specs.Steps.{PairsChanging, Commanding};
+
+// Whether the kth pair from a port is named by a To, which may be 15.
+fn is_named(from: u32, to: u32, k: usize) -> bool
+    requires { ⌜ (1 ≤ from) × (from ≤ 4) × (k < 3) ⌝ }
+    ensures { λ r. ⌜ r ≡ names from to k ⌝ }
+{
+    if to == 15 {
+        return true;
+    }
+    if k < from as usize - 1 {
+        return to as usize == k + 1;
+    }
+    to as usize == k + 2
+}
+
+// Whether the kth pair from a port is named, and the answer there is yes.
+fn holds(words: &[u64], from: u32, to: u32, k: usize, question: Question, entries: &[u8]) -> bool
+    requires { ⌜ (length (now words) ≡ recordLength 4) × (1 ≤ from) × (from ≤ 4) × (k < 3) ⌝ }
+    ensures { λ r. ⌜ r ≡ holdsAt 4 (holdsOf question (entriesOf (now (entries .entry)))) from to (modelOf 4 (now (words .entry)) .rest .pairs) k ⌝ }
+{
+    if is_named(from, to, k) {
+        let i = 3 * (from as usize - 1) + k;
+        return record::question(words, i, question, entries);
+    }
+    false
+}
+
+// Whether the answer is yes for a pair that is named.
+fn any(words: &[u64], from: u32, to: u32, question: Question, entries: &[u8]) -> bool
+    requires { ⌜ (length (now words) ≡ recordLength 4) × (1 ≤ from) × (from ≤ 4) ⌝ }
+    ensures { λ r. ⌜ r ≡ anyNamed 4 3 (holdsOf question (entriesOf (now (entries .entry)))) from to (modelOf 4 (now (words .entry)) .rest .pairs) ⌝ }
+{
+    let mut k: usize = 0;
+    while k < 3 {
+        if holds(words, from, to, k, question, entries) {
+            return true;
+        }
+        k += 1;
+    }
+    false
+}
+
+// Changes the kth pair from a port, if it is named.
+fn change_one(words: &mut [u64], from: u32, to: u32, k: usize, change: Change, entries: &[u8])
+    requires { ⌜ (length (now words) ≡ recordLength 4) × (1 ≤ from) × (from ≤ 4) × (k < 3) ⌝ }
+    ensures { λ _. ⌜ PairChanging 4 (now (words .entry)) (now (words .exit)) (firstPair 4 from + k) (changeAt (changeOf change (entriesOf (now (entries .entry)))) from to k) ⌝ }
+{
+    if is_named(from, to, k) {
+        let i = 3 * (from as usize - 1) + k;
+        record::change(words, i, change, entries);
+    }
+}
+
+// Changes each pair that is named.
+fn change_each(words: &mut [u64], from: u32, to: u32, change: Change, entries: &[u8])
+    requires { ⌜ (length (now words) ≡ recordLength 4) × (1 ≤ from) × (from ≤ 4) ⌝ }
+    ensures { λ _. ⌜ PairsChanging 4 (now (words .entry)) (now (words .exit)) from to change (entriesOf (now (entries .entry))) ⌝ }
+{
+    let mut k: usize = 0;
+    while k < 3 {
+        change_one(words, from, to, k, change, entries);
+        k += 1;
+    }
+}
+
+// The number that a command is refused with by the lists, or 0.
+fn refusal(words: &[u64], from: u32, to: u32, change: Change, entries: &[u8]) -> u32
+    requires { ⌜ (length (now words) ≡ recordLength 4) × (1 ≤ from) × (from ≤ 4) ⌝ }
+    ensures { λ r. ⌜ r ≡ listRefusal 4 change (entriesOf (now (entries .entry))) from to (modelOf 4 (now (words .entry)) .rest .pairs) ⌝ }
+{
+    match change {
+        Change::Adds => {
+            if any(words, from, to, Question::IsCleared, entries) {
+                return 15;
+            }
+            if any(words, from, to, Question::WouldPass, entries) {
+                return 16;
+            }
+            0
+        }
+        Change::Deletes => {
+            if any(words, from, to, Question::IsCleared, entries) {
+                return 15;
+            }
+            if any(words, from, to, Question::Lacks, entries) {
+                return 17;
+            }
+            0
+        }
+        Change::Clears => 0,
+        Change::Creates(_) => {
+            if any(words, from, to, Question::IsNotCleared, entries) {
+                return 14;
+            }
+            if any(words, from, to, Question::WouldPass, entries) {
+                return 16;
+            }
+            0
+        }
+    }
+}
+
+// A command: on all pairs that it names, or refused on none.
+pub fn command(words: &mut [u64], from: u32, to: u32, change: Change, entries: &[u8]) -> u32
+    requires { ⌜ (length (now words) ≡ recordLength 4) × (1 ≤ from) × (from ≤ 4) ⌝ }
+    ensures { λ r. ⌜ Commanding 4 (now (words .entry)) (now (words .exit)) from to change (entriesOf (now (entries .entry))) r ⌝ }
+{
+    let number = refusal(words, from, to, change, entries);
+    if number != 0 {
+        return number;
+    }
+    change_each(words, from, to, change, entries);
+    0
+}

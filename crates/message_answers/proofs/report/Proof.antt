@@ -1,0 +1,28 @@
+-- `message_answers::report` meets its contract, by what was written. Assumes nothing.
+use Rattle.message_answers.proofs.Replies.{reported-of}
+use borrow.Author.Needs.{needs}
+use Rattle.message_answers.proofs.report.Statement.{statement}
+use Rattle.message_answers.proofs.report.Tie as tie
+
+sub-reply-list : tie.Need-sub-reply-list
+sub-reply-list c = search needs
+
+sub-reply-list-2 : tie.Need-sub-reply-list-2
+sub-reply-list-2 c = search needs
+
+reply-list-requires : tie.Need-reply-list-requires
+reply-list-requires c κs = search needs
+
+cast-t13 : tie.Need-cast-t13
+cast-t13 c = search needs
+
+same-length : tie.Need-same-length
+same-length c = search needs
+
+returns : tie.Need-returns
+returns c = reported-of (c .before .before .reply-list .ensures)
+
+pub report-spec : {M : Type 1} → statement M
+report-spec =
+    tie.close
+    (tie.spec sub-reply-list sub-reply-list-2 reply-list-requires cast-t13 same-length returns)

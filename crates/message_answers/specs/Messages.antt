@@ -1,0 +1,55 @@
+-- Document 01, "Network messages": what a message does, and what is written back. What a payload says is the crate `network_message`'s.
+-- Assumes nothing.
+use Prim.Native.Nat.{ℕ, _-_}
+use mathlib.Core.List.{List}
+use lib.ListN.{length, getD}
+use Rattle.filter.specs.Filter.{Filter, clear}
+use Rattle.filter.specs.Entries.{entriesOf}
+use Rattle.network_message.specs.declared.Command.{Command}
+use Rattle.network_message.specs.declared.Command.the-variants.{Refused, Request, Add, Delete, Clear, Create, AddressList}
+use Rattle.network_message.specs.Decoding.{functionOf, pairOf, between}
+use Rattle.network_message.specs.Replies.{controlOf, acknowledgment, listReply, addressReply}
+use Rattle.unit.specs.Model.{Rest, pairAt}
+use Rattle.record.specs.declared.pairs.Change.{Change}
+use Rattle.record.specs.declared.pairs.Change.the-variants.{Adds, Deletes, Clears, Creates}
+use Rattle.list_commands.specs.Commands.{listRefusal, commanded}
+use Rattle.message_answers.specs.declared.MessageAnswer.{MessageAnswer}
+
+-- what a message does: the number that it is refused with, the pairs then, the PGN and the bytes that are written
+pub record Replied : Type 0 where
+  pub number : ℕ
+  pub pairs : List Filter
+  pub pgn : ℕ
+  pub written : List ℕ
+
+-- PGN 59392, "0, the function, FF, FF, the requester's address, 00, ED, 00", or with 1 or 2 for a refusal
+abbrev pub acknowledged : ℕ → ℕ → List ℕ → List Filter → Replied
+acknowledged number requester payload pairs = record {
+  number = number;
+  pairs = pairs;
+  pgn = 59392;
+  written = acknowledgment (controlOf number) (functionOf payload) requester;
+}
+
+abbrev pub replied : List ℕ → List Filter → Replied
+replied bytes pairs = record { number = 0; pairs = pairs; pgn = 60672; written = bytes }
+
+-- a command on the pairs, with its entries
+abbrev pub changedBy : ℕ → Rest → ℕ → List ℕ → Change → ℕ → ℕ → ℕ → ℕ → Replied
+changedBy ports rest requester payload change from to start end =
+    acknowledged (listRefusal ports change (entriesOf (between start end payload)) from to (rest .pairs)) requester payload
+    (commanded ports change (entriesOf (between start end payload)) from to (rest .pairs))
+
+unfoldable pub performedBy : ℕ → Rest → ℕ → List ℕ → Command → Replied
+performedBy ports rest requester payload (Refused number) = acknowledged number requester payload (rest .pairs)
+performedBy ports rest requester payload (Request from to) =
+    replied (listReply (pairOf payload) (getD (rest .pairs) (pairAt ports (from - 1) (to - 1)) clear)) (rest .pairs)
+performedBy ports rest requester payload (Add from to start end) = changedBy ports rest requester payload Adds from to start end
+performedBy ports rest requester payload (Delete from to start end) = changedBy ports rest requester payload Deletes from to start end
+performedBy ports rest requester payload (Clear from to) = changedBy ports rest requester payload Clears from to 2 2
+performedBy ports rest requester payload (Create from to passing start end) = changedBy ports rest requester payload (Creates passing) from to start end
+performedBy ports rest requester payload (AddressList port) = replied (addressReply port (rest .own .address) (rest .table)) (rest .pairs)
+
+-- "The answer gives the PGN and the length of what was written, 0 and 0 for nothing; buffer bytes past that length are untouched."
+abbrev pub messageAnswer : Replied → MessageAnswer
+messageAnswer r = record { refusal = r .number; pgn = r .pgn; length = length (r .written) }

@@ -1,0 +1,27 @@
+-- The contracts of the steps inside a message: what each writes, and what it does to the model of a record.
+-- Assumes nothing.
+use Prim.Native.Nat.{ℕ}
+use mathlib.Core.Path.{_≡_}
+use mathlib.Core.List.{List, _++_}
+use lib.ListN.{length, drop}
+use Rattle.network_message.specs.Replies.{controlOf, acknowledgment}
+use Rattle.unit.specs.Model.{withRest, withPairs, modelOf}
+use Rattle.message_answers.specs.declared.MessageAnswer.{MessageAnswer}
+use Rattle.message_answers.specs.Messages.{Replied, messageAnswer}
+
+-- a command was acknowledged
+pub record Telling (before after : List ℕ) (number function requester : ℕ) (r : MessageAnswer) : Type 0 where
+  pub answer : r ≡ record { refusal = number; pgn = 59392; length = 8 }
+  pub written : after ≡ acknowledgment (controlOf number) function requester ++ drop 8 before
+
+-- a reply was written
+pub record Reporting (bytes before after : List ℕ) (r : MessageAnswer) : Type 0 where
+  pub answer : r ≡ record { refusal = 0; pgn = 60672; length = length bytes }
+  pub written : after ≡ bytes ++ drop (length bytes) before
+
+-- what a message does and is answered
+pub record Replying (ports : ℕ) (before after lent back : List ℕ) (reply : Replied) (r : MessageAnswer) : Type 0 where
+  pub answer : r ≡ messageAnswer reply
+  pub written : back ≡ reply .written ++ drop (length (reply .written)) lent
+  pub state : modelOf ports after ≡ withRest (modelOf ports before) (withPairs (modelOf ports before .rest) (reply .pairs))
+  pub refused : (reply .number ≡ 0 → ⊥) → after ≡ before

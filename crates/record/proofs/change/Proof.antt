@@ -1,0 +1,58 @@
+-- `record::change` meets its contract: the filter's block was lent and came back. Assumes nothing.
+use Prim.Native.Nat.{_+_, _*_}
+use native.Mathlib.Omega.{arith}
+use Rattle.storage.proofs.Parts.{range-size}
+use Rattle.record.proofs.Regions.{pair-changed}
+use borrow.Author.Needs.{needs}
+use Rattle.record.proofs.change.Statement.{statement}
+use Rattle.record.proofs.change.Tie as tie
+
+mul-a : tie.Need-mul-a
+mul-a c = search needs
+
+add-a : tie.Need-add-a
+add-a c = search needs
+
+add-e : tie.Need-add-e
+add-e c = search needs
+
+mul-apply : tie.Need-mul-apply
+mul-apply c = search needs
+
+sub-apply : tie.Need-sub-apply
+sub-apply c = search needs
+
+part-apply-start : tie.Need-part-apply-start
+part-apply-start c = search needs
+
+part-apply-end : tie.Need-part-apply-end
+part-apply-end c = search needs
+
+apply-requires : tie.Need-apply-requires
+apply-requires c κs = search needs
+
+same-length : tie.Need-same-length
+same-length c = search needs
+
+returns : tie.Need-returns
+returns c =
+    let at = c .before .before in
+    let args = at .before .before .before .before .args in
+    rw (range-size (4 + 34 * args .i) 34)
+    (pair-changed (args .words .now) (args .i) (search needs) (search needs) (at .apply .last .0) _ (omega arith)
+    (rw (range-size (4 + 34 * args .i) 34) at (at .apply .ensures)))
+
+pub change-spec : {M : Type 1} → statement M
+change-spec =
+    tie.close
+    (tie.spec
+    mul-a
+    add-a
+    add-e
+    mul-apply
+    sub-apply
+    part-apply-start
+    part-apply-end
+    apply-requires
+    same-length
+    returns)

@@ -1,0 +1,50 @@
+-- The contracts of the accessors: what a lent block, changed or read, is in the model of the record.
+-- Assumes nothing.
+use Prim.Native.Nat.{ℕ, _+_, _*_, _≤_}
+use mathlib.Core.Bool.{Bool}
+use mathlib.Core.Path.{_≡_}
+use mathlib.Core.List.{List}
+use lib.ListN.{length, take, drop, getD, set}
+use Rattle.delivery.specs.Row.{room, join, pull, given, kept}
+use Rattle.filter.specs.declared.Asked.{Asked}
+use Rattle.filter.specs.Filter.{Filter, filterOf, clear, asked, listSize}
+use Rattle.queue.specs.declared.Frame.{Frame}
+use Rattle.queue.specs.declared.Taken.{Taken}
+use Rattle.queue.specs.Queue.{size, priority, takenOf, blockLength as queueLength}
+use Rattle.addresses.specs.declared.Place.{Place}
+use Rattle.addresses.specs.declared.Event.{Event}
+use Rattle.unit.specs.Model.{rowAt, pairAt, withRest, withPairs, withTable, withRow, rowsFrom, modelOf}
+
+-- the address table was changed, and what came of a claim there
+pub record TableChanging (ports : ℕ) (before after : List ℕ) (change : List Place → List Place) : Type 0 where
+  pub state : modelOf ports after ≡ withRest (modelOf ports before) (withTable (modelOf ports before .rest) (change (modelOf ports before .rest .table)))
+
+pub record TableClaiming (ports : ℕ) (before after : List ℕ) (change : List Place → List Place) (came : List Place → Event) (r : Event) : Type 0 where
+  pub state : modelOf ports after ≡ withRest (modelOf ports before) (withTable (modelOf ports before .rest) (change (modelOf ports before .rest .table)))
+  pub event : r ≡ came (modelOf ports before .rest .table)
+
+-- a pair was asked
+pub record PairAsking (ports : ℕ) (words : List ℕ) (p q pgn : ℕ) (r : Asked) : Type 0 where
+  pub answer : r ≡ asked (getD (modelOf ports words .rest .pairs) (pairAt ports p q) clear) pgn
+  pub small : r .compared ≤ listSize
+
+-- a pair's block was changed, and in the record
+pub record BlockChanging (before after : List ℕ) (change : Filter → Filter) : Type 0 where
+  pub state : filterOf after ≡ change (filterOf before)
+  pub long : length after ≡ length before
+
+pub record PairChanging (ports : ℕ) (before after : List ℕ) (i : ℕ) (change : Filter → Filter) : Type 0 where
+  pub state : modelOf ports after
+      ≡ withRest (modelOf ports before) (withPairs (modelOf ports before .rest) (set (modelOf ports before .rest .pairs) i (change (getD (modelOf ports before .rest .pairs) i clear))))
+
+-- a frame was sent to port q
+pub record RowJoining (ports : ℕ) (before after : List ℕ) (q : ℕ) (f : Frame) (r : Bool) : Type 0 where
+  pub answer : r ≡ room size (rowAt (modelOf ports before) q)
+  pub state : modelOf ports after ≡ withRow (modelOf ports before) q (join size (rowAt (modelOf ports before) q) f)
+
+-- a take was made on port q
+pub record RowTaking (ports : ℕ) (before after : List ℕ) (q : ℕ) (r : Taken) : Type 0 where
+  pub answer : r ≡ takenOf (given (pull priority (rowAt (modelOf ports before) q)))
+  pub state : modelOf ports after ≡ withRow (modelOf ports before) q (kept (pull priority (rowAt (modelOf ports before) q)))
+  pub ahead : take (rowsFrom ports + queueLength * q) after ≡ take (rowsFrom ports + queueLength * q) before
+  pub behind : drop (rowsFrom ports + queueLength * q + queueLength) after ≡ drop (rowsFrom ports + queueLength * q + queueLength) before

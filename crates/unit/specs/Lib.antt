@@ -1,0 +1,4 @@
+pub mod Ports
+pub mod Model
+pub mod Own
+pub mod PowerOn

@@ -1,0 +1,99 @@
+-- The model of a unit, which is the book of document 01: the pairs, the address table, the unit itself, and for each port a row of frames in order of
+-- joining. And what a record of words means as a model. All is over the number of ports; ports are counted from 0 here.
+-- Assumes nothing.
+use Prim.Native.Nat.{ℕ, zero, suc, _+_, _-_, _*_, _%_, _^_}
+use mathlib.Core.Bool.{cond}
+use mathlib.Core.List.{List, []}
+use lib.ListN.{take, drop, getD, set}
+use lib.Dec.{ltb}
+use Rattle.storage.specs.Blocks.{blocksOf}
+use Rattle.filter.specs.Filter.{Filter, filterOf}
+use Rattle.filter.specs.Filter.{blockSize as filterLength}
+use Rattle.queue.specs.declared.Frame.{Frame}
+use Rattle.queue.specs.Queue.{rowOf}
+use Rattle.queue.specs.Queue.{blockLength as queueLength}
+use Rattle.addresses.specs.declared.Place.{Place}
+use Rattle.addresses.specs.Table.{tableLength, tableOf}
+use Rattle.unit.specs.declared.Claim.{Claim}
+use Rattle.unit.specs.declared.Claim.the-variants.{Unstarted, Claiming, Claimed, Lost}
+use Rattle.unit.specs.declared.Unit.{Unit}
+
+-- ---- the model
+-- what the rules keep besides the rows: no row has a say in it
+pub record Rest : Type 0 where
+  pub own : Unit
+  pub pairs : List Filter
+  pub table : List Place
+
+pub record Model : Type 0 where
+  pub rest : Rest
+  pub rows : List (List Frame)
+
+-- port q's row
+abbrev pub rowAt : Model → ℕ → List Frame
+rowAt m q = getD (m .rows) q []
+
+-- the place of pair p to q, which are not equal, among the pairs: in order of p, then of q
+abbrev pub pairAt : ℕ → ℕ → ℕ → ℕ
+pairAt ports p q = (ports - 1) * p + cond (ltb q p) q (q - 1)
+
+-- one thing changed
+abbrev pub withOwn : Rest → Unit → Rest
+withOwn rest own = record { own = own; pairs = rest .pairs; table = rest .table }
+
+abbrev pub withPairs : Rest → List Filter → Rest
+withPairs rest pairs = record { own = rest .own; pairs = pairs; table = rest .table }
+
+abbrev pub withTable : Rest → List Place → Rest
+withTable rest table = record { own = rest .own; pairs = rest .pairs; table = table }
+
+abbrev pub withRest : Model → Rest → Model
+withRest m rest = record { rest = rest; rows = m .rows }
+
+abbrev pub withRows : Model → List (List Frame) → Model
+withRows m rows = record { rest = m .rest; rows = rows }
+
+abbrev pub withRow : Model → ℕ → List Frame → Model
+withRow m q row = withRows m (set (m .rows) q row)
+
+-- ---- the record
+-- the unit's own words: claim state, address, preferred address, NAME
+abbrev pub ownLength : ℕ
+ownLength = 4
+
+unfoldable pub claimFrom : ℕ → Claim
+claimFrom zero = Unstarted
+claimFrom (suc zero) = Claiming
+claimFrom (suc (suc zero)) = Claimed
+claimFrom (suc (suc (suc n))) = Lost
+
+unfoldable pub unitOf : List ℕ → Unit
+unitOf words = record {
+  claim = claimFrom (getD words 0 0);
+  address = getD words 1 0 % 256;
+  preferred = getD words 2 0 % 2 ^ 32;
+  name = getD words 3 0;
+}
+
+-- the regions: own, a filter for each pair, a queue for each port, the address table
+abbrev pub pairsFrom : ℕ
+pairsFrom = ownLength
+
+abbrev pub rowsFrom : ℕ → ℕ
+rowsFrom ports = pairsFrom + filterLength * (ports * (ports - 1))
+
+abbrev pub tableFrom : ℕ → ℕ
+tableFrom ports = rowsFrom ports + queueLength * ports
+
+abbrev pub recordLength : ℕ → ℕ
+recordLength ports = tableFrom ports + tableLength
+
+unfoldable pub modelOf : ℕ → List ℕ → Model
+modelOf ports words = record {
+  rest = record {
+    own = unitOf (take ownLength words);
+    pairs = blocksOf pairsFrom filterLength (ports * (ports - 1)) filterOf words;
+    table = tableOf (take tableLength (drop (tableFrom ports) words));
+  };
+  rows = blocksOf (rowsFrom ports) queueLength ports rowOf words;
+}

@@ -1,0 +1,227 @@
+// The unit itself: its claim state, its addresses and its NAME, which are the record's first words; and the frames that it sends.
+mod words;
+
+use queue::Frame;
+pub use words::read_unit;
+pub use words::store_unit;
+ghost use mathlib.Core.Path.{_≡_};
+ghost use Rattle.unit.specs.Model.{claimFrom};
+ghost use Rattle.unit.specs.Own.{isUnstarted, isClaiming, startChecks, holdsAddress, isOwn, consumes, freshUnit, moved, claimFrame, cannotClaimFrame, requestAnswer, isClaimed, claimWord};
+ghost use Rattle.network_message.specs.Checks.{first};
+ghost use Rattle.unit.specs.PowerOn.{PoweringOn};
+
+// The address of a unit that has none.
+pub const NO_ADDRESS: u8 = 254;
+
+// How far the unit's own address claim is.
+pub enum Claim {
+    Unstarted,
+    Claiming,
+    Claimed,
+    Lost,
+}
+
+// What the unit sends of its own.
+pub enum Sent {
+    Nothing,
+    One(Frame),
+}
+
+pub struct Unit {
+    pub claim: Claim,
+    pub address: u8,
+    pub preferred: u32,
+    pub name: u64,
+}
+
+impl Claim {
+    // The state that a word stands for.
+    pub fn from_word(word: u64) -> Claim
+        ensures { λ r. ⌜ r ≡ claimFrom word ⌝ }
+    {
+        if word == 0 {
+            return Claim::Unstarted;
+        }
+        if word == 1 {
+            return Claim::Claiming;
+        }
+        if word == 2 {
+            return Claim::Claimed;
+        }
+        Claim::Lost
+    }
+
+    // The word that stands for a state.
+    pub fn word(self) -> u64
+        ensures { λ r. ⌜ r ≡ claimWord self ⌝ }
+    {
+        match self {
+            Claim::Unstarted => 0,
+            Claim::Claiming => 1,
+            Claim::Claimed => 2,
+            Claim::Lost => 3,
+        }
+    }
+
+    pub fn is_unstarted(self) -> bool
+        ensures { λ r. ⌜ r ≡ isUnstarted self ⌝ }
+    {
+        match self {
+            Claim::Unstarted => true,
+            Claim::Claiming => false,
+            Claim::Claimed => false,
+            Claim::Lost => false,
+        }
+    }
+
+    pub fn is_claiming(self) -> bool
+        ensures { λ r. ⌜ r ≡ isClaiming self ⌝ }
+    {
+        match self {
+            Claim::Unstarted => false,
+            Claim::Claiming => true,
+            Claim::Claimed => false,
+            Claim::Lost => false,
+        }
+    }
+
+    pub fn is_claimed(self) -> bool
+        ensures { λ r. ⌜ r ≡ isClaimed self ⌝ }
+    {
+        match self {
+            Claim::Unstarted => false,
+            Claim::Claiming => false,
+            Claim::Claimed => true,
+            Claim::Lost => false,
+        }
+    }
+
+    // Whether the unit has an address: Claiming or Claimed.
+    pub fn holds_address(self) -> bool
+        ensures { λ r. ⌜ r ≡ holdsAddress self ⌝ }
+    {
+        match self {
+            Claim::Unstarted => false,
+            Claim::Claiming => true,
+            Claim::Claimed => true,
+            Claim::Lost => false,
+        }
+    }
+}
+
+impl Unit {
+    pub const PORTS: usize = 4;
+
+    pub const LIST_SIZE: usize = 32;
+
+    pub const QUEUE_SIZE: usize = 32;
+
+    pub const RECORD_LENGTH: usize = 1180;
+
+    // The unit as power-on makes it.
+    pub fn fresh(name: u64, preferred: u32) -> Unit
+        ensures { λ r. ⌜ r ≡ freshUnit name preferred ⌝ }
+    {
+        Unit {
+            claim: Claim::Unstarted,
+            address: NO_ADDRESS,
+            preferred,
+            name,
+        }
+    }
+
+    // Power-on: the record becomes that of a fresh unit. Refused with 2 where it is not of its length, else 0.
+    pub fn power_on(words: &mut [u64], name: u64, preferred: u32) -> u32
+        ensures { λ r. ⌜ PoweringOn 4 (now (words .entry)) (now (words .exit)) name preferred r ⌝ }
+    {
+        if words.len() != Self::RECORD_LENGTH {
+            return 2;
+        }
+        words::wipe(words);
+        let unit = Unit::fresh(name, preferred);
+        words::store_unit(words, unit);
+        0
+    }
+
+    // The unit in another claim state, with another address.
+    pub fn moved(self, claim: Claim, address: u8) -> Unit
+        ensures { λ r. ⌜ r ≡ moved self claim address ⌝ }
+    {
+        Unit {
+            claim,
+            address,
+            preferred: self.preferred,
+            name: self.name,
+        }
+    }
+
+    // The number that Start is refused with by the unit's state, or 0.
+    pub fn start_refusal(self) -> u32
+        ensures { λ r. ⌜ r ≡ first (startChecks self) ⌝ }
+    {
+        let claim = self.claim;
+        if claim.is_unstarted() {
+            if 253 < self.preferred {
+                return 8;
+            }
+            return 0;
+        }
+        18
+    }
+
+    // Whether an address is the unit's.
+    pub fn is_own(self, address: u32) -> bool
+        ensures { λ r. ⌜ r ≡ isOwn self address ⌝ }
+    {
+        let claim = self.claim;
+        if claim.holds_address() {
+            return address == self.address as u32;
+        }
+        false
+    }
+
+    // Whether a frame is for the unit (rule 1).
+    pub fn consumes(self, id: u32) -> bool
+        ensures { λ r. ⌜ r ≡ consumes self id ⌝ }
+    {
+        if identifier::has_destination(id) {
+            return self.is_own(identifier::ps(id));
+        }
+        false
+    }
+
+    // The frame that claims the unit's address.
+    pub fn claim_frame(self) -> Frame
+        ensures { λ r. ⌜ r ≡ claimFrame self ⌝ }
+    {
+        Frame {
+            id: 0x18EEFF00 + self.address as u32,
+            len: 8,
+            bytes: self.name,
+        }
+    }
+
+    // The frame that says that the unit has no address.
+    pub fn cannot_claim_frame(self) -> Frame
+        ensures { λ r. ⌜ r ≡ cannotClaimFrame self ⌝ }
+    {
+        Frame {
+            id: 0x18EEFFFE,
+            len: 8,
+            bytes: self.name,
+        }
+    }
+
+    // The answer to a request for address claimed.
+    pub fn request_answer(self) -> Sent
+        ensures { λ r. ⌜ r ≡ requestAnswer self (self .claim) ⌝ }
+    {
+        let claim = self.claim;
+        match claim {
+            Claim::Unstarted => Sent::Nothing,
+            Claim::Claiming => Sent::One(self.claim_frame()),
+            Claim::Claimed => Sent::One(self.claim_frame()),
+            Claim::Lost => Sent::One(self.cannot_claim_frame()),
+        }
+    }
+}
