@@ -61,6 +61,22 @@ pub fn generate(seed: u64, calls: usize) -> Vec<Call> {
     generator.calls
 }
 
+/// Every pair byte of every function from every port, on one unit that is Claimed, with an address at each port.
+/// Create comes first, so that the others find lists.
+pub fn sweep() -> Vec<Call> {
+    let mut calls = vec![Call::PowerOn { name: 1 << 63, preferred: 200 }, Call::Start, Call::Quiet];
+    calls.extend(PORTS.map(|port| Call::Frame { port, id: 0x18EE_FF20 + port, bytes: vec![port as u8; 8] }));
+    for function in [6, 0, 2, 3, 4, 64] {
+        for port in PORTS {
+            for byte in 0..=255 {
+                let payload = payload(function, byte, byte % 2, &[65265 + u32::from(byte % 3)]);
+                calls.push(Call::Message { port, requester: 33, payload });
+            }
+        }
+    }
+    calls
+}
+
 struct Generator {
     random: Random,
     calls: Vec<Call>,

@@ -1,5 +1,5 @@
 //! Reference of document 01, the bridge box core, in the order of its headings,
-//! then the script format, the generator and the coverage count.
+//! then the script format, its summary, the generator and the coverage count.
 
 pub mod frame;
 pub mod pair;
@@ -7,5 +7,6 @@ pub mod unit;
 pub mod address;
 pub mod message;
 pub mod script;
+pub mod summary;
 pub mod generate;
 pub mod coverage;

@@ -3,6 +3,7 @@
 use crate::address::Event;
 use crate::frame::Frame;
 use crate::message::{MessageAnswer, LONGEST_MESSAGE};
+use crate::summary::Summary;
 use crate::unit::{FrameAnswer, Number, Unit};
 
 /// One call of a script.
@@ -41,18 +42,52 @@ impl Answer {
     }
 }
 
-/// Runs a whole script: the printed lines. A call before the first power-on has no unit: `?`.
-pub fn run_script(text: &str) -> Vec<String> {
-    let mut unit = None;
-    let mut printed = Vec::new();
-    for line in text.lines() {
-        if line.is_empty() || line.starts_with('#') {
-            continue;
+/// The most bytes of a line; a longer one is no call.
+pub const LONGEST_LINE: usize = 4096;
+
+/// A script that was run: the printed lines, one for each call, and the summary.
+#[derive(Default)]
+pub struct Run {
+    pub printed: Vec<String>,
+    pub summary: Summary,
+}
+
+impl Run {
+    /// A whole script. A call before the first power-on has no unit: `?`.
+    pub fn of(text: &str) -> Run {
+        let mut run = Run::default();
+        let mut unit = None;
+        for line in text.lines() {
+            if !line.is_empty() && !line.starts_with('#') {
+                run.step(&mut unit, line);
+            }
         }
-        let answer = read_call(line).and_then(|call| apply(&mut unit, &call));
-        printed.push(answer.map_or("?".to_string(), |answer| print_answer(&answer)));
+        run
     }
-    printed
+
+    fn step(&mut self, unit: &mut Option<Unit>, line: &str) {
+        let call = read_call(line);
+        let Some((call, answer)) = call.and_then(|call| apply(unit, &call).map(|answer| (call, answer))) else {
+            self.printed.push("?".to_string());
+            self.summary.add_no_call();
+            return;
+        };
+        self.printed.push(print_answer(&answer));
+        self.summary.add(&call, &answer);
+    }
+
+    /// All that is printed: the lines, an empty one, the summary.
+    pub fn text(&self) -> String {
+        let mut lines = self.printed.clone();
+        lines.push(String::new());
+        lines.extend(self.summary.lines());
+        lines.join("\n") + "\n"
+    }
+}
+
+/// The printed lines of a script, without the summary.
+pub fn run_script(text: &str) -> Vec<String> {
+    Run::of(text).printed
 }
 
 /// Makes one call. Power-on makes the unit; without a unit there is no answer.
@@ -78,6 +113,9 @@ pub fn apply(unit: &mut Option<Unit>, call: &Call) -> Option<Answer> {
 
 /// Reads a line of a script; None where it is no call.
 pub fn read_call(line: &str) -> Option<Call> {
+    if line.len() > LONGEST_LINE {
+        return None;
+    }
     let fields: Vec<&str> = line.split(' ').collect();
     match fields[..] {
         ["P", name, preferred] => {

@@ -1,11 +1,10 @@
 //! The bundled scripts against their outputs, and the script format itself.
 
-use reference::generate::generate;
-use reference::script::{read_call, run_script, write_call, Call};
+use reference::generate::{generate, sweep};
+use reference::script::{read_call, run_script, write_call, Call, Run, LONGEST_LINE};
 
 fn check(script: &str, output: &str) {
-    let expected: Vec<&str> = output.lines().collect();
-    assert_eq!(run_script(script), expected);
+    assert_eq!(Run::of(script).text(), output);
 }
 
 #[test]
@@ -16,6 +15,32 @@ fn morning() {
 #[test]
 fn examples() {
     check(include_str!("../scripts/examples.txt"), include_str!("../scripts/examples.out"));
+}
+
+#[test]
+fn unit() {
+    check(include_str!("../scripts/unit.txt"), include_str!("../scripts/unit.out"));
+}
+
+#[test]
+fn lines() {
+    check(include_str!("../scripts/lines.txt"), include_str!("../scripts/lines.out"));
+}
+
+/// What the gate runs the program `replay` on, and what it must print, are what `record` makes.
+#[test]
+fn recorded() {
+    let mut script = String::new();
+    script += include_str!("../scripts/lines.txt");
+    script += include_str!("../scripts/examples.txt");
+    script += include_str!("../scripts/morning.txt");
+    script += include_str!("../scripts/unit.txt");
+    for call in sweep().iter().chain(&generate(19, 9000)) {
+        script += &(write_call(call) + "\n");
+    }
+    script += "T 1";
+    assert!(script == include_str!("../../crates/replay/stdin"), "run reference/record");
+    check(&script, include_str!("../../crates/replay/stdout"));
 }
 
 /// The lines of the format's description.
@@ -91,6 +116,44 @@ fn limits_of_the_fields() {
     assert_eq!(read_call("P ffffFFFFffffFFFF 4294967295"), Some(power_on));
     let nine = Call::Frame { port: 0, id: u32::MAX, bytes: vec![0xAB; 9] };
     assert_eq!(read_call("F 0 FFFFFFFF ABABABABABABABABAB"), Some(nine));
+}
+
+#[test]
+fn longest_line() {
+    let line = |length: usize| format!("M 1 33 {}", "0".repeat(length - 7));
+    assert_eq!(run_script(&format!("P 1 2\n{}\r\n", line(LONGEST_LINE - 1))), ["P", "M 6 0 0 -"]);
+    assert_eq!(read_call(&line(LONGEST_LINE + 1)), None);
+    assert_eq!(run_script(&format!("P 1 2\n#{}\nT 1", line(LONGEST_LINE))), ["P", "T -"]);
+}
+
+/// Frames that two ports stop, that are consumed and that are refused; each take; each number.
+#[test]
+fn summary() {
+    let script = "S\nP 20001C000AC00123 200\nS\nQ\nQ\nx\nM 1 33 061201F1FE00FFFF\nM 1 33 061201F1FE00FFFF\n\
+        M 3 33 0012FFFFFFFFFFFF\nF 1 18FEE300 -\nF 1 18EFC800 -\nF 1 20000000 -\nF 9 18FEE300 -\nF 9 18FEE300 -\n\
+        T 2\nT 2\nT 9\n";
+    let lines = [
+        "power-on 1, lines that are no call 2",
+        "Start 1: done 1, refused 0",
+        "Quiet 2: done 1, refused 1 (18: 1)",
+        "frames 5: consumed 1, refused 3 (1: 2, 3: 1)",
+        "  port 1: accepted 0, stopped 0, lost 0, own lost 0",
+        "  port 2: accepted 0, stopped 1, lost 0, own lost 0",
+        "  port 3: accepted 1, stopped 0, lost 0, own lost 0",
+        "  port 4: accepted 1, stopped 0, lost 0, own lost 0",
+        "takes 3: given 1, nothing waiting 1, refused 1 (1: 1)",
+        "messages 3: answered 1, refused 2 (11: 1, 14: 1)",
+    ];
+    assert_eq!(Run::of(script).summary.lines(), lines);
+}
+
+#[test]
+fn summary_of_a_full_port() {
+    let frames = "F 3 18FEF100 -\n".repeat(33);
+    let lines = Run::of(&format!("P 1 2\n{frames}S\n")).summary.lines();
+    assert_eq!(lines[1], "Start 1: done 1, refused 0");
+    assert_eq!(lines[4], "  port 1: accepted 32, stopped 0, lost 1, own lost 1");
+    assert_eq!(lines[6], "  port 3: accepted 0, stopped 0, lost 0, own lost 0");
 }
 
 #[test]

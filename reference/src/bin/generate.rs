@@ -1,20 +1,27 @@
-//! generate SEED CALLS: prints a script of that many calls.
+//! generate SEED CALLS: prints a script of that many calls. generate sweep: every pair byte of every function from every port.
 
 use std::io::{self, Write};
 
-use reference::generate::generate;
-use reference::script::write_call;
+use reference::generate::{generate, sweep};
+use reference::script::{write_call, Call};
 
 fn main() -> io::Result<()> {
     let arguments: Vec<String> = std::env::args().skip(1).collect();
-    let numbers: Vec<u64> = arguments.iter().filter_map(|text| text.parse().ok()).collect();
-    let [seed, calls] = numbers[..] else {
-        eprintln!("usage: generate SEED CALLS");
+    let Some(calls) = calls_of(&arguments) else {
+        eprintln!("usage: generate SEED CALLS, or generate sweep");
         std::process::exit(2);
     };
     let mut out = io::BufWriter::new(io::stdout().lock());
-    for call in generate(seed, calls as usize) {
+    for call in calls {
         writeln!(out, "{}", write_call(&call))?;
     }
     out.flush()
+}
+
+fn calls_of(arguments: &[String]) -> Option<Vec<Call>> {
+    match arguments {
+        [word] if word == "sweep" => Some(sweep()),
+        [seed, calls] => Some(generate(seed.parse().ok()?, calls.parse().ok()?)),
+        _ => None,
+    }
 }

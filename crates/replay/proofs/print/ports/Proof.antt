@@ -1,0 +1,69 @@
+-- `ports` meets its contract: the place stays within the line. Assumes nothing.
+use mathlib.Core.Logic.{⊎-elim}
+use mathlib.Core.Path.{_≡_}
+use Prim.Native.Nat.{_-_, _≤_}
+use borrow.Author.Needs.{needs}
+use lib.ListN.{length}
+use Rattle.replay.proofs.print.ports.Statement.{statement}
+use Rattle.replay.proofs.print.ports.Tie as tie
+
+abbrev Inv-loop : tie.InvT-loop
+Inv-loop out₀ at mask next₀ rest₀ port₀ out next rest port = (next ≤ length out₀) × (length out ≡ length out₀) × (port ≤ 4)
+
+abbrev μ-loop : tie.MeasureT-loop
+μ-loop out₀ at mask next₀ rest₀ port₀ out next rest port = 4 - port
+
+byte-requires : tie.Need-byte-requires Inv-loop μ-loop
+byte-requires c κs = search needs
+
+byte-requires-2 : tie.Need-byte-requires-2 Inv-loop μ-loop
+byte-requires-2 c κs = search needs
+
+same-length : tie.Need-same-length Inv-loop μ-loop
+same-length c = search needs
+
+returns : tie.Need-returns Inv-loop μ-loop
+returns c = search needs
+
+loop-holds : tie.Need-loop-holds Inv-loop μ-loop
+loop-holds c = search needs
+
+add-port : tie.Need-add-port Inv-loop μ-loop
+add-port c = search needs
+
+add-byte : tie.Need-add-byte Inv-loop μ-loop
+add-byte c = search needs
+
+byte-requires-3 : tie.Need-byte-requires-3 Inv-loop μ-loop
+byte-requires-3 c κs = search needs
+
+loop-less : tie.Need-loop-less Inv-loop μ-loop
+loop-less c = search needs
+
+loop-again : tie.Need-loop-again Inv-loop μ-loop
+loop-again c = ⊎-elim (λ w. search needs) (λ w. search needs) (c .if2 .came)
+
+same-length-2 : tie.Need-same-length-2 Inv-loop μ-loop
+same-length-2 c = search needs
+
+returns-2 : tie.Need-returns-2 Inv-loop μ-loop
+returns-2 c = search needs
+
+pub ports-spec : {M : Type 1} → statement M
+ports-spec =
+    tie.close
+    (tie.spec
+    Inv-loop
+    μ-loop
+    byte-requires
+    byte-requires-2
+    same-length
+    returns
+    loop-holds
+    add-port
+    add-byte
+    byte-requires-3
+    loop-less
+    loop-again
+    same-length-2
+    returns-2)

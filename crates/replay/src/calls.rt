@@ -1,0 +1,263 @@
+// One line of a script: its call on the unit, counted, and the answer as a line.
+use crate::print;
+use crate::script;
+use crate::tally;
+use addresses::Event;
+use bridge::FrameAnswer;
+use bridge::MessageAnswer;
+use bridge::TakeAnswer;
+use unit::Unit;
+use queue::Frame;
+use queue::Taken;
+use script::Call;
+ghost use Prim.Native.Nat.{_≤_};
+ghost use lib.ListN.{length};
+
+// How many words the unit's record takes.
+pub const RECORD_LENGTH: usize = Unit::RECORD_LENGTH;
+
+// A line that is no call, or a call without a unit.
+fn no_call(counts: &mut [u64], out: &mut [u8]) -> usize
+    ensures { λ r. ⌜ r ≤ length (now (out .entry)) ⌝ }
+{
+    tally::count(counts, tally::NO_CALL);
+    print::text(out, 0, b"?")
+}
+
+// Power-on.
+fn power_on(
+    words: &mut [u64],
+    counts: &mut [u64],
+    name: u64,
+    preferred: u32,
+    out: &mut [u8],
+) -> usize
+    ensures { λ r. ⌜ r ≤ length (now (out .entry)) ⌝ }
+{
+    let number = Unit::power_on(words, name, preferred);
+    tally::call(counts, tally::POWER_ON, number);
+    if number != 0 {
+        return print::count(out, 0, b"P R ", number as u64);
+    }
+    print::text(out, 0, b"P")
+}
+
+// Start: the ports where the unit's own frame was lost.
+fn start(words: &mut [u64], counts: &mut [u64], out: &mut [u8]) -> usize
+    ensures { λ r. ⌜ r ≤ length (now (out .entry)) ⌝ }
+{
+    let a = bridge::start(words);
+    tally::call(counts, tally::START, a.refusal);
+    tally::ports(counts, tally::OWN_LOST, a.unsent);
+    if a.refusal != 0 {
+        return print::count(out, 0, b"S R ", a.refusal as u64);
+    }
+    let at = print::text(out, 0, b"S");
+    print::ports(out, at, a.unsent)
+}
+
+// Quiet.
+fn quiet(words: &mut [u64], counts: &mut [u64], out: &mut [u8]) -> usize
+    ensures { λ r. ⌜ r ≤ length (now (out .entry)) ⌝ }
+{
+    let number = bridge::quiet(words);
+    tally::call(counts, tally::QUIET, number);
+    if number != 0 {
+        return print::count(out, 0, b"Q R ", number as u64);
+    }
+    print::text(out, 0, b"Q")
+}
+
+// A frame's answer, counted.
+fn count_frame(counts: &mut [u64], port: u32, a: FrameAnswer) {
+    tally::call(counts, tally::FRAME, a.refusal);
+    tally::ports(counts, tally::OWN_LOST, a.unsent);
+    if a.consumed {
+        tally::count(counts, tally::CONSUMED);
+        return;
+    }
+    if a.refusal == 0 {
+        tally::offered(counts, port, a.accepted, a.lost);
+    }
+}
+
+// The event's word, - for none.
+fn event(out: &mut [u8], at: usize, e: Event) -> usize
+    requires { ⌜ at ≤ length (now out) ⌝ }
+    ensures { λ r. ⌜ r ≤ length (now (out .entry)) ⌝ }
+{
+    match e {
+        Event::Nothing => print::text(out, at, b" -"),
+        Event::Withdrew => print::text(out, at, b" Withdrew"),
+        Event::Defended => print::text(out, at, b" Defended"),
+        Event::Displaced => print::text(out, at, b" Displaced"),
+        Event::Recorded => print::text(out, at, b" Recorded"),
+        Event::Refreshed => print::text(out, at, b" Refreshed"),
+        Event::TookOver(old) => {
+            let next = print::text(out, at, b" TookOver:");
+            print::hex(out, next, old, 16)
+        }
+        Event::Beaten => print::text(out, at, b" Beaten"),
+    }
+}
+
+// Whether a frame was consumed.
+fn consumed(out: &mut [u8], is_consumed: bool) -> usize
+    ensures { λ r. ⌜ r ≤ length (now (out .entry)) ⌝ }
+{
+    if is_consumed {
+        return print::text(out, 0, b"F c");
+    }
+    print::text(out, 0, b"F -")
+}
+
+// That, the ports that accepted the frame, and those that lost it.
+fn forwarded(out: &mut [u8], a: FrameAnswer) -> usize
+    ensures { λ r. ⌜ r ≤ length (now (out .entry)) ⌝ }
+{
+    let at = consumed(out, a.consumed);
+    let at = print::ports(out, at, a.accepted);
+    print::ports(out, at, a.lost)
+}
+
+// A frame's answer: that, the event, the ports where the unit's own frame was lost, and the entries compared.
+fn frame_answer(out: &mut [u8], a: FrameAnswer) -> usize
+    ensures { λ r. ⌜ r ≤ length (now (out .entry)) ⌝ }
+{
+    if a.refusal != 0 {
+        return print::count(out, 0, b"F R ", a.refusal as u64);
+    }
+    let at = forwarded(out, a);
+    let e = a.event;
+    let at = event(out, at, e);
+    let at = print::ports(out, at, a.unsent);
+    print::count(out, at, b" ", a.compared as u64)
+}
+
+// A frame.
+fn frame(
+    words: &mut [u64],
+    counts: &mut [u64],
+    line: &[u8],
+    port: u32,
+    id: u32,
+    out: &mut [u8],
+) -> usize
+    ensures { λ r. ⌜ r ≤ length (now (out .entry)) ⌝ }
+{
+    let mut space = [0u8; 2048];
+    let n = script::read_bytes(line, &mut space);
+    let a = bridge::frame(words, port, id, &space[0..n]);
+    count_frame(counts, port, a);
+    frame_answer(out, a)
+}
+
+// The frame that a take gave.
+fn given(out: &mut [u8], f: Frame) -> usize
+    ensures { λ r. ⌜ r ≤ length (now (out .entry)) ⌝ }
+{
+    let at = print::text(out, 0, b"T ");
+    let at = print::hex(out, at, f.id as u64, 8);
+    let at = print::count(out, at, b" ", f.len as u64);
+    print::word_bytes(out, at, f.bytes, f.len)
+}
+
+// What a take gave.
+fn taken(counts: &mut [u64], t: Taken, out: &mut [u8]) -> usize
+    ensures { λ r. ⌜ r ≤ length (now (out .entry)) ⌝ }
+{
+    match t {
+        Taken::Given(f) => {
+            tally::count(counts, tally::GIVEN);
+            given(out, f)
+        }
+        Taken::Nothing => print::text(out, 0, b"T -"),
+    }
+}
+
+// A take.
+fn take(words: &mut [u64], counts: &mut [u64], port: u32, out: &mut [u8]) -> usize
+    ensures { λ r. ⌜ r ≤ length (now (out .entry)) ⌝ }
+{
+    match bridge::take(words, port) {
+        TakeAnswer::Refused(number) => {
+            tally::call(counts, tally::TAKE, number);
+            print::count(out, 0, b"T R ", number as u64)
+        }
+        TakeAnswer::Took(t) => {
+            tally::call(counts, tally::TAKE, 0);
+            taken(counts, t, out)
+        }
+    }
+}
+
+// The number, the PGN, the length and the bytes that were written.
+fn message_answer(out: &mut [u8], a: MessageAnswer, reply: &[u8]) -> usize
+    ensures { λ r. ⌜ r ≤ length (now (out .entry)) ⌝ }
+{
+    let at = print::count(out, 0, b"M ", a.refusal as u64);
+    let at = print::count(out, at, b" ", a.pgn as u64);
+    let at = print::count(out, at, b" ", a.length as u64);
+    let n = a.length as usize;
+    if n <= reply.len() {
+        return print::bytes(out, at, &reply[0..n]);
+    }
+    at
+}
+
+// A network message, with a reply buffer of the least length.
+fn message(
+    words: &mut [u64],
+    counts: &mut [u64],
+    line: &[u8],
+    port: u32,
+    requester: u32,
+    out: &mut [u8],
+) -> usize
+    ensures { λ r. ⌜ r ≤ length (now (out .entry)) ⌝ }
+{
+    let mut space = [0u8; 2048];
+    let n = script::read_bytes(line, &mut space);
+    let mut reply = [0u8; 1785];
+    let a = bridge::message(words, port, requester, &space[0..n], &mut reply);
+    tally::call(counts, tally::MESSAGE, a.refusal);
+    message_answer(out, a, &reply)
+}
+
+// The one call that needs no unit.
+fn is_power_on(call: Call) -> bool {
+    if let Call::PowerOn {
+        name: _,
+        preferred: _,
+    } = call {
+        true
+    } else {
+        false
+    }
+}
+
+// Makes a line's call.
+fn make(words: &mut [u64], counts: &mut [u64], line: &[u8], call: Call, out: &mut [u8]) -> usize
+    ensures { λ r. ⌜ r ≤ length (now (out .entry)) ⌝ }
+{
+    match call {
+        Call::PowerOn { name, preferred } => power_on(words, counts, name, preferred, out),
+        Call::Start => start(words, counts, out),
+        Call::Quiet => quiet(words, counts, out),
+        Call::Frame { port, id } => frame(words, counts, line, port, id, out),
+        Call::Take { port } => take(words, counts, port, out),
+        Call::Message { port, requester } => message(words, counts, line, port, requester, out),
+        Call::Nothing => no_call(counts, out),
+    }
+}
+
+// The answer to a line: it is in `out`, and its length comes back. Before the first power-on there is no unit to call.
+pub fn answer(words: &mut [u64], counts: &mut [u64], line: &[u8], out: &mut [u8]) -> usize
+    ensures { λ r. ⌜ r ≤ length (now (out .entry)) ⌝ }
+{
+    let call = script::read_call(line);
+    if is_power_on(call) || tally::is_on(counts) {
+        return make(words, counts, line, call, out);
+    }
+    no_call(counts, out)
+}

@@ -1,0 +1,119 @@
+// What came of a script's calls, counted in words that the caller lends, for the summary.
+use std::num::wrapping_add_u64;
+ghost use Prim.Native.Nat.{_≤_, _<_};
+
+// A word for each number of a kind of call: 0 for those that were done, else what refused them.
+pub const NUMBERS: usize = 19;
+
+pub const POWER_ON: usize = 0;
+
+pub const START: usize = NUMBERS;
+
+pub const QUIET: usize = 2 * NUMBERS;
+
+pub const FRAME: usize = 3 * NUMBERS;
+
+pub const TAKE: usize = 4 * NUMBERS;
+
+pub const MESSAGE: usize = 5 * NUMBERS;
+
+// A word for each port: frames that it accepted, that a pair stopped on the way to it, that it lost, and the unit's own that it lost.
+pub const ACCEPTED: usize = 6 * NUMBERS;
+
+pub const STOPPED: usize = ACCEPTED + 4;
+
+pub const LOST: usize = ACCEPTED + 8;
+
+pub const OWN_LOST: usize = ACCEPTED + 12;
+
+// Frames that were consumed, takes that gave a frame, lines that are no call.
+pub const CONSUMED: usize = ACCEPTED + 16;
+
+pub const GIVEN: usize = ACCEPTED + 17;
+
+pub const NO_CALL: usize = ACCEPTED + 18;
+
+// How many words the counts take.
+pub const LENGTH: usize = ACCEPTED + 19;
+
+// One more.
+pub fn count(counts: &mut [u64], place: usize) {
+    if place < counts.len() {
+        let n = counts[place];
+        if n < u64::MAX {
+            counts[place] = n + 1;
+        }
+    }
+}
+
+// A call of a kind, and the number that it was refused with, or 0.
+pub fn call(counts: &mut [u64], kind: usize, number: u32)
+    requires { ⌜ kind < 1000 ⌝ }
+{
+    let n = number as usize;
+    if n < NUMBERS {
+        count(counts, kind + n);
+    }
+}
+
+// One more at each port of a mask.
+pub fn ports(counts: &mut [u64], place: usize, mask: u32)
+    requires { ⌜ place < 1000 ⌝ }
+{
+    let mut rest = mask;
+    let mut i = 0;
+    while i < 4 {
+        if rest % 2 == 1 {
+            count(counts, place + i);
+        }
+        rest /= 2;
+        i += 1;
+    }
+}
+
+// A port as a mask.
+fn mask_of(port: u32) -> u32
+    ensures { λ r. ⌜ r ≤ 8 ⌝ }
+{
+    match port {
+        1 => 1,
+        2 => 2,
+        3 => 4,
+        4 => 8,
+        _ => 0,
+    }
+}
+
+// A frame that was offered to the ports it did not arrive at: those that neither accepted nor lost it are those that a pair stopped it from.
+pub fn offered(counts: &mut [u64], port: u32, accepted: u32, lost: u32) {
+    let reached = (mask_of(port) | accepted | lost) % 16;
+    ports(counts, ACCEPTED, accepted);
+    ports(counts, LOST, lost);
+    ports(counts, STOPPED, 15 - reached);
+}
+
+// A count.
+pub fn get(counts: &[u64], place: usize) -> u64 {
+    if place < counts.len() {
+        return counts[place];
+    }
+    0
+}
+
+// How many calls of a kind there were, from a number on.
+pub fn sum(counts: &[u64], kind: usize, from: usize) -> u64
+    requires { ⌜ kind < 1000 ⌝ }
+{
+    let mut total: u64 = 0;
+    let mut n = from;
+    while n < NUMBERS {
+        total = wrapping_add_u64(total, get(counts, kind + n));
+        n += 1;
+    }
+    total
+}
+
+// Whether there is a unit: a power-on was done.
+pub fn is_on(counts: &[u64]) -> bool {
+    0 < get(counts, POWER_ON)
+}

@@ -1,0 +1,151 @@
+//! The summary of a script: what came of its calls, counted from their answers.
+
+use std::collections::BTreeMap;
+
+use crate::script::{Answer, Call};
+use crate::unit::{other_ports, FrameAnswer, Number, PORTS};
+
+/// The counts of one script.
+#[derive(Default)]
+pub struct Summary {
+    not_calls: u64,
+    power_ons: u64,
+    starts: Outcomes,
+    quiets: Outcomes,
+    frames: Outcomes,
+    takes: Outcomes,
+    messages: Outcomes,
+    consumed: u64,
+    given: u64,
+    accepted: ByPort,
+    stopped: ByPort,
+    lost: ByPort,
+    own_lost: ByPort,
+}
+
+/// How the calls of one kind went: 0 for those that were done, else the number that refused them.
+#[derive(Default)]
+struct Outcomes(BTreeMap<Number, u64>);
+
+impl Outcomes {
+    fn add(&mut self, number: Number) {
+        *self.0.entry(number).or_insert(0) += 1;
+    }
+
+    fn calls(&self) -> u64 {
+        self.0.values().sum()
+    }
+
+    fn done(&self) -> u64 {
+        self.0.get(&0).copied().unwrap_or(0)
+    }
+
+    /// How many were refused, and how many with each number.
+    fn refused(&self) -> String {
+        let numbers = self.0.iter().filter(|(&number, _)| number != 0);
+        let by_number: Vec<String> = numbers.map(|(number, count)| format!("{number}: {count}")).collect();
+        if by_number.is_empty() {
+            return "refused 0".to_string();
+        }
+        format!("refused {} ({})", self.calls() - self.done(), by_number.join(", "))
+    }
+}
+
+/// A count for each port.
+#[derive(Default)]
+struct ByPort(BTreeMap<u32, u64>);
+
+impl ByPort {
+    fn add(&mut self, ports: &[u32]) {
+        for port in ports {
+            *self.0.entry(*port).or_insert(0) += 1;
+        }
+    }
+
+    fn at(&self, port: u32) -> u64 {
+        self.0.get(&port).copied().unwrap_or(0)
+    }
+}
+
+impl Summary {
+    /// Counts a line that is no call, or a call before the first power-on.
+    pub fn add_no_call(&mut self) {
+        self.not_calls += 1;
+    }
+
+    /// Counts a call by its answer.
+    pub fn add(&mut self, call: &Call, answer: &Answer) {
+        let number = answer.number();
+        match (call, answer) {
+            (Call::Start, Answer::Start(own_lost)) => {
+                self.starts.add(number);
+                self.own_lost.add(own_lost.as_deref().unwrap_or_default());
+            }
+            (Call::Quiet, _) => self.quiets.add(number),
+            (Call::Frame { port, .. }, Answer::Frame(answer)) => {
+                self.frames.add(number);
+                if let Ok(answer) = answer {
+                    self.add_frame(*port, answer);
+                }
+            }
+            (Call::Take { .. }, Answer::Take(taken)) => {
+                self.takes.add(number);
+                self.given += u64::from(matches!(taken, Ok(Some(_))));
+            }
+            (Call::Message { .. }, _) => self.messages.add(number),
+            _ => self.power_ons += 1,
+        }
+    }
+
+    /// A frame stops at the ports that it was offered to and that neither accepted nor lost it.
+    fn add_frame(&mut self, port: u32, answer: &FrameAnswer) {
+        self.own_lost.add(&answer.own_lost);
+        if answer.consumed {
+            self.consumed += 1;
+            return;
+        }
+        let permitted = |to: &u32| answer.accepted.contains(to) || answer.lost.contains(to);
+        let stopped: Vec<u32> = other_ports(port).into_iter().filter(|to| !permitted(to)).collect();
+        self.accepted.add(&answer.accepted);
+        self.lost.add(&answer.lost);
+        self.stopped.add(&stopped);
+    }
+
+    /// The summary as printed lines.
+    pub fn lines(&self) -> Vec<String> {
+        let done = |title: &str, outcomes: &Outcomes| {
+            format!("{title} {}: done {}, {}", outcomes.calls(), outcomes.done(), outcomes.refused())
+        };
+        let nothing = self.takes.done() - self.given;
+        let mut lines = vec![
+            format!("power-on {}, lines that are no call {}", self.power_ons, self.not_calls),
+            done("Start", &self.starts),
+            done("Quiet", &self.quiets),
+            format!("frames {}: consumed {}, {}", self.frames.calls(), self.consumed, self.frames.refused()),
+        ];
+        lines.extend(PORTS.map(|port| self.port_line(port)));
+        lines.push(format!(
+            "takes {}: given {}, nothing waiting {nothing}, {}",
+            self.takes.calls(),
+            self.given,
+            self.takes.refused()
+        ));
+        lines.push(format!(
+            "messages {}: answered {}, {}",
+            self.messages.calls(),
+            self.messages.done(),
+            self.messages.refused()
+        ));
+        lines
+    }
+
+    fn port_line(&self, port: u32) -> String {
+        format!(
+            "  port {port}: accepted {}, stopped {}, lost {}, own lost {}",
+            self.accepted.at(port),
+            self.stopped.at(port),
+            self.lost.at(port),
+            self.own_lost.at(port)
+        )
+    }
+}
