@@ -101,7 +101,8 @@ impl Coverage {
         }
     }
 
-    fn count_call(&mut self, before: Option<&Unit>, call: &Call, answer: &Answer, after: Option<&Unit>) {
+    /// Counts one call, its answer, and the unit before and after it.
+    pub fn count_call(&mut self, before: Option<&Unit>, call: &Call, answer: &Answer, after: Option<&Unit>) {
         let letter = letter(call);
         self.add(&format!("call {letter}"));
         self.add(&format!("number {} {letter}", answer.number()));

@@ -1,5 +1,5 @@
 //! Reference of document 01, the bridge box core, in the order of its headings,
-//! then the script format, its summary, the generator and the coverage count.
+//! then the script format, its summary, the generator and the coverage count, and the proved unit linked in.
 
 pub mod frame;
 pub mod pair;
@@ -10,3 +10,5 @@ pub mod script;
 pub mod summary;
 pub mod generate;
 pub mod coverage;
+#[cfg(feature = "linked")]
+pub mod linked;

@@ -29,7 +29,7 @@ refused-same : (m : Model) (k : Call) → (refusal ports words (m .rest) k ≡ 0
 unfolding nextOf
 refused-same m k n = rw (ne-eqb (refusal ports words (m .rest) k) 0 n)
 
-from-book : (name preferred : ℕ) (ks : List Call) (xs : List Answer) (v : List ℕ) → xs ≡ answersOf next answer (fresh ports name preferred) ks
+pub from-book : (name preferred : ℕ) (ks : List Call) (xs : List Answer) (v : List ℕ) → xs ≡ answersOf next answer (fresh ports name preferred) ks
     → modelOf ports v ≡ modelAfter name preferred ks → Demand3 name preferred ks xs v
 from-book name preferred ks xs v said moved = record {
   answers = said;
@@ -49,7 +49,7 @@ from-book name preferred ks xs v said moved = record {
 }
 
 -- ---- power-on
-power-on-goes : (lent : ℕ) → powerOnRefusal ports lent ≡ 0 → lent ≡ words
+pub power-on-goes : (lent : ℕ) → powerOnRefusal ports lent ≡ 0 → lent ≡ words
 unfolding powerOnRefusal
 power-on-goes lent e = long-in lent (none (notLong ports lent) 2 (omega arith) e .0)
 

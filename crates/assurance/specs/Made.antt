@@ -1,5 +1,7 @@
 -- A call that was made: the record as it was, the call's arguments, the answer, the record as it was left. Of each call the contract of the function is known,
--- `Pre → Post`, and nothing else: these are the clauses `requires` and `ensures` of the functions themselves, read off by the toolchain.
+-- `Pre → Post`, and nothing else: these are the clauses `requires` and `ensures` of the functions themselves, read off by the toolchain. As an implication,
+-- so that a theorem over them has to prove each `Pre` itself. (a, (b, tt)) are a function's arguments; a lent slice is a reference, and `.now` what lies in it;
+-- κs are lifetimes, which no contract reads.
 use mathlib.Core.List.{List}
 use Prim.Native.Nat.{ℕ}
 use contract.Lifetimes.{Lfts}

@@ -6,10 +6,10 @@ use addresses::Event;
 use bridge::FrameAnswer;
 use bridge::MessageAnswer;
 use bridge::TakeAnswer;
-use unit::Unit;
 use queue::Frame;
 use queue::Taken;
 use script::Call;
+use unit::Unit;
 ghost use Prim.Native.Nat.{_≤_};
 ghost use lib.ListN.{length};
 

@@ -1,0 +1,202 @@
+-- From the bridge's contracts to those of the exported functions. Assumes nothing.
+use mathlib.Core.Path.{_≡_, refl, sym, _∙_}
+use mathlib.Core.Bool.{cond}
+use mathlib.Core.List.{List, [], _∷_}
+use Prim.Native.Nat.{ℕ, _-_}
+use native.Mathlib.Decide.{ℕ-discrete}
+use native.Mathlib.Omega.{arith}
+use borrow.Author.Tests.{eq-eqb, ne-eqb}
+use lib.Dec.{eqb}
+use lib.ListN.{length}
+use Rattle.queue.specs.declared.Frame.{Frame}
+use Rattle.queue.specs.declared.Taken.{Taken}
+use Rattle.queue.specs.declared.Taken.the-variants.{Given, Nothing}
+use Rattle.queue.specs.Queue.{Taking}
+use Rattle.bridge.specs.declared.FrameAnswer.{FrameAnswer}
+use Rattle.bridge.specs.declared.TakeAnswer.{TakeAnswer}
+use Rattle.bridge.specs.declared.TakeAnswer.the-variants.{Refused, Took}
+use Rattle.message_answers.specs.declared.MessageAnswer.{MessageAnswer}
+use Rattle.bridge.specs.declared.StartAnswer.{StartAnswer}
+use Rattle.unit.specs.Model.{Model, modelOf}
+use Rattle.refusals.specs.Refusals.{frameRefusal, takeRefusal, startRefusal}
+use Rattle.bridge.specs.Calls.{Call, next, refusal, framePassed, frameAnswer, takeAnswer, startAnswer, Calling, Framing, TakingOut, Messaging, Starting}
+use Rattle.deorasaeng.specs.Interface.{lentRefusal, Served, frameLength, takeLength, bytesLength, messageLength, startLength, takeNumber, frameWords, takeWords, bytesOfFrame, bytesOfTaken, gave, Telling, FrameCall, TakeCall, MessageCall, StartCall, QueueCall, queueNumber}
+use Rattle.deorasaeng.proofs.Numbers.{not-0, frame-lent, frame-number, take-lent, take-lent-bytes, take-number, silent, replied-as, start-lent, start-number, queue-lent, queue-lent-bytes, queue-number}
+
+-- ---- the record
+-- refused before the record is touched
+pub untouched : {words : List ℕ} {k : Call} {r : ℕ} → (r ≡ 0 → ⊥) → Served 4 words words k r
+untouched {r = r} h = record { long = refl; state = rw (ne-eqb r 0 h); refused = λ _. refl }
+
+-- the bridge's call
+pub served : {before after : List ℕ} {k : Call} {r : ℕ} → r ≡ refusal 4 (length before) (modelOf 4 before .rest) k → Calling 4 before after k → Served 4 before after k r
+served {before} {after} {k} {r} e C = record { long = C .long; state = state; refused = λ h. C .refused (λ z. h (e ∙ z)) }
+  where
+    state : modelOf 4 after ≡ cond (eqb r 0) (next 4 (length before) (modelOf 4 before) k) (modelOf 4 before)
+    state =
+        elim (ℕ-discrete r 0) [
+          | yes z ↦ rw (eq-eqb r 0 z) (C .state)
+          | no h ↦ rw (ne-eqb r 0 h, C .refused (λ z. h (e ∙ z)))
+        ]
+
+-- ---- the numbers in the core's answers
+frame-refusal : (lent : ℕ) (m : Model) (port id : ℕ) (bytes : List ℕ) → frameAnswer 4 lent m port id bytes .refusal ≡ frameRefusal 4 lent port id (length bytes)
+unfolding frameAnswer framePassed
+frame-refusal lent m port id bytes =
+    elim (ℕ-discrete (frameRefusal 4 lent port id (length bytes)) 0) [
+      | yes z ↦ rw (eq-eqb (frameRefusal 4 lent port id (length bytes)) 0 z) (sym z)
+      | no h ↦ rw (ne-eqb (frameRefusal 4 lent port id (length bytes)) 0 h)
+    ]
+
+take-refused : (lent : ℕ) (m : Model) (port number : ℕ) → Refused number ≡ takeAnswer 4 lent m port → (number ≡ takeRefusal 4 lent port) × (number ≡ 0 → ⊥)
+unfolding takeAnswer
+take-refused lent m port number e =
+    elim (ℕ-discrete (takeRefusal 4 lent port) 0) [
+      | yes z ↦ let d = rw (eq-eqb (takeRefusal 4 lent port) 0 z) at e in absurd (let x : _≡_ {A = ℕ} 0 1 = cc in omega arith)
+      | no h ↦ let d = rw (ne-eqb (takeRefusal 4 lent port) 0 h) at e in let same : number ≡ takeRefusal 4 lent port = cc in (same, λ z. h (sym same ∙ z))
+    ]
+
+take-done : (lent : ℕ) (m : Model) (port : ℕ) (taken : Taken) → Took taken ≡ takeAnswer 4 lent m port → takeRefusal 4 lent port ≡ 0
+unfolding takeAnswer
+take-done lent m port taken e =
+    elim (ℕ-discrete (takeRefusal 4 lent port) 0) [
+      | yes z ↦ z
+      | no h ↦ let d = rw (ne-eqb (takeRefusal 4 lent port) 0 h) at e in absurd (let x : _≡_ {A = ℕ} 0 1 = cc in omega arith)
+    ]
+
+start-refusal : (lent : ℕ) (m : Model) → startAnswer 4 lent m .refusal ≡ startRefusal 4 lent (m .rest .own)
+unfolding startAnswer
+start-refusal lent m =
+    elim (ℕ-discrete (startRefusal 4 lent (m .rest .own)) 0) [
+      | yes z ↦ rw (eq-eqb (startRefusal 4 lent (m .rest .own)) 0 z) (sym z)
+      | no h ↦ rw (ne-eqb (startRefusal 4 lent (m .rest .own)) 0 h)
+    ]
+
+-- ---- deorasaeng_frame
+module _ {before : List ℕ} {port id : ℕ} {bytes answer : List ℕ} {r : ℕ} where
+  pub frame-wrong : r ≡ lentRefusal 4 port → (length answer ≡ frameLength → ⊥) → FrameCall 4 before before port id bytes answer answer r
+  frame-wrong e h =
+      let n : r ≡ 0 → ⊥ = λ z. not-0 port (sym e ∙ z) in
+      record { number = e ∙ frame-lent (length before) (length answer) port id (length bytes) h; served = untouched n; tells = rw (ne-eqb r 0 n) }
+
+module _ {before after : List ℕ} {port id : ℕ} {bytes answer : List ℕ} {a : FrameAnswer} (F : Framing 4 before after port id bytes a) (e : length answer ≡ frameLength) where
+  frame-called : {told : List ℕ} {r : ℕ} → r ≡ a .refusal → told ≡ cond (eqb r 0) (frameWords a) answer → FrameCall 4 before after port id bytes answer told r
+  unfolding refusal
+  frame-called {r = r} z t =
+      let n : r ≡ frameRefusal 4 (length before) port id (length bytes) = z ∙ rw (F .answer) (frame-refusal (length before) (modelOf 4 before) port id bytes) in
+      record {
+        number = n ∙ sym (frame-number (length before) (length answer) port id (length bytes) e);
+        served = served n (F .call);
+        tells = rw (← (F .answer)) t;
+      }
+
+  pub frame-refused : (a .refusal ≡ 0 → ⊥) → FrameCall 4 before after port id bytes answer answer (a .refusal)
+  frame-refused h = frame-called refl (rw (ne-eqb (a .refusal) 0 h))
+
+  pub frame-done : {told : List ℕ} → a .refusal ≡ 0 → told ≡ frameWords a → FrameCall 4 before after port id bytes answer told 0
+  frame-done z t = frame-called (sym z) t
+
+-- ---- deorasaeng_take
+module _ {told bytes : List ℕ} {taken : Taken} where
+  pub told-nothing : taken ≡ Nothing → told ≡ 0 ∷ 0 ∷ 0 ∷ [] → Telling told bytes bytes taken 0
+  told-nothing is t = record { number = refl; tells = rw is t; writes = rw is }
+
+  pub told-frame : {written : List ℕ} {f : Frame} → taken ≡ Given f → told ≡ 1 ∷ f .id ∷ f .len ∷ [] → written ≡ bytesOfFrame f → Telling told bytes written taken 0
+  told-frame is t w = record { number = refl; tells = rw is t; writes = rw is w }
+
+module _ {before : List ℕ} {port : ℕ} {answer bytes : List ℕ} {r : ℕ} where
+  take-untouched : r ≡ lentRefusal 4 port → r ≡ takeNumber 4 (length before) (length answer) (length bytes) port → TakeCall 4 before before port answer answer bytes bytes r
+  take-untouched e n =
+      let h : r ≡ 0 → ⊥ = λ z. not-0 port (sym e ∙ z) in
+      record { number = n; served = untouched h; ahead = refl; behind = refl; tells = rw (ne-eqb r 0 h); writes = rw (ne-eqb r 0 h) }
+
+  pub take-wrong : r ≡ lentRefusal 4 port → (length answer ≡ takeLength → ⊥) → TakeCall 4 before before port answer answer bytes bytes r
+  take-wrong e h = take-untouched e (e ∙ take-lent (length before) (length answer) port (length bytes) h)
+
+  pub take-wrong-bytes : r ≡ lentRefusal 4 port → (length bytes ≡ bytesLength → ⊥) → TakeCall 4 before before port answer answer bytes bytes r
+  take-wrong-bytes e h = take-untouched e (e ∙ take-lent-bytes (length before) (length answer) port (length bytes) h)
+
+module _ {before after : List ℕ} {port : ℕ} {answer bytes : List ℕ} {t : TakeAnswer} (T : TakingOut 4 before after port t) (e : length answer ≡ takeLength) (e′ : length bytes ≡ bytesLength) where
+  take-called : {told written : List ℕ} {r : ℕ} → r ≡ takeRefusal 4 (length before) port → told ≡ cond (eqb r 0) (takeWords (gave t)) answer → written ≡ cond (eqb r 0) (bytesOfTaken (gave t) bytes) bytes
+      → TakeCall 4 before after port answer told bytes written r
+  unfolding refusal
+  take-called n t w = record {
+    number = n ∙ sym (take-number (length before) (length answer) port (length bytes) e e′);
+    served = served n (T .call);
+    ahead = T .ahead;
+    behind = T .behind;
+    tells = rw (← (T .answer)) t;
+    writes = rw (← (T .answer)) w;
+  }
+
+  pub take-left : {number : ℕ} → t ≡ Refused number → TakeCall 4 before after port answer answer bytes bytes number
+  take-left {number} is =
+      let R = take-refused (length before) (modelOf 4 before) port number (sym is ∙ T .answer) in
+      take-called (R .0) (rw (ne-eqb number 0 (R .1))) (rw (ne-eqb number 0 (R .1)))
+
+  pub take-told : {taken : Taken} {told written : List ℕ} {r : ℕ} → t ≡ Took taken → Telling told bytes written taken r → TakeCall 4 before after port answer told bytes written r
+  take-told {taken} {r = r} is G =
+      take-called (G .number ∙ sym (take-done (length before) (modelOf 4 before) port taken (sym is ∙ T .answer))) (rw (eq-eqb r 0 (G .number), is) (G .tells)) (rw (eq-eqb r 0 (G .number), is) (G .writes))
+
+-- ---- deorasaeng_message
+module _ {before : List ℕ} {port requester : ℕ} {payload reply answer : List ℕ} where
+  pub message-wrong : {r : ℕ} → r ≡ lentRefusal 4 port → (length answer ≡ messageLength → ⊥) → MessageCall 4 before before port requester payload reply reply answer answer r
+  message-wrong {r} e h =
+      let n : r ≡ 0 → ⊥ = λ z. not-0 port (sym e ∙ z) in
+      let S = silent (length before) (length answer) port (length reply) (modelOf 4 before .rest) requester payload h in
+      record { number = rw S e; served = untouched n; writes = rw S; tells = rw (ne-eqb (length answer) messageLength h) }
+
+  pub message-done : {after back told : List ℕ} {a : MessageAnswer} → Messaging 4 before after port requester payload reply back a → length answer ≡ messageLength
+      → told ≡ a .pgn ∷ a .length ∷ [] → MessageCall 4 before after port requester payload reply back answer told (a .refusal)
+  unfolding refusal
+  message-done {a = a} M e t =
+      let S = replied-as (length before) (length answer) port (length reply) (modelOf 4 before .rest) requester payload e in
+      record {
+        number = rw (S, M .answer);
+        served = served (rw (M .answer)) (M .call);
+        writes = rw S (M .written);
+        tells = rw (eq-eqb (length answer) messageLength e, S) (t ∙ rw (M .answer));
+      }
+
+-- ---- deorasaeng_start
+module _ {before answer : List ℕ} where
+  pub start-wrong : (length answer ≡ startLength → ⊥) → StartCall 4 before before answer answer 2
+  start-wrong h = record { number = start-lent (length before) (length answer) (modelOf 4 before .rest .own) h; served = untouched (λ z. omega arith); tells = refl }
+
+  module _ {after : List ℕ} {a : StartAnswer} (S : Starting 4 before after a) (e : length answer ≡ startLength) where
+    start-called : {told : List ℕ} {r : ℕ} → r ≡ a .refusal → told ≡ cond (eqb r 0) (a .unsent ∷ []) answer → StartCall 4 before after answer told r
+    unfolding refusal
+    start-called {r = r} z t =
+        let n : r ≡ startRefusal 4 (length before) (modelOf 4 before .rest .own) = z ∙ rw (S .answer) (start-refusal (length before) (modelOf 4 before)) in
+        record {
+          number = n ∙ sym (start-number (length before) (length answer) (modelOf 4 before .rest .own) e);
+          served = served n (S .call);
+          tells = rw (← (S .answer)) t;
+        }
+
+    pub start-refused : (a .refusal ≡ 0 → ⊥) → StartCall 4 before after answer answer (a .refusal)
+    start-refused h = start-called refl (rw (ne-eqb (a .refusal) 0 h))
+
+    pub start-done : {told : List ℕ} → a .refusal ≡ 0 → told ≡ a .unsent ∷ [] → StartCall 4 before after answer told 0
+    start-done z t = start-called (sym z) t
+
+-- ---- deorasaeng_take_queue
+module _ {before answer bytes : List ℕ} where
+  queue-untouched : 2 ≡ queueNumber (length answer) (length bytes) → QueueCall before before answer answer bytes bytes 2
+  queue-untouched n = record { number = n; done = λ z. absurd (omega arith); refused = λ _. refl; tells = refl; writes = refl }
+
+  pub queue-wrong : (length answer ≡ takeLength → ⊥) → QueueCall before before answer answer bytes bytes 2
+  queue-wrong h = queue-untouched (queue-lent (length answer) (length bytes) h)
+
+  pub queue-wrong-bytes : (length bytes ≡ bytesLength → ⊥) → QueueCall before before answer answer bytes bytes 2
+  queue-wrong-bytes h = queue-untouched (queue-lent-bytes (length answer) (length bytes) h)
+
+  pub queue-told : {after told written : List ℕ} {taken : Taken} {r : ℕ} → Taking before after taken → length answer ≡ takeLength → length bytes ≡ bytesLength
+      → Telling told bytes written taken r → QueueCall before after answer told bytes written r
+  queue-told {r = r} T e e′ G = record {
+    number = G .number ∙ sym (queue-number (length answer) (length bytes) e e′);
+    done = λ _. rw (← (T .answer)) T;
+    refused = λ h. absurd (h (G .number));
+    tells = rw (eq-eqb r 0 (G .number), ← (T .answer)) (G .tells);
+    writes = rw (eq-eqb r 0 (G .number), ← (T .answer)) (G .writes);
+  }

@@ -1,0 +1,183 @@
+-- The C interface, in the order of include/deorasaeng.h: for each function the number that it gives, what it does to the record, the words of its answer
+-- and the bytes that it writes. `before` and `after` are the record's words; `answer` and `told` the answer's words before and after; `lent..` is the
+-- length of storage that was lent. `deorasaeng_power_on` and `deorasaeng_quiet` have no answer: their contracts are the bridge's, `PoweringOn` and `Quieting`.
+-- Assumes nothing.
+use Prim.Native.Nat.{ℕ, _+_, _-_}
+use mathlib.Core.Bool.{Bool, true, not, _||_, cond}
+use mathlib.Core.Path.{_≡_}
+use mathlib.Core.List.{List, [], _∷_, _++_}
+use lib.ListN.{length, take, drop, replicate}
+use lib.Dec.{ltb, eqb}
+use Rattle.storage.specs.Bytes.{bytesOf}
+use Rattle.identifier.specs.Identifier.{tooWide, wrongSource}
+use Rattle.delivery.specs.Row.{pull, given}
+use Rattle.queue.specs.declared.Frame.{Frame}
+use Rattle.queue.specs.declared.Taken.{Taken}
+use Rattle.queue.specs.declared.Taken.the-variants.{Given, Nothing}
+use Rattle.queue.specs.Queue.{blockLength, rowOf, priority, takenOf, Taking}
+use Rattle.addresses.specs.Events.{eventNumber, oldName}
+use Rattle.network_message.specs.Checks.{check, first}
+use Rattle.network_message.specs.Decoding.{decoded}
+use Rattle.network_message.specs.Replies.{longest}
+use Rattle.bridge.specs.declared.FrameAnswer.{FrameAnswer}
+use Rattle.bridge.specs.declared.TakeAnswer.{TakeAnswer}
+use Rattle.bridge.specs.declared.TakeAnswer.the-variants.{Refused, Took}
+use Rattle.unit.specs.declared.Unit.{Unit}
+use Rattle.unit.specs.Model.{Rest, modelOf}
+use Rattle.refusals.specs.Refusals.{noPort}
+use Rattle.unit.specs.PowerOn.{notLong}
+use Rattle.unit.specs.Own.{startChecks}
+use Rattle.unit.specs.Own.{isClaimed}
+use Rattle.refusals.specs.Refusals.{lateChecks}
+use Rattle.message_answers.specs.Messages.{performedBy, Replied}
+use Rattle.bridge.specs.Calls.{silentReply}
+use Rattle.bridge.specs.Calls.{Call, FrameIn, TakeOut, Message, Start, next, queueAt, frameAnswer, takeAnswer, startAnswer}
+
+-- ---- what the functions share
+-- 2: lent storage not of its published length
+abbrev pub notOf : ℕ → ℕ → Bool
+notOf published lent = not (eqb lent published)
+
+-- "number 1 stands before 2": the number where lent storage is wrong
+unfoldable pub lentRefusal : ℕ → ℕ → ℕ
+lentRefusal ports port = first (check (noPort ports port) 1 ∷ check true 2 ∷ [])
+
+-- the call k on the record gave the number r: done where r is 0; else every word is as it was
+pub record Served (ports : ℕ) (before after : List ℕ) (k : Call) (r : ℕ) : Type 0 where
+  pub long : length after ≡ length before
+  pub state : modelOf ports after ≡ cond (eqb r 0) (next ports (length before) (modelOf ports before) k) (modelOf ports before)
+  pub refused : (r ≡ 0 → ⊥) → after ≡ before
+
+-- "On a refusal it is left as it was."
+abbrev pub filled : ℕ → List ℕ → List ℕ → List ℕ
+filled r words answer = cond (eqb r 0) words answer
+
+-- ---- deorasaeng_frame
+abbrev pub frameLength : ℕ
+frameLength = 7
+
+unfoldable pub frameNumber : ℕ → ℕ → ℕ → ℕ → ℕ → ℕ → ℕ
+frameNumber ports lent lentAnswer port id len =
+    first
+    (check (noPort ports port) 1
+    ∷ check (notLong ports lent || notOf frameLength lentAnswer) 2
+    ∷ check (tooWide id) 3
+    ∷ check (ltb 8 len) 4
+    ∷ check (wrongSource id) 5
+    ∷ [])
+
+-- consumed (0, 1), accepted ports, lost ports, claim event, old NAME, ports where the unit's own frame was lost, entries compared
+abbrev pub frameWords : FrameAnswer → List ℕ
+frameWords a = cond (a .consumed) 1 0 ∷ a .accepted ∷ a .lost ∷ eventNumber (a .event) ∷ oldName (a .event) ∷ a .unsent ∷ a .compared ∷ []
+
+pub record FrameCall (ports : ℕ) (before after : List ℕ) (port id : ℕ) (bytes answer told : List ℕ) (r : ℕ) : Type 0 where
+  pub number : r ≡ frameNumber ports (length before) (length answer) port id (length bytes)
+  pub served : Served ports before after (FrameIn port id bytes) r
+  pub tells : told ≡ filled r (frameWords (frameAnswer ports (length before) (modelOf ports before) port id bytes)) answer
+
+-- ---- deorasaeng_take
+abbrev pub takeLength : ℕ
+takeLength = 3
+
+abbrev pub bytesLength : ℕ
+bytesLength = 8
+
+unfoldable pub takeNumber : ℕ → ℕ → ℕ → ℕ → ℕ → ℕ
+takeNumber ports lent lentAnswer lentBytes port =
+    first (check (noPort ports port) 1 ∷ check (notLong ports lent || notOf takeLength lentAnswer || notOf bytesLength lentBytes) 2 ∷ [])
+
+-- 1 for a frame and 0 for nothing waiting, identifier, length
+abbrev pub takeWords : Taken → List ℕ
+takeWords (Given f) = 1 ∷ f .id ∷ f .len ∷ []
+takeWords Nothing = 0 ∷ 0 ∷ 0 ∷ []
+
+-- "the frame's bytes, 0 past its length"
+unfoldable pub bytesOfFrame : Frame → List ℕ
+bytesOfFrame f = take (f .len) (bytesOf bytesLength (f .bytes)) ++ replicate (bytesLength - f .len) 0
+
+-- "untouched when nothing waits"
+abbrev pub bytesOfTaken : Taken → List ℕ → List ℕ
+bytesOfTaken (Given f) bytes = bytesOfFrame f
+bytesOfTaken Nothing bytes = bytes
+
+-- what a take that is not refused gave
+abbrev pub gave : TakeAnswer → Taken
+gave (Refused number) = Nothing
+gave (Took taken) = taken
+
+-- what the private function ensures that tells a take that is done
+pub record Telling (told bytes written : List ℕ) (taken : Taken) (r : ℕ) : Type 0 where
+  pub number : r ≡ 0
+  pub tells : told ≡ takeWords taken
+  pub writes : written ≡ bytesOfTaken taken bytes
+
+pub record TakeCall (ports : ℕ) (before after : List ℕ) (port : ℕ) (answer told bytes written : List ℕ) (r : ℕ) : Type 0 where
+  pub number : r ≡ takeNumber ports (length before) (length answer) (length bytes) port
+  pub served : Served ports before after (TakeOut port) r
+  -- "A take changes that port's queue only": every word before it and behind it is as it was
+  pub ahead : take (queueAt ports port) after ≡ take (queueAt ports port) before
+  pub behind : drop (queueAt ports port + blockLength) after ≡ drop (queueAt ports port + blockLength) before
+  pub tells : told ≡ filled r (takeWords (gave (takeAnswer ports (length before) (modelOf ports before) port))) answer
+  pub writes : written ≡ filled r (bytesOfTaken (gave (takeAnswer ports (length before) (modelOf ports before) port)) bytes) bytes
+
+-- ---- deorasaeng_message
+abbrev pub messageLength : ℕ
+messageLength = 2
+
+-- 1, 2, 6, 7, 8: before the payload is read
+unfoldable pub messageNumber : ℕ → ℕ → ℕ → ℕ → Rest → ℕ → ℕ → ℕ → ℕ
+messageNumber ports lent lentReply lentAnswer rest port requester size =
+    first
+    (check (noPort ports port) 1
+    ∷ check (notLong ports lent || ltb lentReply longest || notOf messageLength lentAnswer) 2
+    ∷ check (not (isClaimed (rest .own .claim))) 6
+    ∷ lateChecks requester size)
+
+-- what the message does and is answered with: 9 to 17 are acknowledged, and nothing is written for the others
+unfoldable pub repliedTo : ℕ → ℕ → ℕ → ℕ → Rest → ℕ → ℕ → List ℕ → Replied
+repliedTo ports lent lentReply lentAnswer rest port requester payload =
+    cond (eqb (messageNumber ports lent lentReply lentAnswer rest port requester (length payload)) 0)
+    (performedBy ports rest requester payload (decoded ports port payload))
+    (silentReply (messageNumber ports lent lentReply lentAnswer rest port requester (length payload)) (rest .pairs))
+
+-- PGN and length of what was written: a refusal fills them too, unless the answer itself is not of its length
+abbrev pub messageWords : Replied → List ℕ → List ℕ
+messageWords a answer = cond (notOf messageLength (length answer)) answer (a .pgn ∷ length (a .written) ∷ [])
+
+-- the bytes that are written, and the others as they were
+abbrev pub over : List ℕ → List ℕ → List ℕ
+over written bytes = written ++ drop (length written) bytes
+
+pub record MessageCall (ports : ℕ) (before after : List ℕ) (port requester : ℕ) (payload reply back answer told : List ℕ) (r : ℕ) : Type 0 where
+  pub number : r ≡ repliedTo ports (length before) (length reply) (length answer) (modelOf ports before .rest) port requester payload .number
+  pub served : Served ports before after (Message port requester payload (length reply)) r
+  pub writes : back ≡ over (repliedTo ports (length before) (length reply) (length answer) (modelOf ports before .rest) port requester payload .written) reply
+  pub tells : told ≡ messageWords (repliedTo ports (length before) (length reply) (length answer) (modelOf ports before .rest) port requester payload) answer
+
+-- ---- deorasaeng_start
+abbrev pub startLength : ℕ
+startLength = 1
+
+unfoldable pub startNumber : ℕ → ℕ → ℕ → Unit → ℕ
+startNumber ports lent lentAnswer own = first (check (notLong ports lent || notOf startLength lentAnswer) 2 ∷ startChecks own)
+
+-- ports where the unit's own frame was lost
+pub record StartCall (ports : ℕ) (before after answer told : List ℕ) (r : ℕ) : Type 0 where
+  pub number : r ≡ startNumber ports (length before) (length answer) (modelOf ports before .rest .own)
+  pub served : Served ports before after Start r
+  pub tells : told ≡ filled r (startAnswer ports (length before) (modelOf ports before) .unsent ∷ []) answer
+
+-- ---- deorasaeng_take_queue: `before` and `after` are the words of one port's queue
+unfoldable pub queueNumber : ℕ → ℕ → ℕ
+queueNumber lentAnswer lentBytes = first (check (notOf takeLength lentAnswer || notOf bytesLength lentBytes) 2 ∷ [])
+
+-- what the take gives
+abbrev pub takenFrom : List ℕ → Taken
+takenFrom block = takenOf (given (pull priority (rowOf block)))
+
+pub record QueueCall (before after answer told bytes written : List ℕ) (r : ℕ) : Type 0 where
+  pub number : r ≡ queueNumber (length answer) (length bytes)
+  pub done : r ≡ 0 → Taking before after (takenFrom before)
+  pub refused : (r ≡ 0 → ⊥) → after ≡ before
+  pub tells : told ≡ filled r (takeWords (takenFrom before)) answer
+  pub writes : written ≡ filled r (bytesOfTaken (takenFrom before) bytes) bytes

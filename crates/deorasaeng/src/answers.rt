@@ -1,0 +1,88 @@
+// Answers as words and bytes that the caller lends.
+use bridge::FrameAnswer;
+use queue::Frame;
+use queue::Taken;
+ghost use mathlib.Core.Path.{_≡_};
+ghost use mathlib.Core.Bool.{cond};
+ghost use lib.ListN.{length};
+ghost use Rattle.storage.specs.Bytes.{bytesOf};
+ghost use Rattle.deorasaeng.specs.Interface.{frameLength, takeLength, bytesLength, frameWords, takeWords, bytesOfFrame, bytesOfTaken, Telling};
+
+// The published lengths.
+pub const FRAME_WORDS: usize = 7;
+
+pub const TAKE_WORDS: usize = 3;
+
+pub const FRAME_BYTES: usize = 8;
+
+pub const MESSAGE_WORDS: usize = 2;
+
+pub const START_WORDS: usize = 1;
+
+// 1 for true.
+fn flag(on: bool) -> u64
+    ensures { λ r. ⌜ r ≡ cond on 1 0 ⌝ }
+{
+    if on {
+        return 1;
+    }
+    0
+}
+
+// The answer to a frame.
+pub fn tell_frame(answer: &mut [u64], a: FrameAnswer)
+    requires { ⌜ length (now answer) ≡ frameLength ⌝ }
+    ensures { λ _. ⌜ now (answer .exit) ≡ frameWords a ⌝ }
+{
+    let event = a.event;
+    answer[0] = flag(a.consumed);
+    answer[1] = a.accepted as u64;
+    answer[2] = a.lost as u64;
+    answer[3] = event.number() as u64;
+    answer[4] = event.old_name();
+    answer[5] = a.unsent as u64;
+    answer[6] = a.compared as u64;
+}
+
+// The word of a frame's bytes, with 0 past its length.
+fn word_of(f: Frame) -> u64
+    ensures { λ r. ⌜ bytesOf bytesLength r ≡ bytesOfFrame f ⌝ }
+{
+    if f.len < 8 {
+        return f.bytes % (1 << (8 * f.len));
+    }
+    f.bytes
+}
+
+// Writes the eight bytes of a word, least significant first.
+fn write_word(bytes: &mut [u8], word: u64)
+    requires { ⌜ length (now bytes) ≡ bytesLength ⌝ }
+    ensures { λ _. ⌜ now (bytes .exit) ≡ bytesOf bytesLength word ⌝ }
+{
+    let mut i = 0;
+    while i < FRAME_BYTES {
+        bytes[i] = storage::byte_at(word, i);
+        i += 1;
+    }
+}
+
+// The answer to a take, which is done: 0.
+pub fn tell_taken(answer: &mut [u64], bytes: &mut [u8], taken: Taken) -> u32
+    requires { ⌜ (length (now answer) ≡ takeLength) × (length (now bytes) ≡ bytesLength) ⌝ }
+    ensures { λ r. ⌜ Telling (now (answer .exit)) (now (bytes .entry)) (now (bytes .exit)) taken r ⌝ }
+{
+    match taken {
+        Taken::Nothing => {
+            answer[0] = 0;
+            answer[1] = 0;
+            answer[2] = 0;
+        }
+        Taken::Given(f) => {
+            answer[0] = 1;
+            answer[1] = f.id as u64;
+            answer[2] = f.len as u64;
+            write_word(bytes, word_of(f));
+        }
+    }
+    0
+}

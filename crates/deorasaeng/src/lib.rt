@@ -1,0 +1,164 @@
+// The C interface of the unit: exported functions over numbers and slices alone. Each gives 0 for done or the number that refuses the call, and requires
+// nothing: a wrong length is refused with 2.
+mod answers;
+
+use bridge::TakeAnswer;
+use queue::Queue;
+use unit::Unit;
+ghost use mathlib.Core.Path.{_≡_};
+ghost use Rattle.unit.specs.PowerOn.{PoweringOn};
+ghost use Rattle.bridge.specs.Calls.{Quieting};
+ghost use Rattle.deorasaeng.specs.Interface.{lentRefusal, FrameCall, TakeCall, MessageCall, StartCall, QueueCall};
+
+// The number of a call that names a port and lends storage of a wrong length: 1 stands before 2.
+fn lent_refusal(port: u32) -> u32
+    ensures { λ r. ⌜ r ≡ lentRefusal 4 port ⌝ }
+{
+    if port < 1 {
+        return 1;
+    }
+    if 4 < port {
+        return 1;
+    }
+    2
+}
+
+// Power-on: the record becomes that of a fresh unit.
+#[no_mangle]
+pub extern "C" fn deorasaeng_power_on(words: &mut [u64], name: u64, preferred: u32) -> u32
+    ensures { λ r. ⌜ PoweringOn 4 (now (words .entry)) (now (words .exit)) name preferred r ⌝ }
+{
+    Unit::power_on(words, name, preferred)
+}
+
+// A frame arrived at a port.
+#[no_mangle]
+pub extern "C" fn deorasaeng_frame(
+    words: &mut [u64],
+    port: u32,
+    id: u32,
+    bytes: &[u8],
+    answer: &mut [u64],
+) -> u32
+    ensures { λ r. ⌜ FrameCall 4 (now (words .entry)) (now (words .exit)) port id (now (bytes .entry)) (now (answer .entry)) (now (answer .exit)) r ⌝ }
+{
+    if answer.len() != answers::FRAME_WORDS {
+        return lent_refusal(port);
+    }
+    let a = bridge::frame(words, port, id, bytes);
+    let number = a.refusal;
+    if number != 0 {
+        return number;
+    }
+    answers::tell_frame(answer, a);
+    0
+}
+
+// A port is ready to send its next frame.
+#[no_mangle]
+pub extern "C" fn deorasaeng_take(
+    words: &mut [u64],
+    port: u32,
+    answer: &mut [u64],
+    bytes: &mut [u8],
+) -> u32
+    ensures { λ r. ⌜ TakeCall 4 (now (words .entry)) (now (words .exit)) port (now (answer .entry)) (now (answer .exit)) (now (bytes .entry)) (now (bytes .exit)) r ⌝ }
+{
+    if answer.len() != answers::TAKE_WORDS {
+        return lent_refusal(port);
+    }
+    if bytes.len() != answers::FRAME_BYTES {
+        return lent_refusal(port);
+    }
+    let t = bridge::take(words, port);
+    match t {
+        TakeAnswer::Refused(number) => number,
+        TakeAnswer::Took(taken) => answers::tell_taken(answer, bytes, taken),
+    }
+}
+
+// A network message to the unit, handed in whole, with a buffer for what is to be sent back.
+#[no_mangle]
+pub extern "C" fn deorasaeng_message(
+    words: &mut [u64],
+    port: u32,
+    requester: u32,
+    payload: &[u8],
+    reply: &mut [u8],
+    answer: &mut [u64],
+) -> u32
+    ensures { λ r. ⌜ MessageCall 4 (now (words .entry)) (now (words .exit)) port requester (now (payload .entry)) (now (reply .entry)) (now (reply .exit)) (now (answer .entry)) (now (answer .exit)) r ⌝ }
+{
+    if answer.len() != answers::MESSAGE_WORDS {
+        return lent_refusal(port);
+    }
+    let a = bridge::message(words, port, requester, payload, reply);
+    answer[0] = a.pgn as u64;
+    answer[1] = a.length as u64;
+    a.refusal
+}
+
+// The unit claims its preferred address.
+#[no_mangle]
+pub extern "C" fn deorasaeng_start(words: &mut [u64], answer: &mut [u64]) -> u32
+    ensures { λ r. ⌜ StartCall 4 (now (words .entry)) (now (words .exit)) (now (answer .entry)) (now (answer .exit)) r ⌝ }
+{
+    if answer.len() != answers::START_WORDS {
+        return 2;
+    }
+    let a = bridge::start(words);
+    let refusal = a.refusal;
+    if refusal != 0 {
+        return refusal;
+    }
+    answer[0] = a.unsent as u64;
+    0
+}
+
+// The 250 ms after the unit's claim are over.
+#[no_mangle]
+pub extern "C" fn deorasaeng_quiet(words: &mut [u64]) -> u32
+    ensures { λ r. ⌜ Quieting 4 (now (words .entry)) (now (words .exit)) r ⌝ }
+{
+    bridge::quiet(words)
+}
+
+// A queue after a take that was told, and the number that the take gives.
+struct AfterTold {
+    queue: Queue,
+    number: u32,
+}
+
+// The take by value, told: refused with 2 where the answer or the bytes are not of their length.
+fn take_told(queue: Queue, answer: &mut [u64], bytes: &mut [u8]) -> AfterTold
+    ensures { λ r. ⌜ QueueCall (queue .words) (r .queue .words) (now (answer .entry)) (now (answer .exit)) (now (bytes .entry)) (now (bytes .exit)) (r .number) ⌝ }
+{
+    if answer.len() != answers::TAKE_WORDS {
+        return AfterTold { queue, number: 2 };
+    }
+    if bytes.len() != answers::FRAME_BYTES {
+        return AfterTold { queue, number: 2 };
+    }
+    let t = queue.take();
+    let rest = t.queue;
+    let taken = t.taken;
+    let number = answers::tell_taken(answer, bytes, taken);
+    AfterTold {
+        queue: rest,
+        number,
+    }
+}
+
+// The take on a queue that is lent, which is all that the transmit routine of one port is handed.
+#[no_mangle]
+pub extern "C" fn deorasaeng_take_queue(
+    queue: &mut Queue,
+    answer: &mut [u64],
+    bytes: &mut [u8],
+) -> u32
+    ensures { λ r. ⌜ QueueCall (now (queue .entry) .words) (now (queue .exit) .words) (now (answer .entry)) (now (answer .exit)) (now (bytes .entry)) (now (bytes .exit)) r ⌝ }
+{
+    let t = take_told(*queue, answer, bytes);
+    *queue = t.queue;
+    t.number
+}

@@ -1,0 +1,90 @@
+-- One call, written down: an answer's words, the bytes that a call names, and the book's move by the contract of the call. Assumes nothing.
+use mathlib.Core.Path.{_≡_, refl, sym, ap, _∙_}
+use mathlib.Core.List.{List, [], _∷_}
+use Prim.Native.Nat.{ℕ, _+_, _-_, _≤_, min}
+use native.Mathlib.Decide.{decLt}
+use native.Mathlib.Omega.{arith}
+use lib.ListN.{length, set, take, drop, drop-of-length-le}
+use lib.Seq.{take-all, take-add, drop-at, length-take-le}
+use Rattle.bridge.specs.declared.FrameAnswer.{FrameAnswer}
+use Rattle.bridge.specs.declared.TakeAnswer.{TakeAnswer}
+use Rattle.message_answers.specs.declared.MessageAnswer.{MessageAnswer}
+use Rattle.bridge.specs.declared.StartAnswer.{StartAnswer}
+use Rattle.unit.specs.Model.{recordLength}
+use Rattle.bridge.specs.Calls.{FrameIn, TakeOut, Message, Start, Quiet, Framing, TakingOut, Messaging, Starting, Quieting}
+use Rattle.assurance.specs.Demand3.{ToFrame, ToTake, answer}
+use Rattle.witness.specs.Encoding.{answerWords, partOf, code}
+use Rattle.witness.specs.Replay.{Stepping}
+
+-- eight words stored
+pub eight : (xs : List ℕ) (a b c d e f g h : ℕ) → length xs ≡ answerWords
+    → set (set (set (set (set (set (set (set xs 0 a) 1 b) 2 c) 3 d) 4 e) 5 f) 6 g) 7 h ≡ a ∷ b ∷ c ∷ d ∷ e ∷ f ∷ g ∷ h ∷ []
+eight [] a b c d e f g h l = absurd (omega arith)
+eight (_ ∷ []) a b c d e f g h l = absurd (omega arith)
+eight (_ ∷ _ ∷ []) a b c d e f g h l = absurd (omega arith)
+eight (_ ∷ _ ∷ _ ∷ []) a b c d e f g h l = absurd (omega arith)
+eight (_ ∷ _ ∷ _ ∷ _ ∷ []) a b c d e f g h l = absurd (omega arith)
+eight (_ ∷ _ ∷ _ ∷ _ ∷ _ ∷ []) a b c d e f g h l = absurd (omega arith)
+eight (_ ∷ _ ∷ _ ∷ _ ∷ _ ∷ _ ∷ []) a b c d e f g h l = absurd (omega arith)
+eight (_ ∷ _ ∷ _ ∷ _ ∷ _ ∷ _ ∷ _ ∷ []) a b c d e f g h l = absurd (omega arith)
+eight (_ ∷ _ ∷ _ ∷ _ ∷ _ ∷ _ ∷ _ ∷ _ ∷ []) a b c d e f g h l = refl
+eight (_ ∷ _ ∷ _ ∷ _ ∷ _ ∷ _ ∷ _ ∷ _ ∷ _ ∷ xs) a b c d e f g h l = absurd (omega arith)
+
+-- ---- the bytes that a call names
+part-in : (bytes : List ℕ) (a e : ℕ) → a ≤ e → e ≤ length bytes → take (e - a) (drop a bytes) ≡ drop a (take e bytes)
+part-in bytes a e h k =
+    let s : e ≡ a + (e - a) = omega arith in
+    sym (ap (λ n. drop a (take n bytes)) s ∙ rw (take-add a (e - a) bytes) (drop-at (take a bytes) (take (e - a) (drop a bytes)) a (length-take-le a bytes (omega arith))))
+
+take-end : (bytes : List ℕ) (to : ℕ) → take (min to (length bytes)) bytes ≡ take to bytes
+take-end bytes to =
+    elim (decLt to (length bytes)) [
+      | yes h ↦ let e : min to (length bytes) ≡ to = omega arith in rw e
+      | no n ↦ take-all (min to (length bytes)) bytes (omega arith) ∙ sym (take-all to bytes (omega arith))
+    ]
+
+drop-start : (bytes : List ℕ) (from e : ℕ) → e ≤ length bytes → drop (min from e) (take e bytes) ≡ drop from (take e bytes)
+drop-start bytes from e h =
+    let l : length (take e bytes) ≡ e = length-take-le e bytes h in
+    elim (decLt from e) [
+      | yes k ↦ let z : min from e ≡ from = omega arith in rw z
+      | no n ↦ drop-of-length-le (take e bytes) {i = min from e} (omega arith) ∙ sym (drop-of-length-le (take e bytes) {i = from} (omega arith))
+    ]
+
+pub part-is : (bytes : List ℕ) (from to a e : ℕ) → e ≡ min to (length bytes) → a ≡ min from e → take (e - a) (drop a bytes) ≡ partOf bytes from to
+part-is bytes from to a e h k =
+    let start : drop a (take e bytes) ≡ drop from (take e bytes) = rw k (drop-start bytes from e (omega arith)) in
+    let end : drop from (take e bytes) ≡ drop from (take to bytes) = rw h (ap (λ l. drop from l) (take-end bytes to)) in
+    part-in bytes a e (omega arith) (omega arith) ∙ start ∙ end
+
+-- ---- one call, by its contract
+module _ {w w′ out : List ℕ} (long : length w ≡ recordLength 4) where
+  pub frame-step : {port id : ℕ} {bytes : List ℕ} {r : FrameAnswer} → Framing 4 w w′ port id bytes r → out ≡ code (ToFrame r) → Stepping w w′ (FrameIn port id bytes) out
+  unfolding answer
+  frame-step l o = record { state = rw long at (l .call .state); answer = o ∙ ap (λ r. code (ToFrame r)) (rw long at (l .answer)) }
+
+  pub take-step : {port : ℕ} {r : TakeAnswer} → TakingOut 4 w w′ port r → out ≡ code (ToTake r) → Stepping w w′ (TakeOut port) out
+  unfolding answer
+  take-step l o = record { state = rw long at (l .call .state); answer = o ∙ ap (λ r. code (ToTake r)) (rw long at (l .answer)) }
+
+  pub message-step : {port requester : ℕ} {payload lent back : List ℕ} {r : MessageAnswer} → Messaging 4 w w′ port requester payload lent back r
+      → out ≡ r .refusal ∷ r .pgn ∷ r .length ∷ 0 ∷ 0 ∷ 0 ∷ 0 ∷ 0 ∷ [] → Stepping w w′ (Message port requester payload (length lent)) out
+  unfolding answer code
+  message-step {r} l o = record {
+    state = rw long at (l .call .state);
+    answer = o ∙ ap (λ (r : MessageAnswer). r .refusal ∷ r .pgn ∷ r .length ∷ 0 ∷ 0 ∷ 0 ∷ 0 ∷ 0 ∷ []) (rw long at (l .answer));
+  }
+
+  pub start-step : {r : StartAnswer} → Starting 4 w w′ r → out ≡ r .refusal ∷ r .unsent ∷ 0 ∷ 0 ∷ 0 ∷ 0 ∷ 0 ∷ 0 ∷ [] → Stepping w w′ Start out
+  unfolding answer code
+  start-step l o = record {
+    state = rw long at (l .call .state);
+    answer = o ∙ ap (λ (r : StartAnswer). r .refusal ∷ r .unsent ∷ 0 ∷ 0 ∷ 0 ∷ 0 ∷ 0 ∷ 0 ∷ []) (rw long at (l .answer));
+  }
+
+  pub quiet-step : {r : ℕ} → Quieting 4 w w′ r → out ≡ r ∷ 0 ∷ 0 ∷ 0 ∷ 0 ∷ 0 ∷ 0 ∷ 0 ∷ [] → Stepping w w′ Quiet out
+  unfolding answer code
+  quiet-step l o = record {
+    state = rw long at (l .call .state);
+    answer = o ∙ ap (λ r. r ∷ 0 ∷ 0 ∷ 0 ∷ 0 ∷ 0 ∷ 0 ∷ 0 ∷ []) (rw long at (l .answer));
+  }

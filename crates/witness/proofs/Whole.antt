@@ -1,0 +1,16 @@
+-- What `replay` did obeys demand 3: its contract gives the whole claim of `assurance` for the list of calls that its words say. Assumes nothing.
+use mathlib.Core.Path.{refl}
+use mathlib.Core.List.{List}
+use Prim.Native.Nat.{ℕ}
+use Rattle.delivery.specs.Calls.{answersOf}
+use Rattle.unit.specs.PowerOn.{fresh}
+use Rattle.assurance.specs.Demand3.{next, answer, Demand3}
+use Rattle.assurance.proofs.Demand3.{from-book}
+use Rattle.witness.specs.Replay.{callsOf, count, Replaying}
+
+pub replay-obeys : {before after calls bytes lent back : List ℕ} {name preferred lentReply : ℕ} → Replaying before after name preferred calls bytes lentReply lent back 0
+    → Demand3 name preferred (callsOf calls bytes lentReply (count calls lent))
+    (answersOf next answer (fresh 4 name preferred) (callsOf calls bytes lentReply (count calls lent))) after
+replay-obeys {before} {after} {calls} {bytes} {lent} {back} {name} {preferred} {lentReply} r =
+    from-book name preferred (callsOf calls bytes lentReply (count calls lent))
+    (answersOf next answer (fresh 4 name preferred) (callsOf calls bytes lentReply (count calls lent))) after refl (r .state refl)

@@ -1,0 +1,54 @@
+-- Calls and answers as words. A call is five words: its kind, the port, a further argument, and the place of its bytes, from where to where, among the
+-- bytes of all calls. An answer is eight words. Assumes nothing.
+use Prim.Native.Nat.{ℕ, _%_, _^_}
+use mathlib.Core.Bool.{cond}
+use mathlib.Core.List.{List, [], _∷_, _++_}
+use lib.Dec.{eqb}
+use lib.ListN.{take, drop, getD}
+use Rattle.queue.specs.declared.Taken.the-variants.{Given, Nothing}
+use Rattle.addresses.specs.Events.{eventNumber, oldName}
+use Rattle.bridge.specs.declared.TakeAnswer.the-variants.{Refused, Took}
+use Rattle.bridge.specs.Calls.{Call, FrameIn, TakeOut, Message, Start, Quiet}
+use Rattle.assurance.specs.Demand3.{Answer, ToFrame, ToTake, ToMessage, ToStart, ToQuiet}
+
+abbrev pub callWords : ℕ
+callWords = 5
+
+abbrev pub answerWords : ℕ
+answerWords = 8
+
+-- ---- calls
+-- 0 a frame with this identifier, 1 a take, 2 a message from this requester, 3 Start, any other Quiet
+unfoldable pub callFrom : ℕ → ℕ → ℕ → List ℕ → ℕ → Call
+callFrom kind port argument bytes lentReply =
+    cond (eqb kind 0)
+    (FrameIn port argument bytes)
+    (cond (eqb kind 1)
+    (TakeOut port)
+    (cond (eqb kind 2)
+    (Message port argument bytes lentReply)
+    (cond (eqb kind 3) Start Quiet)))
+
+-- the bytes from a place up to another, as far as there are any
+abbrev pub partOf : List ℕ → ℕ → ℕ → List ℕ
+partOf bytes from to = drop from (take to bytes)
+
+unfoldable pub callOf : List ℕ → ℕ → List ℕ → Call
+callOf bytes lentReply call =
+    callFrom (getD call 0 0) (getD call 1 0 % 2 ^ 32) (getD call 2 0 % 2 ^ 32) (partOf bytes (getD call 3 0) (getD call 4 0)) lentReply
+
+-- ---- answers
+unfoldable pub code : Answer → List ℕ
+code (ToFrame r) =
+    r .refusal ∷ cond (r .consumed) 1 0 ∷ r .accepted ∷ r .lost ∷ r .unsent ∷ r .compared ∷ eventNumber (r .event) ∷ oldName (r .event) ∷ []
+code (ToTake (Refused number)) = number ∷ 0 ∷ 0 ∷ 0 ∷ 0 ∷ 0 ∷ 0 ∷ 0 ∷ []
+code (ToTake (Took (Given f))) = 0 ∷ 1 ∷ f .id ∷ f .len ∷ f .bytes ∷ 0 ∷ 0 ∷ 0 ∷ []
+code (ToTake (Took Nothing)) = 0 ∷ 0 ∷ 0 ∷ 0 ∷ 0 ∷ 0 ∷ 0 ∷ 0 ∷ []
+code (ToMessage r reply) = r .refusal ∷ r .pgn ∷ r .length ∷ 0 ∷ 0 ∷ 0 ∷ 0 ∷ 0 ∷ []
+code (ToStart r) = r .refusal ∷ r .unsent ∷ 0 ∷ 0 ∷ 0 ∷ 0 ∷ 0 ∷ 0 ∷ []
+code (ToQuiet number) = number ∷ 0 ∷ 0 ∷ 0 ∷ 0 ∷ 0 ∷ 0 ∷ 0 ∷ []
+
+-- the words of several answers
+abbrev pub codes : List Answer → List ℕ
+codes [] = []
+codes (x ∷ xs) = code x ++ codes xs

@@ -1,0 +1,239 @@
+// A second witness of demand 3, by running code: `replay` makes any list of calls on one record, from power-on on, and writes down the answers. Its
+// contract says of the whole list what the theorem of `assurance` says: the answers are the book's.
+use bridge::FrameAnswer;
+use bridge::TakeAnswer;
+use queue::Taken;
+use unit::Unit;
+ghost use mathlib.Core.Path.{_≡_};
+ghost use mathlib.Core.Bool.{cond};
+ghost use mathlib.Core.List.{[], _∷_};
+ghost use Prim.Native.Nat.{_*_, _≤_, min};
+ghost use lib.ListN.{length};
+ghost use Rattle.unit.specs.Model.{recordLength};
+ghost use Rattle.bridge.specs.Calls.{FrameIn, TakeOut, Message, Start, Quiet};
+ghost use Rattle.assurance.specs.Demand3.{ToFrame, ToTake};
+ghost use Rattle.witness.specs.Encoding.{callWords, answerWords, callFrom, callOf, code};
+ghost use Rattle.witness.specs.Replay.{Stepping, Running, Replaying};
+
+// The words of a call, and of an answer.
+pub const CALL_WORDS: usize = 5;
+
+pub const ANSWER_WORDS: usize = 8;
+
+// An answer's eight words.
+fn put(out: &mut [u64], a: u64, b: u64, c: u64, d: u64, e: u64, f: u64, g: u64, h: u64)
+    requires { ⌜ length (now out) ≡ answerWords ⌝ }
+    ensures { λ _. ⌜ now (out .exit) ≡ a ∷ b ∷ c ∷ d ∷ e ∷ f ∷ g ∷ h ∷ [] ⌝ }
+{
+    out[0] = a;
+    out[1] = b;
+    out[2] = c;
+    out[3] = d;
+    out[4] = e;
+    out[5] = f;
+    out[6] = g;
+    out[7] = h;
+}
+
+// A truth value as a number.
+fn flag(b: bool) -> u64
+    ensures { λ r. ⌜ r ≡ cond b 1 0 ⌝ }
+{
+    if b {
+        return 1;
+    }
+    0
+}
+
+// What a frame's call answered.
+fn write_frame(r: FrameAnswer, out: &mut [u64])
+    requires { ⌜ length (now out) ≡ answerWords ⌝ }
+    ensures { λ _. ⌜ now (out .exit) ≡ code (ToFrame r) ⌝ }
+{
+    let event = r.event;
+    let number = event.number();
+    let old = event.old_name();
+    let consumed = flag(r.consumed);
+    put(
+        out,
+        r.refusal as u64,
+        consumed,
+        r.accepted as u64,
+        r.lost as u64,
+        r.unsent as u64,
+        r.compared as u64,
+        number as u64,
+        old,
+    );
+}
+
+// What a take answered.
+fn write_take(r: TakeAnswer, out: &mut [u64])
+    requires { ⌜ length (now out) ≡ answerWords ⌝ }
+    ensures { λ _. ⌜ now (out .exit) ≡ code (ToTake r) ⌝ }
+{
+    match r {
+        TakeAnswer::Refused(number) => put(out, number as u64, 0, 0, 0, 0, 0, 0, 0),
+        TakeAnswer::Took(taken) => match taken {
+            Taken::Given(f) => put(out, 0, 1, f.id as u64, f.len as u64, f.bytes, 0, 0, 0),
+            Taken::Nothing => put(out, 0, 0, 0, 0, 0, 0, 0, 0),
+        },
+    }
+}
+
+// The calls, each with its answer written down.
+fn frame(words: &mut [u64], port: u32, id: u32, bytes: &[u8], out: &mut [u64])
+    requires { ⌜ (length (now words) ≡ recordLength 4) × (length (now out) ≡ answerWords) ⌝ }
+    ensures { λ _. ⌜ Stepping (now (words .entry)) (now (words .exit)) (FrameIn port id (now (bytes .entry))) (now (out .exit)) ⌝ }
+{
+    let r = bridge::frame(words, port, id, bytes);
+    write_frame(r, out);
+}
+
+fn take(words: &mut [u64], port: u32, out: &mut [u64])
+    requires { ⌜ (length (now words) ≡ recordLength 4) × (length (now out) ≡ answerWords) ⌝ }
+    ensures { λ _. ⌜ Stepping (now (words .entry)) (now (words .exit)) (TakeOut port) (now (out .exit)) ⌝ }
+{
+    let r = bridge::take(words, port);
+    write_take(r, out);
+}
+
+fn message(
+    words: &mut [u64],
+    port: u32,
+    requester: u32,
+    payload: &[u8],
+    reply: &mut [u8],
+    out: &mut [u64],
+)
+    requires { ⌜ (length (now words) ≡ recordLength 4) × (length (now out) ≡ answerWords) ⌝ }
+    ensures { λ _. ⌜ Stepping (now (words .entry)) (now (words .exit)) (Message port requester (now (payload .entry)) (length (now (reply .entry)))) (now (out .exit)) ⌝ }
+{
+    let r = bridge::message(words, port, requester, payload, reply);
+    put(
+        out,
+        r.refusal as u64,
+        r.pgn as u64,
+        r.length as u64,
+        0,
+        0,
+        0,
+        0,
+        0,
+    );
+}
+
+fn start(words: &mut [u64], out: &mut [u64])
+    requires { ⌜ (length (now words) ≡ recordLength 4) × (length (now out) ≡ answerWords) ⌝ }
+    ensures { λ _. ⌜ Stepping (now (words .entry)) (now (words .exit)) Start (now (out .exit)) ⌝ }
+{
+    let r = bridge::start(words);
+    put(out, r.refusal as u64, r.unsent as u64, 0, 0, 0, 0, 0, 0);
+}
+
+fn quiet(words: &mut [u64], out: &mut [u64])
+    requires { ⌜ (length (now words) ≡ recordLength 4) × (length (now out) ≡ answerWords) ⌝ }
+    ensures { λ _. ⌜ Stepping (now (words .entry)) (now (words .exit)) Quiet (now (out .exit)) ⌝ }
+{
+    let number = bridge::quiet(words);
+    put(out, number as u64, 0, 0, 0, 0, 0, 0, 0);
+}
+
+// One call, by its kind.
+fn perform(
+    words: &mut [u64],
+    kind: u64,
+    port: u32,
+    argument: u32,
+    bytes: &[u8],
+    reply: &mut [u8],
+    out: &mut [u64],
+)
+    requires { ⌜ (length (now words) ≡ recordLength 4) × (length (now out) ≡ answerWords) ⌝ }
+    ensures { λ _. ⌜ Stepping (now (words .entry)) (now (words .exit)) (callFrom kind port argument (now (bytes .entry)) (length (now (reply .entry)))) (now (out .exit)) ⌝ }
+{
+    if kind == 0 {
+        frame(words, port, argument, bytes, out);
+        return;
+    }
+    if kind == 1 {
+        take(words, port, out);
+        return;
+    }
+    if kind == 2 {
+        message(words, port, argument, bytes, reply, out);
+        return;
+    }
+    if kind == 3 {
+        start(words, out);
+        return;
+    }
+    quiet(words, out);
+}
+
+// The lesser of two numbers.
+fn least(a: usize, b: usize) -> usize
+    ensures { λ r. ⌜ r ≡ min a b ⌝ }
+{
+    if a < b {
+        return a;
+    }
+    b
+}
+
+// One call, as its words say.
+fn step(words: &mut [u64], call: &[u64], bytes: &[u8], reply: &mut [u8], out: &mut [u64])
+    requires { ⌜ (length (now words) ≡ recordLength 4) × (length (now call) ≡ callWords) × (length (now out) ≡ answerWords) ⌝ }
+    ensures { λ _. ⌜ Stepping (now (words .entry)) (now (words .exit)) (callOf (now (bytes .entry)) (length (now (reply .entry))) (now (call .entry))) (now (out .exit)) ⌝ }
+{
+    let kind = call[0];
+    let port = (call[1] % 4294967296) as u32;
+    let argument = (call[2] % 4294967296) as u32;
+    let end = least(call[4] as usize, bytes.len());
+    let start = least(call[3] as usize, end);
+    perform(words, kind, port, argument, &bytes[start..end], reply, out);
+}
+
+// `count` calls, one after the other.
+fn run(
+    words: &mut [u64],
+    calls: &[u64],
+    bytes: &[u8],
+    reply: &mut [u8],
+    answers: &mut [u64],
+    count: usize,
+)
+    requires { ⌜ (length (now words) ≡ recordLength 4) × (callWords * count ≤ length (now calls)) × (answerWords * count ≤ length (now answers)) ⌝ }
+    ensures { λ _. ⌜ Running (now (words .entry)) (now (words .exit)) (now (calls .entry)) (now (bytes .entry)) (length (now (reply .entry))) (now (answers .entry)) (now (answers .exit)) count ⌝ }
+{
+    let mut i: usize = 0;
+    while i < count {
+        let a = CALL_WORDS * i;
+        let e = a + CALL_WORDS;
+        let b = ANSWER_WORDS * i;
+        let f = b + ANSWER_WORDS;
+        step(words, &calls[a..e], bytes, reply, &mut answers[b..f]);
+        i += 1;
+    }
+}
+
+// Power-on, and every call for which there are words and room for the answer. The reply buffer is lent to every message; other calls lend none.
+pub fn replay(
+    words: &mut [u64],
+    name: u64,
+    preferred: u32,
+    calls: &[u64],
+    bytes: &[u8],
+    reply: &mut [u8],
+    answers: &mut [u64],
+) -> u32
+    ensures { λ r. ⌜ Replaying (now (words .entry)) (now (words .exit)) name preferred (now (calls .entry)) (now (bytes .entry)) (length (now (reply .entry))) (now (answers .entry)) (now (answers .exit)) r ⌝ }
+{
+    let number = Unit::power_on(words, name, preferred);
+    if number != 0 {
+        return number;
+    }
+    let count = least(calls.len() / CALL_WORDS, answers.len() / ANSWER_WORDS);
+    run(words, calls, bytes, reply, answers, count);
+    0
+}

@@ -1,0 +1,124 @@
+/* A morning of the bridge from C: power-on, Start, the claim goes out, Quiet, frames, a filter set by a tool, takes. A line for each call. */
+#include "../include/deorasaeng.h"
+#include <inttypes.h>
+#include <stdio.h>
+
+static uint64_t record[DEORASAENG_RECORD_WORDS];
+
+static void print_bytes(const uint8_t *bytes, uint64_t length)
+{
+    for (uint64_t i = 0; i < length; i++)
+        printf(" %02X", bytes[i]);
+    printf("\n");
+}
+
+static void print_ports(const char *title, uint64_t ports)
+{
+    printf(", %s", title);
+    for (int port = 1; port <= 4; port++)
+        if (ports >> (port - 1) & 1)
+            printf(" %d", port);
+    if (ports == 0)
+        printf(" none");
+}
+
+static void start(void)
+{
+    uint64_t answer[DEORASAENG_START_ANSWER];
+    uint32_t number = deorasaeng_start(record, DEORASAENG_RECORD_WORDS, answer, DEORASAENG_START_ANSWER);
+    printf("Start: %" PRIu32, number);
+    if (number == 0)
+        print_ports("own frame lost at", answer[0]);
+    printf("\n");
+}
+
+static void frame(uint32_t port, uint32_t id, const uint8_t *bytes, size_t len)
+{
+    uint64_t answer[DEORASAENG_FRAME_ANSWER];
+    uint32_t number = deorasaeng_frame(record, DEORASAENG_RECORD_WORDS, port, id, bytes, len, answer, DEORASAENG_FRAME_ANSWER);
+    printf("frame %08" PRIX32 " at port %" PRIu32 ": %" PRIu32, id, port, number);
+    if (number == 0) {
+        printf(answer[DEORASAENG_CONSUMED] ? ", consumed" : ", for others");
+        print_ports("accepted", answer[DEORASAENG_ACCEPTED]);
+        print_ports("lost", answer[DEORASAENG_LOST]);
+        printf(", event %" PRIu64, answer[DEORASAENG_EVENT]);
+        if (answer[DEORASAENG_EVENT] == DEORASAENG_TOOK_OVER)
+            printf(" from %016" PRIX64, answer[DEORASAENG_OLD_NAME]);
+        print_ports("own frame lost at", answer[DEORASAENG_OWN_LOST]);
+        printf(", compared %" PRIu64, answer[DEORASAENG_COMPARED]);
+    }
+    printf("\n");
+}
+
+static void print_take(const char *title, uint32_t port, uint32_t number, const uint64_t *answer, const uint8_t *bytes)
+{
+    printf("%s at port %" PRIu32 ": %" PRIu32, title, port, number);
+    if (number != 0 || answer[DEORASAENG_GIVEN] == 0) {
+        printf(number != 0 ? "\n" : ", nothing waiting\n");
+        return;
+    }
+    printf(", %08" PRIX64 " length %" PRIu64 ":", answer[DEORASAENG_ID], answer[DEORASAENG_LENGTH]);
+    print_bytes(bytes, answer[DEORASAENG_LENGTH]);
+}
+
+static void take(uint32_t port)
+{
+    uint64_t answer[DEORASAENG_TAKE_ANSWER];
+    uint8_t bytes[DEORASAENG_FRAME_BYTES];
+    uint32_t number = deorasaeng_take(record, DEORASAENG_RECORD_WORDS, port, answer, DEORASAENG_TAKE_ANSWER, bytes, DEORASAENG_FRAME_BYTES);
+    print_take("take", port, number, answer, bytes);
+}
+
+/* What the transmit routine of one port does: it is handed that port's queue and can touch nothing else. */
+static void transmit(uint32_t port, uint64_t queue[DEORASAENG_QUEUE_WORDS])
+{
+    uint64_t answer[DEORASAENG_TAKE_ANSWER];
+    uint8_t bytes[DEORASAENG_FRAME_BYTES];
+    uint32_t number = deorasaeng_take_queue(queue, answer, DEORASAENG_TAKE_ANSWER, bytes, DEORASAENG_FRAME_BYTES);
+    print_take("transmit", port, number, answer, bytes);
+}
+
+static void message(uint32_t port, uint32_t requester, const uint8_t *payload, size_t length)
+{
+    uint64_t answer[DEORASAENG_MESSAGE_ANSWER];
+    uint8_t reply[DEORASAENG_REPLY_BYTES];
+    uint32_t number = deorasaeng_message(record, DEORASAENG_RECORD_WORDS, port, requester, payload, length, reply, DEORASAENG_REPLY_BYTES,
+                                         answer, DEORASAENG_MESSAGE_ANSWER);
+    printf("message %u at port %" PRIu32 ": %" PRIu32 ", PGN %" PRIu64 ":", payload[0], port, number, answer[DEORASAENG_PGN]);
+    print_bytes(reply, answer[DEORASAENG_WRITTEN]);
+}
+
+int main(void)
+{
+    static const uint8_t engine[8] = {0xF0, 0x7D, 0x83, 0x00, 0x10, 0x0E, 0xFF, 0xFF};
+    static const uint8_t sprayer[8] = {0x21, 0x00, 0xC0, 0x0C, 0x00, 0x80, 0x0C, 0x20};
+    static const uint8_t baler[8] = {0x11, 0x00, 0xC0, 0x0B, 0x00, 0x80, 0x0B, 0x20};
+    static const uint8_t create[8] = {6, 0x12, 0, 0x04, 0xF0, 0x00, 0xFF, 0xFF};
+    static const uint8_t request[8] = {0, 0x12, 0xFF, 0xFF, 0xFF, 0xFF, 0xFF, 0xFF};
+    static const uint8_t addresses[8] = {64, 3, 0xFF, 0xFF, 0xFF, 0xFF, 0xFF, 0xFF};
+
+    printf("power-on: %" PRIu32 "\n", deorasaeng_power_on(record, DEORASAENG_RECORD_WORDS, 0x20001C000AC00123, 0x80));
+    take(1);
+    message(1, 0x21, request, sizeof request); /* not Claimed yet: 6 */
+    start();
+    start(); /* 18 */
+    for (uint32_t port = 1; port <= 4; port++)
+        take(port); /* the claim goes out at every port */
+    printf("Quiet: %" PRIu32 "\n", deorasaeng_quiet(record, DEORASAENG_RECORD_WORDS));
+    frame(3, 0x18EEFF90, sprayer, 8);          /* Recorded */
+    frame(2, 0x18EEFF90, baler, 8);            /* a lower NAME: TookOver */
+    frame(1, 0x0CF00400, engine, 8);           /* to ports 2, 3 and 4 */
+    message(1, 0x21, create, sizeof create);   /* block PGN 61444 from 1 to 2 */
+    message(1, 0x21, create, sizeof create);   /* 14: the pair is not cleared any more */
+    message(1, 0x21, request, sizeof request);
+    message(3, 0x21, request, sizeof request); /* 11: not a pair of port 3 */
+    message(1, 0x21, addresses, sizeof addresses);
+    frame(1, 0x0CF00400, engine, 8);           /* to ports 3 and 4 alone */
+    frame(5, 0x0CF00400, engine, 8);           /* 1 */
+    frame(1, 0x20000000, engine, 8);           /* 3 */
+    take(2);                                   /* rank 3 before rank 6 */
+    transmit(2, record + DEORASAENG_QUEUE_AT(2));
+    transmit(2, record + DEORASAENG_QUEUE_AT(2));
+    take(3);
+    return 0;
+}

@@ -1,0 +1,142 @@
+/* What the soak and the fuzz run share: a seeded generator, calls that look like a bus, and the counts that are printed. */
+#ifndef SOAK_COMMON_H
+#define SOAK_COMMON_H
+
+#include "../../include/deorasaeng.h"
+#include <inttypes.h>
+#include <stdio.h>
+#include <stdlib.h>
+#include <string.h>
+
+enum kind { POWER_ON, FRAME, TAKE, MESSAGE, START, QUIET, TAKE_QUEUE, KINDS };
+
+static const char *const kind_name[KINDS] = {"power-on", "frame", "take", "message", "Start", "Quiet", "take on a queue"};
+
+/* The numbers that each call can give. */
+static const uint32_t allowed[KINDS] = {
+    1u << 0 | 1u << 2,
+    0x3Fu,
+    0x7u,
+    0x7u | 0x3FFC0u,
+    1u << 0 | 1u << 2 | 1u << 8 | 1u << 18,
+    1u << 0 | 1u << 2 | 1u << 18,
+    1u << 0 | 1u << 2,
+};
+
+static uint64_t seed, calls, number_count[KINDS][19];
+
+/* splitmix64 */
+static uint64_t next(void)
+{
+    uint64_t mixed = seed += 0x9E3779B97F4A7C15u;
+    mixed = (mixed ^ mixed >> 30) * 0xBF58476D1CE4E5B9u;
+    mixed = (mixed ^ mixed >> 27) * 0x94D049BB133111EBu;
+    return mixed ^ mixed >> 31;
+}
+
+static uint32_t below(uint32_t limit)
+{
+    return (uint32_t)(next() % limit);
+}
+
+static void check(int holds, const char *otherwise)
+{
+    if (holds)
+        return;
+    printf("call %" PRIu64 ": %s\n", calls, otherwise);
+    fflush(stdout);
+    abort();
+}
+
+static void count(enum kind kind, uint32_t number)
+{
+    check(number < 19 && (allowed[kind] >> number & 1), "a number that this call does not have");
+    number_count[kind][number]++;
+}
+
+static void print_counts(void)
+{
+    for (int kind = 0; kind < KINDS; kind++) {
+        printf("%s:", kind_name[kind]);
+        for (int number = 0; number < 19; number++)
+            if (number_count[kind][number] != 0)
+                printf("  %d: %" PRIu64, number, number_count[kind][number]);
+        printf("\n");
+    }
+}
+
+/* Some PGNs, so that lists and frames meet. */
+static uint32_t some_pgn(void)
+{
+    static const uint32_t listed[8] = {61444, 65265, 59904, 60928, 61184, 0x1F004, 0x3FFFF, 0};
+    uint32_t pgn = below(3) == 0 ? 0xF000 + below(60) : listed[below(8)];
+    return below(40) == 0 ? below(1u << 24) : pgn;
+}
+
+static uint32_t some_id(void)
+{
+    uint32_t priority = below(8) << 26;
+    uint32_t source = below(8) == 0 ? 0x80 : below(64) == 0 ? 254 + below(2) : below(254);
+    switch (below(8)) {
+    case 0: return 0x18EEFF00u | (below(6) == 0 ? 254 : source);
+    case 1: return 0x18EA0000u | (below(2) ? 0xFF00u : 0x8000u) | (below(4) == 0 ? 254 : source);
+    case 2: return priority | 61184u << 8 | 0x8000u | source;
+    case 3: return below(64) == 0 ? (uint32_t)next() : (uint32_t)next() & 0x1FFFFFFF;
+    default: return priority | (some_pgn() & 0x3FFFF) << 8 | source;
+    }
+}
+
+static void some_bytes(uint8_t *bytes, uint32_t id, size_t length)
+{
+    static const uint8_t request[3] = {0x00, 0xEE, 0x00};
+    uint64_t name = below(64) ? 0xA000000000000000u + below(16) : next();
+    for (size_t i = 0; i < length; i++)
+        bytes[i] = (uint8_t)(name >> 8 * (i % 8));
+    if ((id >> 16 & 0xFF) == 0xEA && length == 3 && below(8))
+        memcpy(bytes, request, 3);
+}
+
+static uint32_t some_port(void)
+{
+    return below(50) == 0 ? (uint32_t)next() >> below(32) : 1 + below(4);
+}
+
+/* A frame's length: that of a claim, of a request, or any. */
+static size_t some_length(uint32_t id)
+{
+    if (below(4) == 0)
+        return below(10);
+    return (id >> 16 & 0xFF) == 0xEA ? 3 : 8;
+}
+
+static size_t some_payload_length(void)
+{
+    switch (below(8)) {
+    case 0: return 8 + 3 * below(40);
+    case 1: return 9 + 3 * below(40);
+    case 2: return below(64) == 0 ? below(2000) : 8 + below(200);
+    default: return 8;
+    }
+}
+
+/* A payload that is mostly in good form. */
+static void some_payload(uint8_t *payload, size_t length)
+{
+    static const uint8_t functions[8] = {0, 2, 2, 3, 4, 6, 6, 64};
+    for (size_t i = 0; i < length; i++)
+        payload[i] = 0xFF;
+    if (length < 3)
+        return;
+    payload[0] = below(20) == 0 ? (uint8_t)next() : functions[below(8)];
+    payload[1] = (uint8_t)(below(20) == 0 ? next() : (1 + below(4)) << 4 | (below(4) == 0 ? 15 : 1 + below(4)));
+    size_t first = payload[0] == 6 ? 3 : 2;
+    payload[2] = payload[0] == 6 ? (uint8_t)below(below(20) == 0 ? 256 : 2) : 0xFF;
+    size_t entries = length == 8 ? 1 + below(2) : (length - first) / 3;
+    for (size_t i = 0; i < entries && first + 3 * i + 3 <= length; i++) {
+        uint32_t pgn = some_pgn();
+        for (int k = 0; k < 3; k++)
+            payload[first + 3 * i + k] = (uint8_t)(pgn >> 8 * k);
+    }
+}
+
+#endif

@@ -1,0 +1,199 @@
+/* A fuzz run: the exported functions on records of any words and on buffers of any length, each exactly as long as it says. The library is not instrumented, so a
+   buffer ends at a page that faults, or begins behind one, or is of the heap, where the sanitizer watches what goes through memcpy. usage: fuzz SEED CALLS */
+#define _DEFAULT_SOURCE
+#include "common.h"
+#include <sys/mman.h>
+
+enum { RECORD = DEORASAENG_RECORD_WORDS, ROOM = 32768, PAGE = 65536, LENT = 4 };
+
+/* A buffer of one call: its place, its bytes, and what it held before. */
+struct lent {
+    uint8_t *fenced, *at, *heap, old[ROOM];
+    size_t size;
+};
+
+/* the record or queue, the answer, bytes or reply, and what is handed in */
+static struct lent lent[LENT];
+
+static uint8_t *fence(void)
+{
+    uint8_t *all = mmap(NULL, ROOM + 2 * PAGE, PROT_NONE, MAP_PRIVATE | MAP_ANONYMOUS, -1, 0);
+    check(all != MAP_FAILED && mprotect(all + PAGE, ROOM, PROT_READ | PROT_WRITE) == 0, "no memory");
+    return all + PAGE;
+}
+
+/* `size` bytes at the end of the fenced room, at its start, or of the heap. */
+static void *lend(int which, size_t size)
+{
+    struct lent *to = &lent[which];
+    check(size <= ROOM, "too long");
+    to->size = size;
+    to->heap = below(4) == 0 && size != 0 ? malloc(size) : NULL;
+    to->at = to->heap ? to->heap : below(4) == 0 ? to->fenced : to->fenced + ROOM - size;
+    for (size_t i = 0; i < size; i += 8) {
+        uint64_t word = next() >> (below(3) == 0 ? 0 : 40 + below(24));
+        memcpy(to->at + i, &word, size - i < 8 ? size - i : 8);
+    }
+    memcpy(to->old, to->at, size);
+    return to->at;
+}
+
+static int unchanged(int which)
+{
+    return lent[which].size == 0 || memcmp(lent[which].at, lent[which].old, lent[which].size) == 0;
+}
+
+static void take_back(void)
+{
+    for (int which = 0; which < LENT; which++) {
+        free(lent[which].heap);
+        lent[which].heap = NULL;
+        lent[which].size = 0;
+    }
+}
+
+/* A length: the right one mostly, else near it, none, or any. */
+static size_t some_size(size_t right, uint32_t most)
+{
+    switch (below(8)) {
+    case 0: return right + below(3) - (right != 0);
+    case 1: return below(4) == 0 ? 0 : below(most);
+    default: return right;
+    }
+}
+
+/* A record whose claim state is one of the four, and whose lists and queues are of likely lengths. */
+static uint64_t *some_record(size_t length)
+{
+    uint64_t *record = lend(0, 8 * length);
+    if (length == RECORD && below(4) != 0) {
+        record[0] = below(3) ? 2 : below(5);
+        record[1] = record[2] = 0x80;
+        for (int i = 0; i < 12; i++) {
+            record[4 + 34 * i] = below(4);
+            record[5 + 34 * i] = below(36);
+            for (int j = 0; j < 32; j++)
+                record[6 + 34 * i + j] = some_pgn();
+        }
+        for (int port = 1; port <= 4; port++)
+            record[DEORASAENG_QUEUE_AT(port)] = below(36);
+        memcpy(lent[0].old, record, 8 * length);
+    }
+    return record;
+}
+
+static int is_port(uint32_t port)
+{
+    return port >= 1 && port <= 4;
+}
+
+/* Number 1, then 2, exactly; a refusal changes nothing that was lent. */
+static void judge(enum kind kind, uint32_t number, int has_port, int right)
+{
+    count(kind, number);
+    check(has_port ? number != 1 : number == 1, "number 1");
+    if (has_port)
+        check(right ? number != 2 : number == 2, "number 2");
+    check(unchanged(3), "what was handed in changed");
+    if (number != 0)
+        check(unchanged(0), "a refusal changed the record");
+    if (number != 0 && kind != MESSAGE)
+        check(unchanged(1) && unchanged(2), "a refusal changed what was lent");
+}
+
+static void fuzz_frame(size_t length, uint64_t *record)
+{
+    uint32_t port = some_port(), id = below(4) ? some_id() : (uint32_t)next();
+    size_t words = some_size(DEORASAENG_FRAME_ANSWER, 20), size = below(8) ? some_length(id) : below(100);
+    uint64_t *answer = lend(1, 8 * words);
+    uint8_t *bytes = lend(3, size);
+    some_bytes(bytes, id, size);
+    memcpy(lent[3].old, bytes, size);
+    uint32_t number = deorasaeng_frame(record, length, port, id, bytes, size, answer, words);
+    int right = length == RECORD && words == DEORASAENG_FRAME_ANSWER;
+    judge(FRAME, number, is_port(port), right);
+    if (is_port(port) && right) {
+        check((id >> 29 != 0) == (number == 3), "number 3");
+        check((id >> 29 == 0 && size > 8) == (number == 4), "number 4");
+    }
+    check(number == 0 || number == 5 || number == 1 || number == 2 || !right || id >> 29 != 0 || size > 8, "a number of a frame");
+}
+
+static void fuzz_take(size_t length, uint64_t *record, int by_queue)
+{
+    uint32_t port = by_queue ? 1 : some_port();
+    size_t words = some_size(DEORASAENG_TAKE_ANSWER, 20), size = some_size(DEORASAENG_FRAME_BYTES, 40);
+    uint64_t *answer = lend(1, 8 * words);
+    uint8_t *bytes = lend(2, size);
+    int right = words == DEORASAENG_TAKE_ANSWER && size == DEORASAENG_FRAME_BYTES;
+    uint32_t number;
+    if (by_queue)
+        number = deorasaeng_take_queue(record, answer, words, bytes, size);
+    else
+        number = deorasaeng_take(record, length, port, answer, words, bytes, size);
+    judge(by_queue ? TAKE_QUEUE : TAKE, number, is_port(port), right && (by_queue || length == RECORD));
+    if (number == 0 && answer[DEORASAENG_GIVEN] == 0)
+        check(unchanged(0) && unchanged(2), "a take of nothing changed something");
+    if (number == 0)
+        for (uint64_t i = answer[DEORASAENG_GIVEN] ? answer[DEORASAENG_LENGTH] : 8; i < 8; i++)
+            check(bytes[i] == 0, "a byte past the frame's length");
+}
+
+static void fuzz_message(size_t length, uint64_t *record)
+{
+    uint32_t port = some_port(), requester = below(20) ? below(254) : (uint32_t)next();
+    size_t words = some_size(DEORASAENG_MESSAGE_ANSWER, 20), room = some_size(DEORASAENG_REPLY_BYTES, 4000);
+    size_t size = some_payload_length();
+    uint64_t *answer = lend(1, 8 * words);
+    uint8_t *reply = lend(2, room), *payload = lend(3, size);
+    if (below(8) != 0)
+        some_payload(payload, size);
+    memcpy(lent[3].old, payload, size);
+    uint32_t number = deorasaeng_message(record, length, port, requester, payload, size, reply, room, answer, words);
+    int right = length == RECORD && words == DEORASAENG_MESSAGE_ANSWER && room >= DEORASAENG_REPLY_BYTES;
+    judge(MESSAGE, number, is_port(port), right);
+    if (words != DEORASAENG_MESSAGE_ANSWER) {
+        check(unchanged(1) && unchanged(2), "a wrong answer was written to");
+        return;
+    }
+    size_t written = answer[DEORASAENG_WRITTEN];
+    check(written <= room && memcmp(reply + written, lent[2].old + written, room - written) == 0, "a byte past what was written");
+    check((number >= 1 && number <= 8) == (written == 0), "written");
+}
+
+static void fuzz_start(size_t length, uint64_t *record)
+{
+    size_t words = some_size(DEORASAENG_START_ANSWER, 20);
+    uint64_t *answer = lend(1, 8 * words);
+    uint32_t number = deorasaeng_start(record, length, answer, words);
+    judge(START, number, 1, length == RECORD && words == DEORASAENG_START_ANSWER);
+}
+
+static void fuzz(void)
+{
+    enum kind kind = below(4) ? FRAME + below(3) : below(KINDS);
+    size_t length = kind == TAKE_QUEUE ? DEORASAENG_QUEUE_WORDS : some_size(RECORD, 2000);
+    uint64_t *record = some_record(length);
+    switch (kind) {
+    case POWER_ON: judge(kind, deorasaeng_power_on(record, length, next(), (uint32_t)next()), 1, length == RECORD); break;
+    case FRAME: fuzz_frame(length, record); break;
+    case MESSAGE: fuzz_message(length, record); break;
+    case START: fuzz_start(length, record); break;
+    case QUIET: judge(kind, deorasaeng_quiet(record, length), 1, length == RECORD); break;
+    default: fuzz_take(length, record, kind == TAKE_QUEUE); break;
+    }
+    take_back();
+}
+
+int main(int argc, char **argv)
+{
+    seed = argc > 1 ? strtoull(argv[1], NULL, 10) : 1;
+    uint64_t total = argc > 2 ? strtoull(argv[2], NULL, 10) : 2000000;
+    for (int which = 0; which < LENT; which++)
+        lent[which].fenced = fence();
+    for (calls = 0; calls < total; calls++)
+        fuzz();
+    print_counts();
+    printf("%" PRIu64 " fuzzed calls from seed %s: every check held\n", calls, argc > 1 ? argv[1] : "1");
+    return 0;
+}

@@ -1,0 +1,232 @@
+/* A soak: one unit through the C interface, every buffer between guards. After each call the guards hold, a refusal has changed nothing, and what the answer
+   says agrees with what the record's words say. usage: soak SEED CALLS */
+#include "common.h"
+
+enum { RECORD = DEORASAENG_RECORD_WORDS, GUARDS = 16, LONGEST = 2000, QUEUES = 412, TABLE = 672, PAIRS = 4 };
+
+static const uint64_t WORD = 0xA5A55A5AA5A55A5A;
+static const uint8_t BYTE = 0x5C;
+
+static uint64_t record_area[GUARDS + RECORD + GUARDS], before[RECORD];
+static uint64_t *const record = record_area + GUARDS;
+static uint64_t answer_area[GUARDS + DEORASAENG_FRAME_ANSWER + GUARDS];
+static uint64_t *const answer = answer_area + GUARDS;
+static uint8_t byte_area[GUARDS + LONGEST + GUARDS];
+static uint8_t *const bytes = byte_area + GUARDS;
+static uint8_t handed_in[LONGEST];
+
+/* Everything that is lent is filled with the guards' pattern first. */
+static void lend(size_t byte_length)
+{
+    for (size_t i = 0; i < sizeof answer_area / sizeof *answer_area; i++)
+        answer_area[i] = WORD;
+    memset(byte_area, BYTE, GUARDS + byte_length + GUARDS);
+    memcpy(before, record, sizeof before);
+}
+
+static int words_are(const uint64_t *words, size_t length, uint64_t word)
+{
+    for (size_t i = 0; i < length; i++)
+        if (words[i] != word)
+            return 0;
+    return 1;
+}
+
+static int bytes_are(const uint8_t *from, size_t length, uint8_t byte)
+{
+    for (size_t i = 0; i < length; i++)
+        if (from[i] != byte)
+            return 0;
+    return 1;
+}
+
+/* `words` of the answer and `written` of `byte_length` bytes may have changed. */
+static void check_lent(size_t words, size_t written, size_t byte_length)
+{
+    check(words_are(answer_area, GUARDS, WORD), "a guard before the answer");
+    check(words_are(answer + words, DEORASAENG_FRAME_ANSWER - words + GUARDS, WORD), "a word behind the answer");
+    check(bytes_are(byte_area, GUARDS, BYTE), "a guard before the bytes");
+    check(bytes_are(bytes + written, byte_length - written + GUARDS, BYTE), "a byte past what was written");
+    check(words_are(record_area, GUARDS, WORD) && words_are(record + RECORD, GUARDS, WORD), "a guard of the record");
+}
+
+static void check_same(size_t from, size_t to, const char *otherwise)
+{
+    check(memcmp(record + from, before + from, (to - from) * sizeof *record) == 0, otherwise);
+}
+
+static uint64_t waiting(const uint64_t *words, uint32_t port)
+{
+    uint64_t count_word = words[DEORASAENG_QUEUE_AT(port)];
+    return count_word < 32 ? count_word : 32;
+}
+
+static void power_on(void)
+{
+    static const uint32_t preferred[8] = {0x80, 0x80, 0x80, 0x80, 0x80, 0x80, 0, 254};
+    uint64_t name = 0xA000000000000000u + (below(8) == 0 ? 8 : 0); /* the lowest but for a few, so that the unit is seldom displaced */
+    uint32_t number = deorasaeng_power_on(record, RECORD, name, preferred[below(8)]);
+    count(POWER_ON, number);
+    check(number == 0 && words_are(record + PAIRS, RECORD - PAIRS, 0), "power-on");
+}
+
+/* The forwarded frame joins where it is accepted, the unit's own at every port or at none, save where it is lost. */
+static void check_joined(uint32_t port, uint64_t accepted, uint64_t lost, uint64_t own_lost)
+{
+    int sent = own_lost != 0;
+    for (uint32_t q = 1; q <= 4; q++)
+        sent |= waiting(record, q) != waiting(before, q) + (accepted >> (q - 1) & 1);
+    for (uint32_t q = 1; q <= 4; q++) {
+        uint64_t bit = 1u << (q - 1), own = sent && !(own_lost & bit);
+        check(waiting(record, q) == waiting(before, q) + !!(accepted & bit) + own, "frames that joined");
+        check(!(lost & bit) || waiting(before, q) == 32, "lost though there was room");
+        check(!(own_lost & bit) || waiting(record, q) == 32, "own frame lost though there was room");
+    }
+    check((accepted & lost) == 0 && !((accepted | lost) >> (port - 1) & 1), "accepted and lost ports");
+    check((accepted | lost | own_lost) < 16, "ports");
+}
+
+static void frame(void)
+{
+    uint32_t port = some_port(), id = some_id();
+    size_t length = some_length(id);
+    some_bytes(handed_in, id, length);
+    lend(0);
+    uint32_t number = deorasaeng_frame(record, RECORD, port, id, handed_in, length, answer, DEORASAENG_FRAME_ANSWER);
+    count(FRAME, number);
+    check_lent(number == 0 ? DEORASAENG_FRAME_ANSWER : 0, 0, 0);
+    if (number != 0) {
+        check_same(0, RECORD, "a refused frame changed the record");
+        return;
+    }
+    check_same(PAIRS, QUEUES, "a frame changed a list");
+    check_joined(port, answer[DEORASAENG_ACCEPTED], answer[DEORASAENG_LOST], answer[DEORASAENG_OWN_LOST]);
+    if (answer[DEORASAENG_CONSUMED])
+        check((answer[DEORASAENG_ACCEPTED] | answer[DEORASAENG_LOST] | answer[DEORASAENG_COMPARED]) == 0, "consumed and forwarded");
+    check(answer[DEORASAENG_CONSUMED] <= 1 && answer[DEORASAENG_COMPARED] <= 96, "consumed, compared");
+    check(answer[DEORASAENG_EVENT] <= 7 && (answer[DEORASAENG_EVENT] == 6 || answer[DEORASAENG_OLD_NAME] == 0), "event");
+}
+
+/* The frame that a take must give: the first of the lowest priority number. */
+static const uint64_t *due(uint32_t port)
+{
+    const uint64_t *frames = before + DEORASAENG_QUEUE_AT(port) + 1, *best = frames;
+    for (uint64_t i = 1; i < waiting(before, port); i++)
+        if ((frames[2 * i] >> 26 & 7) < (*best >> 26 & 7))
+            best = frames + 2 * i;
+    return best;
+}
+
+static void check_taken(uint32_t port)
+{
+    uint64_t given = waiting(before, port) != 0;
+    size_t at = DEORASAENG_QUEUE_AT(port);
+    check_same(0, at, "a take changed a word before its queue");
+    check_same(at + DEORASAENG_QUEUE_WORDS, RECORD, "a take changed a word behind its queue");
+    check(answer[DEORASAENG_GIVEN] == given && waiting(record, port) == waiting(before, port) - given, "nothing waiting");
+    check_lent(DEORASAENG_TAKE_ANSWER, given ? 8 : 0, DEORASAENG_FRAME_BYTES);
+    if (!given) {
+        check(answer[DEORASAENG_ID] == 0 && answer[DEORASAENG_LENGTH] == 0, "an identifier of nothing");
+        check_same(0, RECORD, "a take of nothing changed the record");
+        return;
+    }
+    const uint64_t *frame = due(port);
+    check(answer[DEORASAENG_ID] + (answer[DEORASAENG_LENGTH] << 32) == frame[0], "another frame");
+    for (int i = 0; i < 8; i++)
+        check(bytes[i] == (uint8_t)(frame[1] >> 8 * i), "another byte");
+}
+
+static void take(void)
+{
+    uint32_t port = some_port();
+    int by_queue = port >= 1 && port <= 4 && below(4) == 0;
+    lend(DEORASAENG_FRAME_BYTES);
+    uint32_t number;
+    if (by_queue)
+        number = deorasaeng_take_queue(record + DEORASAENG_QUEUE_AT(port), answer, DEORASAENG_TAKE_ANSWER, bytes, DEORASAENG_FRAME_BYTES);
+    else
+        number = deorasaeng_take(record, RECORD, port, answer, DEORASAENG_TAKE_ANSWER, bytes, DEORASAENG_FRAME_BYTES);
+    count(by_queue ? TAKE_QUEUE : TAKE, number);
+    if (number == 0) {
+        check_taken(port);
+        return;
+    }
+    check_lent(0, 0, DEORASAENG_FRAME_BYTES);
+    check_same(0, RECORD, "a refused take changed the record");
+}
+
+static void message(void)
+{
+    size_t length = some_payload_length();
+    uint32_t requester = below(100) == 0 ? 254 : below(254);
+    size_t room = below(50) == 0 ? DEORASAENG_REPLY_BYTES - 1 : DEORASAENG_REPLY_BYTES;
+    some_payload(handed_in, length);
+    lend(room);
+    uint32_t number =
+        deorasaeng_message(record, RECORD, some_port(), requester, handed_in, length, bytes, room, answer, DEORASAENG_MESSAGE_ANSWER);
+    count(MESSAGE, number);
+    uint64_t pgn = answer[DEORASAENG_PGN], written = answer[DEORASAENG_WRITTEN];
+    check_lent(DEORASAENG_MESSAGE_ANSWER, written, room);
+    check_same(0, PAIRS, "a message changed the unit");
+    check_same(QUEUES, RECORD, "a message changed a queue or the table");
+    if (number != 0)
+        check_same(0, RECORD, "a refused message changed the record");
+    if (pgn == 60672)
+        check(number == 0 && written >= 8 && written <= 256, "a reply");
+    else if (pgn == 59392)
+        check((number == 0 || number >= 9) && written == 8 && bytes[0] == (number == 0 ? 0 : number == 11 ? 2 : 1), "an acknowledgment");
+    else
+        check(number >= 1 && number <= 8 && pgn == 0 && written == 0, "a silent refusal");
+}
+
+static void start(void)
+{
+    lend(0);
+    uint32_t number = deorasaeng_start(record, RECORD, answer, DEORASAENG_START_ANSWER);
+    count(START, number);
+    check_lent(number == 0, 0, 0);
+    if (number != 0) {
+        check_same(0, RECORD, "a refused Start changed the record");
+        return;
+    }
+    check_same(PAIRS, QUEUES, "Start changed a list");
+    for (uint32_t q = 1; q <= 4; q++)
+        check(waiting(record, q) == waiting(before, q) + !(answer[0] >> (q - 1) & 1), "Start's frame");
+}
+
+static void quiet(void)
+{
+    lend(0);
+    uint32_t number = deorasaeng_quiet(record, RECORD);
+    count(QUIET, number);
+    check_lent(0, 0, 0);
+    check(number != 0 || (before[0] == 1 && record[0] == 2), "Quiet");
+    check_same(number == 0, RECORD, "Quiet changed another word");
+}
+
+int main(int argc, char **argv)
+{
+    seed = argc > 1 ? strtoull(argv[1], NULL, 10) : 1;
+    uint64_t total = argc > 2 ? strtoull(argv[2], NULL, 10) : 50000000;
+    uint64_t full = 0;
+    for (size_t i = 0; i < sizeof record_area / sizeof *record_area; i++)
+        record_area[i] = WORD;
+    power_on();
+    for (calls = 1; calls < total; calls++) {
+        uint32_t takes = calls >> 12 & 3 ? 55 : 25, pick = below(100);
+        if (below(record[0] == 3 ? 2000 : 20000) == 0)
+            power_on();
+        else if (below(record[0] == 0 || record[0] == 1 ? 50 : 2000) == 0)
+            (record[0] == 1) == (below(10) != 0) ? quiet() : start();
+        else if (pick < takes)
+            take();
+        else if (pick < takes + 12)
+            message();
+        else
+            frame();
+        full += waiting(record, 1) == 32;
+    }
+    print_counts();
+    printf("%" PRIu64 " calls from seed %s, %" PRIu64 " with port 1 full: every check held\n", calls, argc > 1 ? argv[1] : "1", full);
+    return 0;
+}

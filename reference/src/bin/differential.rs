@@ -1,0 +1,360 @@
+//! differential SEED CALLS: the same calls to the reference and to the proved unit through its C interface. Compares
+//! every answer, every byte and the record's meaning, and lends storage of wrong lengths in between.
+
+use std::collections::BTreeMap;
+
+use reference::address::Event;
+use reference::coverage::Coverage;
+use reference::frame::Frame;
+use reference::generate::{generate, Random};
+use reference::linked::*;
+use reference::message::LONGEST_MESSAGE;
+use reference::script::{print_answer, write_call, Answer, Call};
+use reference::unit::{FrameAnswer, Unit};
+
+/// Guard elements before and behind whatever is lent.
+const GUARDS: usize = 16;
+/// How many calls one script has.
+const SCRIPT: usize = 100_000;
+
+/// Storage between guards.
+struct Lent<T> {
+    all: Vec<T>,
+    guard: T,
+}
+
+impl<T: Copy + PartialEq> Lent<T> {
+    fn new(length: usize, fill: T, guard: T) -> Lent<T> {
+        let mut all = vec![guard; length + 2 * GUARDS];
+        all[GUARDS..GUARDS + length].fill(fill);
+        Lent { all, guard }
+    }
+
+    fn contents(&mut self) -> &mut [T] {
+        let end = self.all.len() - GUARDS;
+        &mut self.all[GUARDS..end]
+    }
+
+    fn guards_hold(&self) -> bool {
+        let end = self.all.len() - GUARDS;
+        self.all[..GUARDS].iter().chain(&self.all[end..]).all(|guard| *guard == self.guard)
+    }
+
+    /// As it was made.
+    fn untouched(&self, fill: T) -> bool {
+        let end = self.all.len() - GUARDS;
+        self.guards_hold() && self.all[GUARDS..end].iter().all(|element| *element == fill)
+    }
+}
+
+/// Both units, and what was tried.
+struct Both {
+    reference: Unit,
+    record: Lent<u64>,
+    random: Random,
+    coverage: Coverage,
+    tried: BTreeMap<&'static str, u64>,
+}
+
+/// What the proved unit answered: the number, the answer's words and the bytes, as lent.
+struct Told {
+    number: u32,
+    words: Lent<u64>,
+    bytes: Lent<u8>,
+}
+
+const WORD: u64 = 0xA5A5_5A5A_A5A5_5A5A;
+const BYTE: u8 = 0x5C;
+
+impl Both {
+    fn new(seed: u64) -> Both {
+        Both {
+            reference: Unit::power_on(0, 0),
+            record: Lent::new(RECORD_WORDS, 0, 0xDEAD_BEEF_DEAD_BEEF),
+            random: Random::new(!seed),
+            coverage: Coverage::default(),
+            tried: BTreeMap::new(),
+        }
+    }
+
+    fn count(&mut self, what: &'static str) {
+        *self.tried.entry(what).or_insert(0) += 1;
+    }
+
+    fn told(&self, words: usize, bytes: usize) -> Told {
+        Told { number: 0, words: Lent::new(words, WORD, !WORD), bytes: Lent::new(bytes, BYTE, !BYTE) }
+    }
+
+    /// The call on both. The error says what differs.
+    fn call(&mut self, call: &Call) -> Result<(), String> {
+        if self.random.once_in(8) {
+            self.wrong_lengths(call)?;
+        }
+        let before = self.reference.clone();
+        let words = self.record.contents().to_vec();
+        let answer = match call {
+            Call::PowerOn { name, preferred } => self.power_on(*name, *preferred)?,
+            Call::Start => self.start()?,
+            Call::Quiet => self.quiet()?,
+            Call::Frame { port, id, bytes } => self.frame(*port, *id, bytes)?,
+            Call::Take { port } => self.take(*port)?,
+            Call::Message { port, requester, payload } => self.message(*port, *requester, payload)?,
+        };
+        let after = self.record.contents();
+        if answer.number() != 0 && after != words {
+            return Err(format!("{}: the record changed", print_answer(&answer)));
+        }
+        if let Some(difference) = difference(after, &self.reference) {
+            return Err(format!("{}: {difference}", print_answer(&answer)));
+        }
+        check(self.record.guards_hold(), "a guard of the record changed")?;
+        self.coverage.count_call(Some(&before), call, &answer, Some(&self.reference));
+        Ok(())
+    }
+
+    fn power_on(&mut self, name: u64, preferred: u32) -> Result<Answer, String> {
+        let junk = self.random.number();
+        self.record.contents().fill(junk);
+        let number = Record(self.record.contents()).power_on(name, preferred);
+        self.reference = Unit::power_on(name, preferred);
+        same("number", number, 0)?;
+        Ok(Answer::PowerOn)
+    }
+
+    fn start(&mut self) -> Result<Answer, String> {
+        let mut told = self.told(START_ANSWER, 0);
+        told.number = Record(self.record.contents()).start(told.words.contents());
+        let result = self.reference.start();
+        let expected = result.as_ref().map(|own_lost| vec![mask(own_lost)]);
+        told.is(result.as_ref().err(), expected.ok(), None)?;
+        Ok(Answer::Start(result))
+    }
+
+    fn quiet(&mut self) -> Result<Answer, String> {
+        let number = Record(self.record.contents()).quiet();
+        let result = self.reference.quiet();
+        same("number", number, result.err().unwrap_or(0))?;
+        Ok(Answer::Quiet(result))
+    }
+
+    fn frame(&mut self, port: u32, id: u32, bytes: &[u8]) -> Result<Answer, String> {
+        let mut told = self.told(FRAME_ANSWER, 0);
+        told.number = Record(self.record.contents()).frame(port, id, bytes, told.words.contents());
+        let result = self.reference.frame(port, id, bytes);
+        told.is(result.as_ref().err(), result.as_ref().ok().map(frame_words), None)?;
+        Ok(Answer::Frame(result))
+    }
+
+    /// A take on the record, or now and then on the port's queue alone.
+    fn take(&mut self, port: u32) -> Result<Answer, String> {
+        let mut told = self.told(TAKE_ANSWER, FRAME_BYTES);
+        let result = self.reference.take(port);
+        let by_queue = result.is_ok() && self.random.once_in(4);
+        let record = self.record.contents();
+        let (words, bytes) = (told.words.contents(), told.bytes.contents());
+        told.number = if by_queue {
+            let queue = (&mut record[queue_range(port)]).try_into().expect("65 words");
+            take_queue(queue, words, bytes)
+        } else {
+            Record(record).take(port, words, bytes)
+        };
+        self.count(if by_queue { "takes on the queue alone" } else { "takes on the record" });
+        let given = result.as_ref().ok().map(|given| given.as_ref());
+        told.is(result.as_ref().err(), given.map(take_words), given.flatten().map(take_bytes))?;
+        Ok(Answer::Take(result))
+    }
+
+    /// A message, with a reply buffer of any length: a short one is refused with 2.
+    fn message(&mut self, port: u32, requester: u32, payload: &[u8]) -> Result<Answer, String> {
+        let longer = self.random.below(100) as usize;
+        let shorter = self.random.below(LONGEST_MESSAGE as u32) as usize;
+        let length = match self.random.below(16) {
+            0 => shorter,
+            1 => LONGEST_MESSAGE - 1,
+            2 => LONGEST_MESSAGE + longer,
+            _ => LONGEST_MESSAGE,
+        };
+        let mut told = self.told(MESSAGE_ANSWER, length);
+        let (reply, words) = (told.bytes.contents(), told.words.contents());
+        told.number = Record(self.record.contents()).message(port, requester, payload, reply, words);
+        let mut expected = vec![BYTE; length];
+        let answer = self.reference.message(port, requester, payload, &mut expected);
+        same("number", told.number, answer.number)?;
+        same("answer", told.words.contents(), &mut [u64::from(answer.pgn), answer.length as u64])?;
+        same("reply", told.bytes.contents(), &mut expected)?;
+        told.guarded()?;
+        Ok(Answer::Message(answer, expected[..answer.length].to_vec()))
+    }
+}
+
+// Lent storage of wrong lengths.
+impl Both {
+    /// A call with one or more lengths wrong: 1 where it names no port, else 2; nothing is touched.
+    fn wrong_lengths(&mut self, call: &Call) -> Result<(), String> {
+        let (port, words, bytes) = match call {
+            Call::PowerOn { .. } | Call::Quiet => (None, None, None),
+            Call::Start => (None, Some(START_ANSWER), None),
+            Call::Frame { port, .. } => (Some(*port), Some(FRAME_ANSWER), None),
+            Call::Take { port } => (Some(*port), Some(TAKE_ANSWER), Some(FRAME_BYTES)),
+            Call::Message { port, .. } => (Some(*port), Some(MESSAGE_ANSWER), Some(LONGEST_MESSAGE)),
+        };
+        let bits = 1 + self.random.below(7);
+        let wrong_words = bits & 1 != 0 && words.is_some();
+        let wrong_bytes = bits & 2 != 0 && bytes.is_some();
+        let wrong_record = bits & 4 != 0 || !(wrong_words || wrong_bytes);
+        let is_message = matches!(call, Call::Message { .. });
+        let lent = |random: &mut Random, right: usize, wrong| if wrong { another(random, right) } else { right };
+        let words = lent(&mut self.random, words.unwrap_or(0), wrong_words);
+        let bytes = if is_message && wrong_bytes {
+            self.random.below(LONGEST_MESSAGE as u32) as usize
+        } else {
+            lent(&mut self.random, bytes.unwrap_or(0), wrong_bytes)
+        };
+        let length = lent(&mut self.random, RECORD_WORDS, wrong_record);
+        let mut told = self.told(words, bytes);
+        let before = self.record.all.clone();
+        told.number = self.lend(call, length, &mut told);
+        let expected = if port.is_some_and(|port| !(1..=4).contains(&port)) { 1 } else { 2 };
+        same("number of a wrong length", told.number, expected)?;
+        check(self.record.all == before, "a wrong length changed the record")?;
+        // A message whose answer is of its length is told that nothing was written.
+        let told_nothing = is_message && !wrong_words && told.words.contents() == [0, 0];
+        check(told_nothing || told.words.untouched(WORD), "a wrong length changed the answer")?;
+        check(told.bytes.untouched(BYTE), "a wrong length changed the bytes")?;
+        self.count("calls with lent lengths wrong");
+        Ok(())
+    }
+
+    /// The call with so many words of the record, which may reach into its guards.
+    fn lend(&mut self, call: &Call, length: usize, told: &mut Told) -> u32 {
+        let start = GUARDS;
+        let mut record = Record(&mut self.record.all[start..start + length]);
+        let (words, bytes) = (told.words.contents(), told.bytes.contents());
+        match call {
+            Call::PowerOn { name, preferred } => record.power_on(*name, *preferred),
+            Call::Start => record.start(words),
+            Call::Quiet => record.quiet(),
+            Call::Frame { port, id, bytes } => record.frame(*port, *id, bytes, words),
+            Call::Take { port } => record.take(*port, words, bytes),
+            Call::Message { port, requester, payload } => record.message(*port, *requester, payload, bytes, words),
+        }
+    }
+}
+
+/// Another length: one more, one less, none, or any.
+fn another(random: &mut Random, right: usize) -> usize {
+    let any = random.below(2 * right as u32 + 2) as usize;
+    let length = random.pick(&[right + 1, right - 1, 0, any]).min(right + GUARDS);
+    if length == right {
+        right + 1
+    } else {
+        length
+    }
+}
+
+impl Told {
+    /// Refused: the number, and nothing written. Done: 0, these words and these bytes, untouched where there are none.
+    fn is(&mut self, refused: Option<&u32>, words: Option<Vec<u64>>, bytes: Option<Vec<u8>>) -> Result<(), String> {
+        same("number", self.number, refused.copied().unwrap_or(0))?;
+        let mut expected = words.unwrap_or(vec![WORD; self.words.contents().len()]);
+        same("answer", self.words.contents(), &mut expected)?;
+        let mut expected = bytes.unwrap_or(vec![BYTE; self.bytes.contents().len()]);
+        same("bytes", self.bytes.contents(), &mut expected)?;
+        self.guarded()
+    }
+
+    fn guarded(&self) -> Result<(), String> {
+        check(self.words.guards_hold() && self.bytes.guards_hold(), "a guard of what was lent changed")
+    }
+}
+
+fn same<T: PartialEq + std::fmt::Debug>(what: &str, found: T, expected: T) -> Result<(), String> {
+    if found == expected {
+        Ok(())
+    } else {
+        Err(format!("{what} {found:?}, expected {expected:?}"))
+    }
+}
+
+fn check(holds: bool, otherwise: &str) -> Result<(), String> {
+    if holds {
+        Ok(())
+    } else {
+        Err(otherwise.to_string())
+    }
+}
+
+/// Bit p - 1 for port p.
+fn mask(ports: &[u32]) -> u64 {
+    ports.iter().map(|port| 1 << (port - 1)).sum()
+}
+
+fn frame_words(answer: &FrameAnswer) -> Vec<u64> {
+    let (event, old_name) = match answer.event {
+        Event::None => (0, 0),
+        Event::Withdrew => (1, 0),
+        Event::Defended => (2, 0),
+        Event::Displaced => (3, 0),
+        Event::Recorded => (4, 0),
+        Event::Refreshed => (5, 0),
+        Event::TookOver(old) => (6, old),
+        Event::Beaten => (7, 0),
+    };
+    let consumed = u64::from(answer.consumed);
+    let compared = answer.compared as u64;
+    vec![consumed, mask(&answer.accepted), mask(&answer.lost), event, old_name, mask(&answer.own_lost), compared]
+}
+
+fn take_words(given: Option<&Frame>) -> Vec<u64> {
+    match given {
+        Some(frame) => vec![1, u64::from(frame.id), frame.bytes.len() as u64],
+        None => vec![0, 0, 0],
+    }
+}
+
+/// The frame's bytes, 0 past its length.
+fn take_bytes(frame: &Frame) -> Vec<u8> {
+    let mut bytes = frame.bytes.clone();
+    bytes.resize(FRAME_BYTES, 0);
+    bytes
+}
+
+/// One script after the other, each of a seed of its own, until so many calls agreed.
+fn run(seed: u64, calls: usize) -> Result<Both, String> {
+    let mut both = Both::new(seed);
+    let mut done = 0;
+    let mut script = seed;
+    while done < calls {
+        for (line, call) in generate(script, SCRIPT.min(calls - done)).iter().enumerate() {
+            let told = both.call(call);
+            told.map_err(|error| format!("script {script}, call {line}: {}\n{error}", write_call(call)))?;
+            done += 1;
+        }
+        script = script.wrapping_add(1);
+    }
+    Ok(both)
+}
+
+fn main() {
+    let arguments: Vec<String> = std::env::args().skip(1).collect();
+    let numbers: Vec<u64> = arguments.iter().filter_map(|text| text.parse().ok()).collect();
+    let [seed, calls] = numbers[..] else {
+        eprintln!("usage: differential SEED CALLS");
+        std::process::exit(2);
+    };
+    match run(seed, calls as usize) {
+        Ok(both) => {
+            for line in both.coverage.table() {
+                println!("{line}");
+            }
+            for (what, count) in &both.tried {
+                println!("{what}: {count}");
+            }
+            println!("{calls} calls from seed {seed}: reference and proved unit agree");
+        }
+        Err(error) => {
+            println!("{error}");
+            std::process::exit(1);
+        }
+    }
+}

@@ -1,0 +1,209 @@
+//! The proved unit through its C interface, as a type that is safe to call: Rust's slices are the lent storage, and the
+//! borrow checker sees to what a C caller owes. What the record's words mean is read by the published layout.
+
+#![allow(unsafe_code)]
+
+use std::ops::Range;
+
+use crate::address::ClaimState;
+use crate::frame::{Frame, NULL};
+use crate::pair::{Pair, LONGEST_LIST};
+use crate::unit::{other_ports, Unit, LONGEST_QUEUE, PORTS};
+
+/// The published lengths, in words.
+pub const RECORD_WORDS: usize = 1180;
+pub const QUEUE_WORDS: usize = 65;
+/// The lengths of the answers, in words.
+pub const FRAME_ANSWER: usize = 7;
+pub const TAKE_ANSWER: usize = 3;
+pub const MESSAGE_ANSWER: usize = 2;
+pub const START_ANSWER: usize = 1;
+/// The length of a frame's bytes in a take.
+pub const FRAME_BYTES: usize = 8;
+
+/// The regions of the record: where each begins.
+const PAIRS_AT: usize = 4;
+const PAIR_WORDS: usize = 34;
+const QUEUES_AT: usize = 412;
+const TABLE_AT: usize = 672;
+
+#[link(name = "deorasaeng", kind = "static")]
+extern "C" {
+    fn deorasaeng_power_on(record: *mut u64, record_len: usize, name: u64, preferred: u32) -> u32;
+    fn deorasaeng_frame(
+        record: *mut u64,
+        record_len: usize,
+        port: u32,
+        id: u32,
+        bytes: *const u8,
+        len: usize,
+        answer: *mut u64,
+        answer_len: usize,
+    ) -> u32;
+    fn deorasaeng_take(
+        record: *mut u64,
+        record_len: usize,
+        port: u32,
+        answer: *mut u64,
+        answer_len: usize,
+        bytes: *mut u8,
+        bytes_len: usize,
+    ) -> u32;
+    fn deorasaeng_message(
+        record: *mut u64,
+        record_len: usize,
+        port: u32,
+        requester: u32,
+        payload: *const u8,
+        payload_len: usize,
+        reply: *mut u8,
+        reply_len: usize,
+        answer: *mut u64,
+        answer_len: usize,
+    ) -> u32;
+    fn deorasaeng_start(record: *mut u64, record_len: usize, answer: *mut u64, answer_len: usize) -> u32;
+    fn deorasaeng_quiet(record: *mut u64, record_len: usize) -> u32;
+    fn deorasaeng_take_queue(
+        queue: *mut u64,
+        answer: *mut u64,
+        answer_len: usize,
+        bytes: *mut u8,
+        bytes_len: usize,
+    ) -> u32;
+}
+
+/// A record that is lent, of any length. Each call gives the number, 0 for done.
+pub struct Record<'a>(pub &'a mut [u64]);
+
+impl Record<'_> {
+    pub fn power_on(&mut self, name: u64, preferred: u32) -> u32 {
+        unsafe { deorasaeng_power_on(self.0.as_mut_ptr(), self.0.len(), name, preferred) }
+    }
+
+    pub fn frame(&mut self, port: u32, id: u32, bytes: &[u8], answer: &mut [u64]) -> u32 {
+        let (record, to) = (self.0.as_mut_ptr(), answer.as_mut_ptr());
+        unsafe { deorasaeng_frame(record, self.0.len(), port, id, bytes.as_ptr(), bytes.len(), to, answer.len()) }
+    }
+
+    pub fn take(&mut self, port: u32, answer: &mut [u64], bytes: &mut [u8]) -> u32 {
+        let (record, to) = (self.0.as_mut_ptr(), answer.as_mut_ptr());
+        unsafe { deorasaeng_take(record, self.0.len(), port, to, answer.len(), bytes.as_mut_ptr(), bytes.len()) }
+    }
+
+    pub fn message(&mut self, port: u32, requester: u32, payload: &[u8], reply: &mut [u8], answer: &mut [u64]) -> u32 {
+        unsafe {
+            deorasaeng_message(
+                self.0.as_mut_ptr(),
+                self.0.len(),
+                port,
+                requester,
+                payload.as_ptr(),
+                payload.len(),
+                reply.as_mut_ptr(),
+                reply.len(),
+                answer.as_mut_ptr(),
+                answer.len(),
+            )
+        }
+    }
+
+    pub fn start(&mut self, answer: &mut [u64]) -> u32 {
+        unsafe { deorasaeng_start(self.0.as_mut_ptr(), self.0.len(), answer.as_mut_ptr(), answer.len()) }
+    }
+
+    pub fn quiet(&mut self) -> u32 {
+        unsafe { deorasaeng_quiet(self.0.as_mut_ptr(), self.0.len()) }
+    }
+}
+
+/// The take on one port's queue.
+pub fn take_queue(queue: &mut [u64; QUEUE_WORDS], answer: &mut [u64], bytes: &mut [u8]) -> u32 {
+    let (words, to) = (queue.as_mut_ptr(), answer.as_mut_ptr());
+    unsafe { deorasaeng_take_queue(words, to, answer.len(), bytes.as_mut_ptr(), bytes.len()) }
+}
+
+/// The words of a port's queue in the record.
+pub fn queue_range(port: u32) -> Range<usize> {
+    let start = QUEUES_AT + QUEUE_WORDS * (port as usize - 1);
+    start..start + QUEUE_WORDS
+}
+
+/// Where a record's words mean something else than a unit: the first such thing, in words.
+pub fn difference(words: &[u64], unit: &Unit) -> Option<String> {
+    own_difference(&words[..PAIRS_AT], unit)
+        .or_else(|| pairs_difference(&words[PAIRS_AT..QUEUES_AT], unit))
+        .or_else(|| queues_difference(words, unit))
+        .or_else(|| table_difference(&words[TABLE_AT..], unit))
+}
+
+/// Claim state, address, preferred address, NAME.
+fn own_difference(words: &[u64], unit: &Unit) -> Option<String> {
+    let state = match unit.state {
+        ClaimState::Unstarted => 0,
+        ClaimState::Claiming => 1,
+        ClaimState::Claimed => 2,
+        ClaimState::Lost => 3,
+    };
+    let address = unit.address().unwrap_or(NULL);
+    let expected = [state, u64::from(address), u64::from(unit.preferred), unit.name];
+    (words != expected).then(|| format!("own words {words:X?}, expected {expected:X?}"))
+}
+
+/// For each pair in order of From, then To: mode, count, PGNs.
+fn pairs_difference(words: &[u64], unit: &Unit) -> Option<String> {
+    let mut blocks = words.chunks(PAIR_WORDS);
+    for from in PORTS {
+        for to in other_ports(from) {
+            let block = blocks.next()?;
+            let count = (block[1] as usize).min(LONGEST_LIST);
+            let entries = || block[2..2 + count].iter().map(|&pgn| pgn as u32).collect();
+            let found = match block[0] {
+                0 => Pair::Cleared,
+                1 => Pair::Block(entries()),
+                _ => Pair::Pass(entries()),
+            };
+            let expected = &unit.pairs[&(from, to)];
+            if found != *expected {
+                return Some(format!("pair {from} to {to}: {found:?}, expected {expected:?}"));
+            }
+        }
+    }
+    None
+}
+
+/// For each port: the count, then each frame's identifier and length, and its bytes.
+fn queues_difference(words: &[u64], unit: &Unit) -> Option<String> {
+    for (&port, queue) in &unit.queues {
+        let block = &words[queue_range(port)];
+        let count = (block[0] as usize).min(LONGEST_QUEUE);
+        let waiting = block[1..].chunks(2).take(count);
+        let same = count == queue.len() && waiting.zip(queue).all(|(pair, frame)| is_frame(pair, frame));
+        if !same {
+            return Some(format!("queue of port {port}: {:X?}, expected {queue:X?}", &block[..1 + 2 * count]));
+        }
+    }
+    None
+}
+
+fn is_frame(words: &[u64], frame: &Frame) -> bool {
+    let mut bytes = [0; 8];
+    bytes[..frame.bytes.len()].copy_from_slice(&frame.bytes);
+    let head = u64::from(frame.id) + ((frame.bytes.len() as u64) << 32);
+    words == [head, u64::from_le_bytes(bytes)]
+}
+
+/// For each address 0 to 253: the arrival port, 0 for none, and the NAME.
+fn table_difference(words: &[u64], unit: &Unit) -> Option<String> {
+    let mut held = unit.table.iter().peekable();
+    for (address, place) in words.chunks(2).enumerate() {
+        let expected = held.next_if(|(&at, _)| at as usize == address).map(|(_, holder)| holder);
+        let same = match expected {
+            Some(holder) => *place == [u64::from(holder.port), holder.name],
+            None => place[0] == 0,
+        };
+        if !same {
+            return Some(format!("address {address}: {place:X?}, expected {expected:X?}"));
+        }
+    }
+    None
+}
