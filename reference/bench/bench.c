@@ -1,0 +1,409 @@
+/* The proved library against its twins in C and in Rust, all through one C interface. They must agree on random calls; then each kind of call is timed on the three
+   sides in turn, and the least of the rounds counts, so a ratio is of one run; then the stack that a call takes.
+   usage: bench [CALLS [ROUNDS]]; bench count: each row once on each side, in a function of its own, for a tool that counts instructions */
+#include "calls.h"
+#include <stdio.h>
+#include <stdlib.h>
+#include <string.h>
+#include <time.h>
+#include <ucontext.h>
+
+/* Words of the record. */
+#define MODE(pair) (PAIRS + PAIR * (pair))
+#define COUNT(pair) (MODE(pair) + 1)
+#define WAITING(port) DEORASAENG_QUEUE_AT(port)
+#define HOLDER(address) (TABLE + 2 * (address))
+
+/* A frame's identifier; its PGN is in no list unless a row says so. */
+enum { DATA = 0x0CF00400, PGN = 61444, CLAIM = 0x18EEFF26, ASK_ALL = 0x18EAFF26, TO_UNIT = 0x18EF5026 };
+
+struct row {
+    const char *label;
+    /* The calls, and the number that the last one gives. */
+    uint32_t (*run)(const struct side *, const struct row *, long calls);
+    uint32_t number;
+    /* Every pair: its mode (1 block, 2 pass), how many PGNs it lists, where the frame's PGN stands among them, from 1. Every queue: how many wait, and whether
+       they are of lower rank than the frame. Addresses held. */
+    int mode, entries, at, waiting, lower, held;
+    /* A frame: identifier, length (8 for a frame with its takes, unless said) and bytes. */
+    uint32_t id;
+    size_t len;
+    uint64_t bytes;
+    /* A message: function, pair byte, how many entries, how many of them different, the first one's place among the PGNs, the last one's; backwards or not. */
+    uint8_t function, pair;
+    int named, different, first, last, backwards;
+    /* Words that every call finds as they were: at, value. */
+    uint64_t resets[6][2];
+};
+
+static uint64_t w[RECORD];
+static struct lent lent;
+static uint8_t payload[LONGEST];
+static size_t payload_len;
+
+/* ---- what the calls find */
+static uint32_t listed(int i)
+{
+    return 0xFE00 + i;
+}
+
+static void restore(const struct row *r)
+{
+    for (int i = 0; r->resets[i][0]; i++)
+        w[r->resets[i][0]] = r->resets[i][1];
+}
+
+static void make_payload(const struct row *r)
+{
+    size_t n = 2;
+    payload[0] = r->function;
+    payload[1] = r->pair;
+    if (r->function == 6)
+        payload[n++] = 1;
+    for (int i = 0; i < r->named; i++) {
+        int k = i % r->different;
+        uint32_t pgn = listed(r->last && i == r->named - 1 ? r->last : r->first + (r->backwards ? r->different - 1 - k : k));
+        for (int b = 0; b < 3; b++)
+            payload[n++] = pgn >> 8 * b;
+    }
+    while (n < 8)
+        payload[n++] = 0xFF;
+    payload_len = n;
+}
+
+static void make(const struct row *r)
+{
+    memset(w, 0, sizeof w);
+    w[0] = 2;
+    w[1] = w[2] = 0x50;
+    w[3] = 0xA000000000000050;
+    for (int i = 0; i < 12; i++) {
+        w[MODE(i)] = r->mode;
+        w[COUNT(i)] = r->entries;
+        for (int j = 0; j < r->entries; j++)
+            w[COUNT(i) + 1 + j] = j + 1 == r->at ? PGN : listed(j);
+    }
+    for (int port = 1; port <= 4; port++) {
+        w[WAITING(port)] = r->waiting;
+        for (int j = 0; j < r->waiting; j++)
+            w[WAITING(port) + 1 + 2 * j] = DATA | 8ull << 32 | (r->lower ? 0x18000000 : 0);
+    }
+    for (int i = 0, n = 0; n < r->held; i++)
+        if (i != 0x50) {
+            w[HOLDER(i)] = 2;
+            w[HOLDER(i) + 1] = ++n;
+        }
+    restore(r);
+    make_payload(r);
+}
+
+/* ---- the calls */
+static uint32_t frame_and_takes(const struct side *side, const struct row *r, long calls)
+{
+    uint32_t number = 0;
+    size_t len = r->len ? r->len : 8;
+    for (long k = 0; k < calls; k++) {
+        number = side->frame(w, RECORD, 1, DATA, (const uint8_t *)&k, len, lent.answer, DEORASAENG_FRAME_ANSWER);
+        side->take(w, RECORD, 2, lent.answer, DEORASAENG_TAKE_ANSWER, lent.bytes, DEORASAENG_FRAME_BYTES);
+        side->take(w, RECORD, 3, lent.answer, DEORASAENG_TAKE_ANSWER, lent.bytes, DEORASAENG_FRAME_BYTES);
+        side->take(w, RECORD, 4, lent.answer, DEORASAENG_TAKE_ANSWER, lent.bytes, DEORASAENG_FRAME_BYTES);
+    }
+    return number;
+}
+
+static uint32_t frames(const struct side *side, const struct row *r, long calls)
+{
+    uint32_t number = 0;
+    for (long k = 0; k < calls; k++) {
+        restore(r);
+        number = side->frame(w, RECORD, 1, r->id, (const uint8_t *)&r->bytes, r->len, lent.answer, DEORASAENG_FRAME_ANSWER);
+    }
+    return number;
+}
+
+static uint32_t takes(const struct side *side, const struct row *r, long calls)
+{
+    uint32_t number = 0;
+    (void)r;
+    for (long k = 0; k < calls; k++)
+        number = side->take(w, RECORD, 2, lent.answer, DEORASAENG_TAKE_ANSWER, lent.bytes, DEORASAENG_FRAME_BYTES);
+    return number;
+}
+
+static uint32_t messages(const struct side *side, const struct row *r, long calls)
+{
+    uint32_t number = 0;
+    for (long k = 0; k < calls; k++) {
+        restore(r);
+        number = side->message(w, RECORD, 1, 0x21, payload, payload_len, lent.reply, LONGEST, lent.answer, DEORASAENG_MESSAGE_ANSWER);
+    }
+    return number;
+}
+
+static uint32_t starts(const struct side *side, const struct row *r, long calls)
+{
+    uint32_t number = 0;
+    for (long k = 0; k < calls; k++) {
+        restore(r);
+        w[0] = 0;
+        number = side->start(w, RECORD, lent.answer, DEORASAENG_START_ANSWER);
+    }
+    return number;
+}
+
+static uint32_t quiets(const struct side *side, const struct row *r, long calls)
+{
+    uint32_t number = 0;
+    (void)r;
+    for (long k = 0; k < calls; k++) {
+        w[0] = 1;
+        number = side->quiet(w, RECORD);
+    }
+    return number;
+}
+
+static uint32_t power_ons(const struct side *side, const struct row *r, long calls)
+{
+    uint32_t number = 0;
+    (void)r;
+    for (long k = 0; k < calls; k++)
+        number = side->power_on(w, RECORD, k, 0x50);
+    return number;
+}
+
+/* ---- the tables */
+#define NOTHING_WAITS {{WAITING(1), 0}, {WAITING(2), 0}, {WAITING(3), 0}, {WAITING(4), 0}}
+#define MODES(mode) {{MODE(0), mode}, {MODE(1), mode}, {MODE(2), mode}}
+
+enum { OTHER = 9 };
+
+static const struct row frame_rows[] = {
+    {"frame and 3 takes, cleared, depth 1", frame_and_takes, .mode = 0},
+    {"frame and 3 takes, 32 PGNs, found first, depth 1", frame_and_takes, .mode = 2, .entries = 32, .at = 1},
+    {"frame and 3 takes, 32 PGNs, found last, depth 1", frame_and_takes, .mode = 2, .entries = 32, .at = 32},
+    {"frame and 3 takes, 32 PGNs, absent, depth 1", frame_and_takes, .mode = 1, .entries = 32},
+    {"frame of 3 bytes and 3 takes, cleared, depth 1", frame_and_takes, .len = 3},
+    {"frame and 3 takes, cleared, depth 32", frame_and_takes, .waiting = 31},
+    {"frame and 3 takes, cleared, depth 32, others of lower rank", frame_and_takes, .waiting = 31, .lower = 1},
+    {"frame and 3 takes, 32 PGNs, found first, depth 32", frame_and_takes, .mode = 2, .entries = 32, .at = 1, .waiting = 31},
+    {"frame and 3 takes, 32 PGNs, found last, depth 32", frame_and_takes, .mode = 2, .entries = 32, .at = 32, .waiting = 31},
+    {"frame and 3 takes, 32 PGNs, absent, depth 32", frame_and_takes, .mode = 1, .entries = 32, .waiting = 31},
+    {"frame lost at 3 full queues", frames, .waiting = 32, .id = DATA, .len = 8},
+    {"frame stopped by 3 empty pass lists", frames, .mode = 2, .id = DATA, .len = 8},
+    {"frame stopped by 3 pass lists of 32", frames, .mode = 2, .entries = 32, .id = DATA, .len = 8},
+    {"frame of 5 bytes lost at 3 full queues", frames, .waiting = 32, .id = DATA, .len = 5},
+    {"frame refused (5)", frames, .number = 5, .id = DATA | 0xFF, .len = 8},
+    {"frame consumed", frames, .id = TO_UNIT, .len = 8},
+    {"request for address claimed, to all", frames, .id = ASK_ALL, .len = 3, .bytes = 0xEE00, .resets = NOTHING_WAITS},
+    {"claim made again", frames, .waiting = 32, .id = CLAIM, .len = 8, .bytes = OTHER, .resets = {{HOLDER(0x26), 1}, {HOLDER(0x26) + 1, OTHER}}},
+    {"claim of a new NAME", frames, .waiting = 32, .id = CLAIM, .len = 8, .bytes = OTHER, .resets = {{HOLDER(0x26), 0}, {HOLDER(0x26) + 1, 0}}},
+    {"claim that takes over", frames, .waiting = 32, .id = CLAIM, .len = 8, .bytes = OTHER, .resets = {{HOLDER(0x26), 1}, {HOLDER(0x26) + 1, OTHER + 1}}},
+    {"claim made again, 253 addresses held", frames, .waiting = 32, .id = CLAIM, .len = 8, .bytes = 0x27, .held = 253},
+    {"take of nothing", takes, .waiting = 0},
+    {"Start", starts, .resets = NOTHING_WAITS},
+    {"Quiet", quiets, .mode = 0},
+    {"power-on", power_ons, .mode = 0},
+};
+
+static const struct row message_rows[] = {
+    {"Request of a cleared pair", messages, .pair = 0x12},
+    {"Request of 1 PGN", messages, .mode = 1, .entries = 1, .pair = 0x12},
+    {"Request of 32 PGNs", messages, .mode = 1, .entries = 32, .pair = 0x12},
+    {"Add of 1 to 31", messages, .mode = 1, .entries = 31, .function = 2, .pair = 0x12, .named = 1, .different = 1, .first = 31, .resets = {{COUNT(0), 31}}},
+    {"Add of 32 to none, 3 pairs", messages, .mode = 1, .function = 2, .pair = 0x1F, .named = 32, .different = 32,
+     .resets = {{COUNT(0), 0}, {COUNT(1), 0}, {COUNT(2), 0}}},
+    {"Add of 594, 32 different, to none", messages, .mode = 1, .function = 2, .pair = 0x12, .named = 594, .different = 32, .resets = {{COUNT(0), 0}}},
+    {"Add of 594, 32 different, all listed", messages, .mode = 1, .entries = 32, .function = 2, .pair = 0x12, .named = 594, .different = 32},
+    {"Add of 594, 32 different, all listed, backwards", messages, .mode = 1, .entries = 32, .function = 2, .pair = 0x12, .named = 594, .different = 32,
+     .backwards = 1},
+    {"Add of 594, refused (16) by the last", messages, .number = 16, .mode = 1, .entries = 32, .function = 2, .pair = 0x12, .named = 594, .different = 32, .last = 33},
+    {"Add of 594 different, refused (16)", messages, .number = 16, .mode = 1, .function = 2, .pair = 0x12, .named = 594, .different = 200},
+    {"Delete of 1 of 32", messages, .mode = 1, .entries = 32, .function = 3, .pair = 0x12, .named = 1, .different = 1, .first = 31, .resets = {{COUNT(0), 32}}},
+    {"Delete of 32 of 32", messages, .mode = 1, .entries = 32, .function = 3, .pair = 0x12, .named = 32, .different = 32, .resets = {{COUNT(0), 32}}},
+    {"Delete of 32 of 32, backwards", messages, .mode = 1, .entries = 32, .function = 3, .pair = 0x12, .named = 32, .different = 32, .backwards = 1,
+     .resets = {{COUNT(0), 32}}},
+    {"Delete of 32 of 32, 3 pairs", messages, .mode = 1, .entries = 32, .function = 3, .pair = 0x1F, .named = 32, .different = 32,
+     .resets = {{COUNT(0), 32}, {COUNT(1), 32}, {COUNT(2), 32}}},
+    {"Clear of 3 pairs", messages, .mode = 1, .entries = 32, .function = 4, .pair = 0x1F, .resets = MODES(1)},
+    {"Create of 1", messages, .function = 6, .pair = 0x12, .named = 1, .different = 1, .resets = MODES(0)},
+    {"Create of 32", messages, .function = 6, .pair = 0x12, .named = 32, .different = 32, .resets = MODES(0)},
+    {"Create of 32, 3 pairs", messages, .function = 6, .pair = 0x1F, .named = 32, .different = 32, .resets = MODES(0)},
+    {"address list of none", messages, .function = 64, .pair = 0x02},
+    {"address list of 253", messages, .function = 64, .pair = 0x02, .held = 253},
+    {"refused (10)", messages, .number = 10, .function = 2, .pair = 0x11},
+};
+
+static const struct row list_rows[] = {
+    {"0", frame_and_takes, .mode = 1},
+    {"1", frame_and_takes, .mode = 1, .entries = 1},
+    {"2", frame_and_takes, .mode = 1, .entries = 2},
+    {"4", frame_and_takes, .mode = 1, .entries = 4},
+    {"8", frame_and_takes, .mode = 1, .entries = 8},
+    {"16", frame_and_takes, .mode = 1, .entries = 16},
+    {"32", frame_and_takes, .mode = 1, .entries = 32},
+};
+
+static const struct row depth_rows[] = {
+    {"1", frame_and_takes, .waiting = 0},
+    {"2", frame_and_takes, .waiting = 1},
+    {"4", frame_and_takes, .waiting = 3},
+    {"8", frame_and_takes, .waiting = 7},
+    {"16", frame_and_takes, .waiting = 15},
+    {"32", frame_and_takes, .waiting = 31},
+};
+
+static const struct table {
+    const char *title, *column;
+    const struct row *rows;
+    size_t count;
+} tables[] = {
+    {"Frames, takes, Start, Quiet, power-on", "call", frame_rows, sizeof frame_rows / sizeof *frame_rows},
+    {"Network messages, from port 1", "message", message_rows, sizeof message_rows / sizeof *message_rows},
+    {"Growth with the lists: frame and 3 takes, depth 1, a PGN that is absent", "PGNs in each list", list_rows, sizeof list_rows / sizeof *list_rows},
+    {"Growth with the queues: frame and 3 takes, cleared pairs, equal ranks", "depth", depth_rows, sizeof depth_rows / sizeof *depth_rows},
+};
+
+enum { TABLES = sizeof tables / sizeof *tables };
+
+static double now(void)
+{
+    struct timespec t;
+    clock_gettime(CLOCK_MONOTONIC, &t);
+    return t.tv_sec * 1e9 + t.tv_nsec;
+}
+
+static double time_of(const struct side *side, const struct row *r, long calls)
+{
+    make(r);
+    double start = now();
+    r->run(side, r, calls);
+    return (now() - start) / calls;
+}
+
+/* The sides do the same on a row, and give its number. */
+static void check_row(const struct row *r)
+{
+    static uint64_t first[RECORD], answer[8];
+    for (int s = 0; s < SIDES; s++) {
+        make(r);
+        memset(&lent, 0, sizeof lent);
+        uint32_t number = r->run(&sides[s], r, 3);
+        if (number != r->number || (s > 0 && (!same_record(first, w) || memcmp(answer, lent.answer, sizeof answer)))) {
+            printf("%s: %s gives %u, or not what the others give\n", r->label, sides[s].name, (unsigned)number);
+            exit(1);
+        }
+        memcpy(first, w, sizeof w);
+        memcpy(answer, lent.answer, sizeof answer);
+    }
+}
+
+static void time_row(const struct row *r, int rounds)
+{
+    check_row(r);
+    double least[SIDES] = {1e30, 1e30, 1e30};
+    long calls = 30000 / time_of(&sides[1], r, 20) + 20;
+    for (int k = 0; k < rounds; k++)
+        for (int s = 0; s < SIDES; s++) {
+            double x = time_of(&sides[s], r, calls);
+            least[s] = x < least[s] ? x : least[s];
+        }
+    printf("| %s | %.1f | %.1f | %.1f | %.2f | %.2f |\n", r->label, least[0], least[1], least[2], least[0] / least[1], least[0] / least[2]);
+}
+
+static void time_tables(int rounds)
+{
+    for (const struct table *t = tables; t < tables + TABLES; t++) {
+        printf("\n%s\n\n| %s | Rattle, ns | C, ns | Rust, ns | Rattle / C | Rattle / Rust |\n|---|---|---|---|---|---|\n", t->title, t->column);
+        for (const struct row *r = t->rows; r < t->rows + t->count; r++)
+            time_row(r, rounds);
+    }
+}
+
+/* ---- the stack: painted before each call, and looked through after it */
+static uint32_t nothing();
+
+static const struct side empty = {"nothing", nothing, nothing, nothing, nothing, nothing, nothing};
+
+static uint32_t nothing()
+{
+    return 0;
+}
+
+static char stack[32768];
+static const struct side *stack_side;
+static struct call stack_call;
+
+static void on_stack(void)
+{
+    do_call(stack_side, &stack_call, &lent);
+}
+
+static size_t touched(const struct side *side)
+{
+    ucontext_t here, there;
+    size_t i = 0;
+    memset(stack, 0x5A, sizeof stack);
+    stack_side = side;
+    getcontext(&there);
+    there.uc_stack.ss_sp = stack;
+    there.uc_stack.ss_size = sizeof stack;
+    there.uc_link = &here;
+    makecontext(&there, on_stack, 0);
+    swapcontext(&here, &there);
+    while (stack[i] == 0x5A)
+        i++;
+    return sizeof stack - i;
+}
+
+/* The most that a call takes, with its return address. */
+static void print_stack(long calls)
+{
+    static const char *labels[KINDS] = {"frame", "take", "message", "Start", "Quiet", "power-on"};
+    size_t most[KINDS][SIDES] = {{0}};
+    for (int s = 0; s < SIDES; s++) {
+        memset(&lent, 0, sizeof lent);
+        for (long k = 0; k < calls; k++) {
+            make_call(&stack_call, lent.record);
+            size_t none = touched(&empty), n = touched(&sides[s]) - none + 8, *m = &most[stack_call.kind][s];
+            *m = n > *m ? n : *m;
+        }
+    }
+    printf("\nStack, the most of %ld random calls\n\n| call | Rattle, bytes | C, bytes | Rust, bytes |\n|---|---|---|---|\n", calls);
+    for (int i = 0; i < KINDS; i++)
+        printf("| %s | %zu | %zu | %zu |\n", labels[i], most[i][0], most[i][1], most[i][2]);
+}
+
+/* ---- counting */
+__attribute__((noinline)) void measured(const struct side *side, const struct row *r, long calls)
+{
+    r->run(side, r, calls);
+    __asm__ volatile("");
+}
+
+/* The rows in order, and on each first nothing, then the sides; a line for each says what is run. */
+static void run_rows_once(void)
+{
+    for (const struct table *t = tables; t < tables + TABLES; t++)
+        for (const struct row *r = t->rows; r < t->rows + t->count; r++)
+            for (int s = -1; s < SIDES; s++) {
+                const struct side *side = s < 0 ? &empty : &sides[s];
+                make(r);
+                r->run(side, r, 1);
+                make(r);
+                measured(side, r, 16);
+                printf("%s: %s|%s\n", t->column, r->label, side->name);
+            }
+}
+
+int main(int argc, char **argv)
+{
+    if (argc > 1 && !strcmp(argv[1], "count")) {
+        run_rows_once();
+        return 0;
+    }
+    if (!agree(argc > 1 ? atol(argv[1]) : 4000000))
+        return 1;
+    time_tables(argc > 2 ? atoi(argv[2]) : 1000);
+    print_stack(200000);
+    return 0;
+}

@@ -1,0 +1,253 @@
+/* Random calls, and the agreement of the sides on them. */
+#include "calls.h"
+#include <stdio.h>
+#include <string.h>
+
+#define SIDE(name, side) {name, side##_power_on, side##_frame, side##_take, side##_message, side##_start, side##_quiet}
+
+const struct side sides[SIDES] = {SIDE("Rattle", deorasaeng), SIDE("C", c), SIDE("Rust", rust)};
+
+/* The unit's NAME and preferred address. */
+static const uint64_t own_name = 0xA000000000000050;
+static const uint32_t own_address = 0x50;
+
+uint64_t next(void)
+{
+    static uint64_t seed = 88172645463325252u;
+    seed ^= seed << 13;
+    seed ^= seed >> 7;
+    seed ^= seed << 17;
+    return seed * 0x2545F4914F6CDD1D >> 16;
+}
+
+static uint32_t below(uint32_t n)
+{
+    return next() % n;
+}
+
+static bool one_in(uint32_t n)
+{
+    return below(n) == 0;
+}
+
+/* One of 40 PGNs, so that lists fill and pass 32. */
+static uint32_t some_pgn(void)
+{
+    uint32_t i = below(40);
+    return i & 1 ? 0xFE00 + i : 0x1C000 + 256 * i;
+}
+
+static uint32_t some_id(void)
+{
+    uint32_t source = one_in(8) ? 254 + below(2) : below(254), destination = one_in(3) ? own_address : below(256), rank = below(8) << 26;
+    switch (below(8)) {
+    case 0: case 1: return 0x18EEFF00 | (one_in(8) ? own_address : one_in(4) ? source : below(6));
+    case 2: return 0x18EA0000 | (one_in(2) ? 255 : destination) << 8 | source;
+    case 3: return rank | below(240) << 16 | destination << 8 | source;
+    case 4: return next();
+    default: return rank | some_pgn() << 8 | source;
+    }
+}
+
+/* A NAME near the unit's, or one of a few, or any. */
+static uint64_t some_name(void)
+{
+    switch (below(3)) {
+    case 0: return own_name - 2 + below(5);
+    case 1: return 0xF000000000000000 * below(2) + below(6);
+    default: return next();
+    }
+}
+
+static void make_frame(struct call *c)
+{
+    uint64_t bytes = some_name();
+    c->id = some_id();
+    c->len = one_in(3) ? below(10) : 8;
+    memcpy(c->payload, &bytes, 8);
+    if ((c->id >> 16 & 255) == 0xEA && !one_in(4)) {
+        memcpy(c->payload, "\0\xEE\0", 3);
+        c->len = 3;
+    }
+}
+
+static void put_entry(uint8_t *bytes, uint32_t pgn)
+{
+    bytes[0] = pgn;
+    bytes[1] = pgn >> 8;
+    bytes[2] = pgn >> 16;
+}
+
+static int some_count(void)
+{
+    switch (below(8)) {
+    case 0: return 1 + below(594);
+    case 1: return 594;
+    case 2: return 1 + below(40);
+    default: return 1 + below(3);
+    }
+}
+
+/* The entries of an Add, Delete or Create: of the first pair's list, or of the 40, and now and then a wrong one or a byte too many. */
+static void make_entries(struct call *c, const uint64_t *pair, size_t start)
+{
+    int n = some_count(), listed = pair[1] && !one_in(4);
+    for (int i = 0; i < n; i++)
+        put_entry(c->payload + start + 3 * i, listed && c->payload[0] == 3 ? pair[2 + below(pair[1])] : some_pgn());
+    if (one_in(32))
+        put_entry(c->payload + start + 3 * below(n), next());
+    c->len = start + 3 * n;
+    while (c->len < 8)
+        c->payload[c->len++] = one_in(32) ? 0 : 0xFF;
+    if (one_in(32))
+        c->len += 1 + below(3);
+}
+
+static void make_message(struct call *c, const uint64_t *record)
+{
+    static const uint8_t functions[] = {0, 2, 2, 2, 3, 3, 3, 4, 6, 6, 6, 64};
+    uint32_t from = 1 + below(4), to = 1 + (from + below(3)) % 4;
+    const uint64_t *pair = record + PAIRS + PAIR * (3 * (from - 1) + (to < from ? to - 1 : to - 2));
+    for (int i = 0; i < 16; i++)
+        c->payload[i] = next();
+    c->payload[0] = one_in(64) ? below(256) : functions[below(sizeof functions)];
+    c->payload[1] = one_in(64) ? below(256) : from << 4 | (c->payload[0] && one_in(3) ? 15 : to);
+    c->len = one_in(32) ? below(1800) : 8;
+    c->requester = one_in(64) ? below(300) : 0x21;
+    if (one_in(3))
+        c->port = one_in(2) ? from : to;
+    if (c->payload[0] == 6)
+        c->payload[2] = one_in(32) ? below(256) : below(2);
+    if (c->payload[0] == 2 || c->payload[0] == 3)
+        make_entries(c, pair, 2);
+    if (c->payload[0] == 6)
+        make_entries(c, pair, 3);
+}
+
+/* Now and then a length that is not the published one. */
+static size_t some_length(size_t published)
+{
+    return one_in(256) ? published - 1 + 2 * below(2) : published;
+}
+
+void make_call(struct call *c, const uint64_t *record)
+{
+    static const enum kind busy[] = {FRAME, FRAME, FRAME, MESSAGE, TAKE}, slow[] = {FRAME, TAKE, TAKE, TAKE, MESSAGE, MESSAGE};
+    static uint32_t phase;
+    phase++;
+    c->kind = phase & 1024 ? busy[below(5)] : slow[below(6)];
+    if (record[0] != 2 && one_in(16))
+        c->kind = record[0] == 0 ? START : record[0] == 1 ? QUIET : POWER_ON;
+    if (one_in(512))
+        c->kind = START + below(2);
+    if (one_in(8192))
+        c->kind = POWER_ON;
+    c->port = one_in(64) ? below(6) : 1 + below(4);
+    c->record_len = some_length(RECORD);
+    c->bytes_len = some_length(DEORASAENG_FRAME_BYTES);
+    c->reply_len = one_in(4) ? LONGEST + 15 : some_length(LONGEST);
+    c->name = one_in(4) ? some_name() : own_name;
+    c->preferred = one_in(8) ? below(300) : own_address;
+    static const size_t answers[KINDS] = {DEORASAENG_FRAME_ANSWER, DEORASAENG_TAKE_ANSWER, DEORASAENG_MESSAGE_ANSWER, DEORASAENG_START_ANSWER};
+    c->answer_len = one_in(256) ? below(9) : answers[c->kind];
+    if (c->kind == FRAME)
+        make_frame(c);
+    if (c->kind == MESSAGE)
+        make_message(c, record);
+}
+
+uint32_t do_call(const struct side *side, const struct call *c, struct lent *l)
+{
+    switch (c->kind) {
+    case FRAME: return side->frame(l->record, c->record_len, c->port, c->id, c->payload, c->len, l->answer, c->answer_len);
+    case TAKE: return side->take(l->record, c->record_len, c->port, l->answer, c->answer_len, l->bytes, c->bytes_len);
+    case MESSAGE:
+        return side->message(l->record, c->record_len, c->port, c->requester, c->payload, c->len, l->reply, c->reply_len, l->answer, c->answer_len);
+    case START: return side->start(l->record, c->record_len, l->answer, c->answer_len);
+    case QUIET: return side->quiet(l->record, c->record_len);
+    default: return side->power_on(l->record, c->record_len, c->name, c->preferred);
+    }
+}
+
+/* The record with 0 in each word that means nothing: places past a count, the list of a cleared pair. */
+static void meaning(const uint64_t *record, uint64_t *out)
+{
+    memcpy(out, record, 8 * RECORD);
+    for (int i = 0; i < 12; i++) {
+        uint64_t *pair = out + PAIRS + PAIR * i, n = pair[0] ? pair[1] : 0;
+        pair[1] = n;
+        memset(pair + 2 + n, 0, 8 * (32 - n));
+    }
+    for (int q = 0; q < 4; q++) {
+        uint64_t *queue = out + QUEUES + QUEUE * q;
+        memset(queue + 1 + 2 * queue[0], 0, 16 * (32 - queue[0]));
+    }
+}
+
+bool same_record(const uint64_t *a, const uint64_t *b)
+{
+    static uint64_t x[RECORD], y[RECORD];
+    if (!memcmp(a, b, 8 * RECORD))
+        return true;
+    meaning(a, x);
+    meaning(b, y);
+    return !memcmp(x, y, sizeof x);
+}
+
+/* What came of the calls, so that one sees that nothing was left untried. */
+struct tally {
+    long numbers[19], events[8], done[65], full, longest;
+};
+
+static void count(struct tally *t, const struct call *c, const struct lent *l, uint32_t number)
+{
+    t->numbers[number]++;
+    if (number == 0 && c->kind == FRAME)
+        t->events[l->answer[DEORASAENG_EVENT]]++;
+    if (number == 0 && c->kind == MESSAGE) {
+        t->done[c->payload[0]]++;
+        t->full += c->payload[0] == 0 && l->answer[DEORASAENG_WRITTEN] == 99;
+        t->longest += c->payload[0] && c->len >= 1784;
+    }
+}
+
+static bool is_whole(const struct tally *t, long calls)
+{
+    bool whole = t->full && t->longest;
+    for (int i = 0; i < 19; i++)
+        whole &= t->numbers[i] > 0;
+    for (int i = 0; i < 8; i++)
+        whole &= t->events[i] > 0;
+    printf("%ld random calls: the three sides agree. Messages done: Request %ld (%ld of 32 PGNs), Add %ld, Delete %ld, Clear %ld, Create %ld, addresses %ld; %ld of 594 entries.\n",
+           calls, t->done[0], t->full, t->done[2], t->done[3], t->done[4], t->done[6], t->done[64], t->longest);
+    printf("Refused, by number:");
+    for (int i = 1; i < 19; i++)
+        printf(" %d:%ld", i, t->numbers[i]);
+    printf("; claim events:");
+    for (int i = 1; i < 8; i++)
+        printf(" %d:%ld", i, t->events[i]);
+    printf("\n");
+    if (!whole)
+        printf("something was left untried\n");
+    return whole;
+}
+
+bool agree(long calls)
+{
+    static struct lent lent[SIDES];
+    static struct call c = {.kind = POWER_ON, .record_len = RECORD};
+    static struct tally t;
+    for (long k = 0; k < calls; k++) {
+        uint32_t number = do_call(&sides[0], &c, &lent[0]);
+        for (int s = 1; s < SIDES; s++)
+            if (do_call(&sides[s], &c, &lent[s]) != number || memcmp(lent[0].answer, lent[s].answer, sizeof lent[0].answer) ||
+                memcmp(lent[0].bytes, lent[s].bytes, sizeof lent[0].bytes) || memcmp(lent[0].reply, lent[s].reply, sizeof lent[0].reply) ||
+                !same_record(lent[0].record, lent[s].record)) {
+                printf("Rattle and %s differ at call %ld, of kind %d\n", sides[s].name, k, c.kind);
+                return false;
+            }
+        count(&t, &c, &lent[0], number);
+        make_call(&c, lent[0].record);
+    }
+    return is_whole(&t, calls);
+}

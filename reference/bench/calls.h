@@ -1,0 +1,56 @@
+/* Calls on one of the sides: made at random, done, and the agreement of the sides on them. */
+#ifndef CALLS_H
+#define CALLS_H
+
+#include "twin.h"
+#include <stdbool.h>
+
+enum { SIDES = 3, RECORD = DEORASAENG_RECORD_WORDS, LONGEST = 1785 };
+
+/* Where the record's regions begin, and the words of a pair and of a queue. */
+enum { PAIRS = 4, PAIR = 34, QUEUES = DEORASAENG_QUEUE_AT(1), QUEUE = DEORASAENG_QUEUE_WORDS, TABLE = 672, PLACES = 254 };
+
+struct side {
+    const char *name;
+    __typeof__(deorasaeng_power_on) *power_on;
+    __typeof__(deorasaeng_frame) *frame;
+    __typeof__(deorasaeng_take) *take;
+    __typeof__(deorasaeng_message) *message;
+    __typeof__(deorasaeng_start) *start;
+    __typeof__(deorasaeng_quiet) *quiet;
+};
+
+extern const struct side sides[SIDES];
+
+enum kind { FRAME, TAKE, MESSAGE, START, QUIET, POWER_ON, KINDS };
+
+/* The arguments of a call, with the lengths that are lent. */
+struct call {
+    enum kind kind;
+    size_t record_len, answer_len, bytes_len, reply_len, len;
+    uint32_t port, id, requester, preferred;
+    uint64_t name;
+    uint8_t payload[LONGEST + 15];
+};
+
+/* What a call is lent. */
+struct lent {
+    uint64_t record[RECORD], answer[8];
+    uint8_t bytes[16], reply[LONGEST + 15];
+};
+
+/* A random number. */
+uint64_t next(void);
+
+/* A random call on a unit of which the record is known. */
+void make_call(struct call *c, const uint64_t *record);
+
+uint32_t do_call(const struct side *side, const struct call *c, struct lent *l);
+
+/* Whether two records mean the same: equal words, but for those past a count and in the list of a cleared pair. */
+bool same_record(const uint64_t *a, const uint64_t *b);
+
+/* Whether the sides give the same on so many random calls: answers, bytes, and what the record means. */
+bool agree(long calls);
+
+#endif

@@ -1,0 +1,509 @@
+/* The unit by hand in C, over the same words: what its own calls have put there is trusted, nothing is checked twice. */
+#include "twin.h"
+#include <stdbool.h>
+#include <string.h>
+
+enum { PORTS = 4, LIST = 32, QUEUE = 32, PLACES = 254, NO_ADDRESS = 254, LONGEST = 1785, ALL = 15, FILLING = 0xFF };
+enum { UNSTARTED, CLAIMING, CLAIMED, LOST };
+enum { CLEARED, BLOCK, PASS };
+enum { REQUEST = 0, ADD = 2, DELETE = 3, CLEAR = 4, CREATE = 6, ADDRESSES = 64 };
+enum { REQUEST_PGN = 59904, CLAIM_PGN = 60928, REPLY_PGN = 60672, ACKNOWLEDGMENT_PGN = 59392 };
+
+struct pair {
+    uint64_t mode, count, pgns[LIST];
+};
+
+/* `head`: the length above the 32 bits of the identifier. */
+struct frame {
+    uint64_t head, bytes;
+};
+
+struct queue {
+    uint64_t count;
+    struct frame frames[QUEUE];
+};
+
+struct place {
+    uint64_t port, name;
+};
+
+struct unit {
+    uint64_t claim, address, preferred, name;
+    struct pair pairs[PORTS][PORTS - 1];
+    struct queue queues[PORTS];
+    struct place table[PLACES];
+};
+
+_Static_assert(sizeof(struct unit) == 8 * DEORASAENG_RECORD_WORDS, "the published length");
+
+/* ---- queues */
+static bool join(struct queue *q, uint64_t head, uint64_t bytes)
+{
+    uint64_t n = q->count;
+    if (n == QUEUE)
+        return false;
+    q->frames[n].head = head;
+    q->frames[n].bytes = bytes;
+    q->count = n + 1;
+    return true;
+}
+
+/* The unit's own frame at every port; the ports where it is lost. */
+static uint64_t announce(struct unit *u, uint32_t id)
+{
+    uint64_t lost = 0;
+    for (int q = 0; q < PORTS; q++)
+        if (!join(&u->queues[q], id | 8ull << 32, u->name))
+            lost |= 1u << q;
+    return lost;
+}
+
+static uint32_t own_id(uint32_t address)
+{
+    return 0x18EEFF00 + address;
+}
+
+/* ---- lists */
+static uint64_t find(const uint64_t *list, uint64_t n, uint64_t x)
+{
+    uint64_t i = 0;
+    while (i < n && list[i] != x)
+        i++;
+    return i;
+}
+
+/* Rules 2, 3 and 5. */
+static void forward(struct unit *u, uint32_t from, uint32_t pgn, uint64_t head, uint64_t bytes, uint64_t *answer)
+{
+    uint64_t accepted = 0, lost = 0, compared = 0;
+    const struct pair *p = u->pairs[from];
+    for (uint32_t to = 0; to < PORTS; to++) {
+        if (to == from)
+            continue;
+        bool permitted = true;
+        if (p->mode != CLEARED) {
+            uint64_t i = find(p->pgns, p->count, pgn);
+            bool listed = i < p->count;
+            compared += i + listed;
+            permitted = listed == (p->mode == PASS);
+        }
+        p++;
+        if (!permitted)
+            continue;
+        if (join(&u->queues[to], head, bytes))
+            accepted |= 1u << to;
+        else
+            lost |= 1u << to;
+    }
+    answer[DEORASAENG_ACCEPTED] = accepted;
+    answer[DEORASAENG_LOST] = lost;
+    answer[DEORASAENG_COMPARED] = compared;
+}
+
+/* ---- addresses */
+static bool holds_address(const struct unit *u)
+{
+    return u->claim == CLAIMING || u->claim == CLAIMED;
+}
+
+/* Every address of a NAME but one is dropped. */
+static bool drop(struct place *table, uint64_t name, uint32_t keep)
+{
+    bool dropped = false;
+    for (uint32_t i = 0; i < PLACES; i++)
+        if (table[i].name == name && table[i].port && i != keep) {
+            table[i] = (struct place){0, 0};
+            dropped = true;
+        }
+    return dropped;
+}
+
+/* A claim; the identifier of the frame that the unit sends, or 0. */
+static uint32_t claim(struct unit *u, uint32_t port, uint32_t sa, uint64_t name, uint64_t *answer)
+{
+    if (name == u->name)
+        return 0;
+    bool dropped = drop(u->table, name, sa);
+    if (sa == NO_ADDRESS) {
+        answer[DEORASAENG_EVENT] = dropped ? DEORASAENG_WITHDREW : DEORASAENG_NO_EVENT;
+        return 0;
+    }
+    struct place *place = &u->table[sa];
+    if (holds_address(u) && sa == u->address) {
+        if (u->name < name) {
+            answer[DEORASAENG_EVENT] = DEORASAENG_DEFENDED;
+            return own_id(sa);
+        }
+        *place = (struct place){port, name};
+        u->claim = LOST;
+        u->address = NO_ADDRESS;
+        answer[DEORASAENG_EVENT] = DEORASAENG_DISPLACED;
+        return own_id(NO_ADDRESS);
+    }
+    if (!place->port) {
+        answer[DEORASAENG_EVENT] = DEORASAENG_RECORDED;
+    } else if (place->name == name) {
+        answer[DEORASAENG_EVENT] = DEORASAENG_REFRESHED;
+    } else if (name < place->name) {
+        answer[DEORASAENG_EVENT] = DEORASAENG_TOOK_OVER;
+        answer[DEORASAENG_OLD_NAME] = place->name;
+    } else {
+        answer[DEORASAENG_EVENT] = DEORASAENG_BEATEN;
+        return 0;
+    }
+    *place = (struct place){port, name};
+    return 0;
+}
+
+/* ---- frame and take */
+static uint64_t pack(const uint8_t *bytes, size_t len)
+{
+    uint64_t word = 0;
+    if (len == 8)
+        memcpy(&word, bytes, 8);
+    else
+        while (len > 0)
+            word = word << 8 | bytes[--len];
+    return word;
+}
+
+uint32_t c_frame(uint64_t *record, size_t record_len, uint32_t port, uint32_t id, const uint8_t *bytes, size_t len, uint64_t *answer,
+                 size_t answer_len)
+{
+    struct unit *u = (struct unit *)record;
+    uint32_t pf = id >> 16 & 255, ps = id >> 8 & 255, sa = id & 255, pgn = id >> 8 & (pf < 240 ? 0x3FF00 : 0x3FFFF);
+    if (port - 1 >= PORTS)
+        return 1;
+    if (record_len != DEORASAENG_RECORD_WORDS || answer_len != DEORASAENG_FRAME_ANSWER)
+        return 2;
+    if (id >> 29)
+        return 3;
+    if (len > 8)
+        return 4;
+    if (sa >= 254 && (sa == 255 || (pgn != REQUEST_PGN && !(pgn == CLAIM_PGN && ps == 255))))
+        return 5;
+    uint64_t word = pack(bytes, len);
+    bool consumed = pf < 240 && holds_address(u) && ps == u->address;
+    answer[DEORASAENG_CONSUMED] = consumed;
+    if (consumed)
+        answer[DEORASAENG_ACCEPTED] = answer[DEORASAENG_LOST] = answer[DEORASAENG_COMPARED] = 0;
+    else
+        forward(u, port - 1, pgn, id | (uint64_t)len << 32, word, answer);
+    answer[DEORASAENG_EVENT] = answer[DEORASAENG_OLD_NAME] = answer[DEORASAENG_OWN_LOST] = 0;
+    uint32_t own = 0;
+    if (pgn == CLAIM_PGN) {
+        if (ps == 255 && len == 8)
+            own = claim(u, port, sa, word, answer);
+    } else if (pgn == REQUEST_PGN) {
+        if (len == 3 && word == 0xEE00 && (consumed || ps == 255) && u->claim != UNSTARTED)
+            own = own_id(u->address);
+    }
+    if (own)
+        answer[DEORASAENG_OWN_LOST] = announce(u, own);
+    return 0;
+}
+
+uint32_t c_take(uint64_t *record, size_t record_len, uint32_t port, uint64_t *answer, size_t answer_len, uint8_t *bytes, size_t bytes_len)
+{
+    if (port - 1 >= PORTS)
+        return 1;
+    if (record_len != DEORASAENG_RECORD_WORDS || answer_len != DEORASAENG_TAKE_ANSWER || bytes_len != DEORASAENG_FRAME_BYTES)
+        return 2;
+    struct queue *q = &((struct unit *)record)->queues[port - 1];
+    uint64_t n = q->count;
+    if (n == 0) {
+        answer[DEORASAENG_GIVEN] = answer[DEORASAENG_ID] = answer[DEORASAENG_LENGTH] = 0;
+        return 0;
+    }
+    uint64_t first = 0, low = q->frames[0].head >> 26 & 7;
+    for (uint64_t i = 1; i < n; i++) {
+        uint64_t priority = q->frames[i].head >> 26 & 7;
+        if (priority < low) {
+            low = priority;
+            first = i;
+        }
+    }
+    uint64_t head = q->frames[first].head, word = q->frames[first].bytes;
+    for (uint64_t i = first + 1; i < n; i++)
+        q->frames[i - 1] = q->frames[i];
+    q->count = n - 1;
+    answer[DEORASAENG_GIVEN] = 1;
+    answer[DEORASAENG_ID] = (uint32_t)head;
+    answer[DEORASAENG_LENGTH] = head >> 32;
+    memcpy(bytes, &word, 8);
+    return 0;
+}
+
+/* ---- network messages */
+static uint32_t entry(const uint8_t *bytes)
+{
+    return bytes[0] | bytes[1] << 8 | bytes[2] << 16;
+}
+
+/* How many entries stand in n bytes from `bytes` on, which are the payload's last; 0 for a wrong body. */
+static size_t entries(const uint8_t *bytes, size_t n, bool eight)
+{
+    if (eight) {
+        bool filled = true;
+        for (size_t i = 3; i < n; i++)
+            filled &= bytes[i] == FILLING;
+        if (filled)
+            n = 3;
+    }
+    if (n % 3)
+        return 0;
+    for (size_t i = 0; i < n; i += 3) {
+        uint32_t pgn = entry(bytes + i);
+        if (pgn >> 18 || ((pgn & 0xF000) != 0xF000 && pgn & 0xFF))
+            return 0;
+    }
+    return n / 3;
+}
+
+/* The different PGNs among n entries, in order; LIST + 1 where they are more than a list holds. */
+static uint64_t different(const uint8_t *bytes, size_t n, uint64_t *pgns)
+{
+    uint64_t held = 0;
+    for (size_t i = 0; i < n; i++) {
+        uint64_t x = entry(bytes + 3 * i);
+        if (find(pgns, held, x) < held)
+            continue;
+        if (held == LIST)
+            return LIST + 1;
+        pgns[held++] = x;
+    }
+    return held;
+}
+
+static uint32_t add(struct pair *pairs, int named, const uint8_t *bytes, size_t n)
+{
+    uint64_t pgns[LIST];
+    uint32_t fresh[PORTS - 1];
+    for (int k = 0; k < named; k++)
+        if (pairs[k].mode == CLEARED)
+            return 15;
+    uint64_t m = different(bytes, n, pgns);
+    if (m > LIST)
+        return 16;
+    for (int k = 0; k < named; k++) {
+        uint64_t count = pairs[k].count;
+        fresh[k] = 0;
+        for (uint64_t i = 0; i < m; i++)
+            if (find(pairs[k].pgns, pairs[k].count, pgns[i]) == pairs[k].count) {
+                fresh[k] |= 1u << i;
+                count++;
+            }
+        if (count > LIST)
+            return 16;
+    }
+    for (int k = 0; k < named; k++)
+        for (uint32_t left = fresh[k]; left; left &= left - 1)
+            pairs[k].pgns[pairs[k].count++] = pgns[__builtin_ctz(left)];
+    return 0;
+}
+
+static uint32_t delete(struct pair *pairs, int named, const uint8_t *bytes, size_t n)
+{
+    uint32_t gone[PORTS - 1] = {0};
+    for (int k = 0; k < named; k++)
+        if (pairs[k].mode == CLEARED)
+            return 15;
+    for (int k = 0; k < named; k++)
+        for (size_t i = 0; i < n; i++) {
+            uint64_t at = find(pairs[k].pgns, pairs[k].count, entry(bytes + 3 * i));
+            if (at == pairs[k].count)
+                return 17;
+            gone[k] |= 1u << at;
+        }
+    for (int k = 0; k < named; k++) {
+        uint64_t kept = 0;
+        for (uint64_t i = 0; i < pairs[k].count; i++)
+            if (!(gone[k] >> i & 1))
+                pairs[k].pgns[kept++] = pairs[k].pgns[i];
+        pairs[k].count = kept;
+    }
+    return 0;
+}
+
+static uint32_t create(struct pair *pairs, int named, uint64_t mode, const uint8_t *bytes, size_t n)
+{
+    uint64_t pgns[LIST];
+    for (int k = 0; k < named; k++)
+        if (pairs[k].mode != CLEARED)
+            return 14;
+    uint64_t m = different(bytes, n, pgns);
+    if (m > LIST)
+        return 16;
+    for (int k = 0; k < named; k++) {
+        pairs[k].mode = mode;
+        pairs[k].count = m;
+        memcpy(pairs[k].pgns, pgns, 8 * m);
+    }
+    return 0;
+}
+
+/* Writes a list's reply; its length without filling. */
+static size_t reply_list(const struct pair *p, uint8_t named, uint8_t *reply)
+{
+    uint64_t n = p->mode == CLEARED ? 0 : p->count;
+    reply[0] = 1;
+    reply[1] = named;
+    reply[2] = p->mode == PASS;
+    for (uint64_t i = 0; i < n; i++) {
+        uint32_t pgn = p->pgns[i];
+        reply[3 + 3 * i] = pgn;
+        reply[4 + 3 * i] = pgn >> 8;
+        reply[5 + 3 * i] = pgn >> 16;
+    }
+    return 3 + 3 * n;
+}
+
+/* Writes an address list's reply; its length without filling. */
+static size_t reply_addresses(const struct unit *u, uint32_t port, uint8_t *reply)
+{
+    size_t n = 2;
+    reply[0] = 65;
+    reply[1] = port;
+    for (uint32_t i = 0; i < PLACES; i++)
+        if (u->table[i].port == port && i != u->address)
+            reply[n++] = i;
+    return n;
+}
+
+/* 9 to 11: function, ports, right. */
+static uint32_t judge(uint32_t port, uint8_t function, uint32_t from, uint32_t to)
+{
+    switch (function) {
+    case ADDRESSES:
+        return to - 1 >= PORTS ? 10 : port != 1 && port != to ? 11 : 0;
+    case REQUEST: case ADD: case DELETE: case CLEAR: case CREATE:
+        if (from - 1 >= PORTS || from == to || (to - 1 >= PORTS && (to != ALL || function == REQUEST)))
+            return 10;
+        return port != 1 && port != from && port != to ? 11 : 0;
+    default:
+        return 9;
+    }
+}
+
+/* 12 to 17, and a command on pairs where none applies. */
+static uint32_t command(struct pair *pairs, int named, const uint8_t *payload, size_t n)
+{
+    size_t start = payload[0] == CREATE ? 3 : 2, m;
+    if (payload[0] == CLEAR) {
+        if (n != 8)
+            return 12;
+        for (int k = 0; k < named; k++)
+            pairs[k].mode = CLEARED;
+        return 0;
+    }
+    m = entries(payload + start, n - start, n == 8);
+    if (m == 0)
+        return 12;
+    if (payload[0] == ADD)
+        return add(pairs, named, payload + start, m);
+    if (payload[0] == DELETE)
+        return delete(pairs, named, payload + start, m);
+    return payload[2] > 1 ? 13 : create(pairs, named, BLOCK + payload[2], payload + start, m);
+}
+
+/* 12 to 17, and what a message asks for where none applies; `length` is that of a reply. */
+static uint32_t perform(struct unit *u, uint32_t from, uint32_t to, const uint8_t *payload, size_t n, uint8_t *reply, size_t *length)
+{
+    if (payload[0] == ADDRESSES) {
+        if (n != 8)
+            return 12;
+        *length = reply_addresses(u, to, reply);
+        return 0;
+    }
+    struct pair *pairs = u->pairs[from - 1];
+    if (to == ALL)
+        return command(pairs, PORTS - 1, payload, n);
+    pairs += to < from ? to - 1 : to - 2;
+    if (payload[0] != REQUEST)
+        return command(pairs, 1, payload, n);
+    if (n != 8)
+        return 12;
+    *length = reply_list(pairs, payload[1], reply);
+    return 0;
+}
+
+uint32_t c_message(uint64_t *record, size_t record_len, uint32_t port, uint32_t requester, const uint8_t *payload, size_t payload_len,
+                   uint8_t *reply, size_t reply_len, uint64_t *answer, size_t answer_len)
+{
+    struct unit *u = (struct unit *)record;
+    if (answer_len == DEORASAENG_MESSAGE_ANSWER)
+        answer[DEORASAENG_PGN] = answer[DEORASAENG_WRITTEN] = 0;
+    if (port - 1 >= PORTS)
+        return 1;
+    if (record_len != DEORASAENG_RECORD_WORDS || reply_len < LONGEST || answer_len != DEORASAENG_MESSAGE_ANSWER)
+        return 2;
+    if (u->claim != CLAIMED)
+        return 6;
+    if (payload_len < 8 || payload_len > LONGEST)
+        return 7;
+    if (requester >= NO_ADDRESS)
+        return 8;
+    uint8_t function = payload[0];
+    uint32_t from = payload[1] >> 4, to = payload[1] & 15, number = judge(port, function, from, to);
+    size_t length = 0;
+    if (!number)
+        number = perform(u, from, to, payload, payload_len, reply, &length);
+    if (length) {
+        while (length < 8)
+            reply[length++] = FILLING;
+        answer[DEORASAENG_PGN] = REPLY_PGN;
+        answer[DEORASAENG_WRITTEN] = length;
+        return 0;
+    }
+    const uint8_t bytes[8] = {number == 11 ? 2 : number != 0, function, FILLING, FILLING, requester, 0x00, 0xED, 0x00};
+    memcpy(reply, bytes, 8);
+    answer[DEORASAENG_PGN] = ACKNOWLEDGMENT_PGN;
+    answer[DEORASAENG_WRITTEN] = 8;
+    return number;
+}
+
+/* ---- power-on, Start, Quiet */
+uint32_t c_power_on(uint64_t *record, size_t record_len, uint64_t name, uint32_t preferred)
+{
+    if (record_len != DEORASAENG_RECORD_WORDS)
+        return 2;
+    struct unit *u = (struct unit *)record;
+    memset(u, 0, sizeof *u);
+    u->address = NO_ADDRESS;
+    u->preferred = preferred;
+    u->name = name;
+    return 0;
+}
+
+uint32_t c_start(uint64_t *record, size_t record_len, uint64_t *answer, size_t answer_len)
+{
+    struct unit *u = (struct unit *)record;
+    if (record_len != DEORASAENG_RECORD_WORDS || answer_len != DEORASAENG_START_ANSWER)
+        return 2;
+    if (u->claim != UNSTARTED)
+        return 18;
+    if (u->preferred >= NO_ADDRESS)
+        return 8;
+    struct place *holder = &u->table[u->preferred];
+    if (holder->port && holder->name < u->name) {
+        u->claim = LOST;
+        u->address = NO_ADDRESS;
+    } else {
+        *holder = (struct place){0, 0};
+        u->claim = CLAIMING;
+        u->address = u->preferred;
+    }
+    answer[0] = announce(u, own_id(u->address));
+    return 0;
+}
+
+uint32_t c_quiet(uint64_t *record, size_t record_len)
+{
+    struct unit *u = (struct unit *)record;
+    if (record_len != DEORASAENG_RECORD_WORDS)
+        return 2;
+    if (u->claim != CLAIMING)
+        return 18;
+    u->claim = CLAIMED;
+    return 0;
+}

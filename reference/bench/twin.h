@@ -1,0 +1,18 @@
+/* The three sides: the proved library, and its twins by hand in C (twin.c) and in Rust (twin.rs), whose functions have the prototypes of the C interface. */
+#ifndef TWIN_H
+#define TWIN_H
+
+#include "../../include/deorasaeng.h"
+
+#define FUNCTIONS(side)                         \
+    __typeof__(deorasaeng_power_on) side##_power_on; \
+    __typeof__(deorasaeng_frame) side##_frame;       \
+    __typeof__(deorasaeng_take) side##_take;         \
+    __typeof__(deorasaeng_message) side##_message;   \
+    __typeof__(deorasaeng_start) side##_start;       \
+    __typeof__(deorasaeng_quiet) side##_quiet
+
+FUNCTIONS(c);
+FUNCTIONS(rust);
+
+#endif

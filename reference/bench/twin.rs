@@ -1,0 +1,646 @@
+//! The unit by hand in Rust, over the same words: safe code on slices, with the C functions at the edge.
+
+use std::slice;
+
+const PORTS: usize = 4;
+const LIST: usize = 32;
+const QUEUE: usize = 32;
+const PLACES: usize = 254;
+const RECORD: usize = 1180;
+const LONGEST: usize = 1785;
+const NO_ADDRESS: u64 = 254;
+const ALL: usize = 15;
+const FILLING: u8 = 0xFF;
+
+const UNSTARTED: u64 = 0;
+const CLAIMING: u64 = 1;
+const CLAIMED: u64 = 2;
+const LOST: u64 = 3;
+
+const CLEARED: u64 = 0;
+const BLOCK: u64 = 1;
+const PASS: u64 = 2;
+
+const REQUEST_PGN: u32 = 59904;
+const CLAIM_PGN: u32 = 60928;
+const REPLY_PGN: u64 = 60672;
+const ACKNOWLEDGMENT_PGN: u64 = 59392;
+
+const REQUEST: u8 = 0;
+const ADD: u8 = 2;
+const DELETE: u8 = 3;
+const CLEAR: u8 = 4;
+const CREATE: u8 = 6;
+const ADDRESSES: u8 = 64;
+
+/// The mode, the count, the PGNs.
+type Pair = [u64; 2 + LIST];
+/// The count, and two words for each frame: the identifier with the length above it, the bytes.
+type Queue = [u64; 1 + 2 * QUEUE];
+/// The arrival port, the NAME.
+type Place = [u64; 2];
+
+/// The record's regions.
+struct Unit<'a> {
+    own: &'a mut [u64; 4],
+    pairs: &'a mut [Pair; PORTS * (PORTS - 1)],
+    queues: &'a mut [Queue; PORTS],
+    table: &'a mut [Place; PLACES],
+}
+
+enum Event {
+    Nothing,
+    Withdrew,
+    Defended,
+    Displaced,
+    Recorded,
+    Refreshed,
+    TookOver(u64),
+    Beaten,
+}
+
+struct FrameAnswer {
+    consumed: bool,
+    accepted: u64,
+    lost: u64,
+    event: Event,
+    own_lost: u64,
+    compared: u64,
+}
+
+struct Taken {
+    id: u32,
+    len: u32,
+    bytes: u64,
+}
+
+// ---- queues
+
+fn join(queue: &mut Queue, head: u64, bytes: u64) -> bool {
+    let [count, frames @ ..] = queue;
+    let n = *count as usize;
+    if n >= QUEUE {
+        return false;
+    }
+    frames[2 * n] = head;
+    frames[2 * n + 1] = bytes;
+    *count += 1;
+    true
+}
+
+fn take(queue: &mut Queue) -> Option<Taken> {
+    let [count, frames @ ..] = queue;
+    let waiting = &mut frames.as_chunks_mut::<2>().0[..*count as usize];
+    let first = (0..waiting.len()).min_by_key(|&i| waiting[i][0] >> 26 & 7)?;
+    let [head, bytes] = waiting[first];
+    waiting.copy_within(first + 1.., first);
+    *count -= 1;
+    Some(Taken { id: head as u32, len: (head >> 32) as u32, bytes })
+}
+
+// ---- lists
+
+fn entries_of(pair: &Pair) -> &[u64] {
+    match pair[0] {
+        CLEARED => &[],
+        _ => &pair[2..2 + pair[1] as usize],
+    }
+}
+
+/// Whether a pair permits a PGN, and the entries compared.
+fn ask(pair: &Pair, pgn: u32) -> (bool, u64) {
+    if pair[0] == CLEARED {
+        return (true, 0);
+    }
+    let entries = entries_of(pair);
+    match entries.iter().position(|&x| x == u64::from(pgn)) {
+        Some(i) => (pair[0] == PASS, i as u64 + 1),
+        None => (pair[0] == BLOCK, entries.len() as u64),
+    }
+}
+
+fn entries_from(body: &[u8]) -> impl Iterator<Item = u32> + '_ {
+    body.chunks_exact(3).map(|b| u32::from_le_bytes([b[0], b[1], b[2], 0]))
+}
+
+fn is_pgn(number: u32) -> bool {
+    number < 1 << 18 && (number >> 8 & 0xFF >= 240 || number & 0xFF == 0)
+}
+
+/// The bytes that are entries, or 12.
+fn entries_in(payload: &[u8], start: usize) -> Result<&[u8], u32> {
+    let mut body = &payload[start..];
+    if payload.len() == 8 && body[3..].iter().all(|&b| b == FILLING) {
+        body = &body[..3];
+    }
+    if body.len() % 3 == 0 && entries_from(body).all(is_pgn) {
+        Ok(body)
+    } else {
+        Err(12)
+    }
+}
+
+/// The different PGNs of the entries, in order, and how many; 16 where they are more than a list holds.
+fn different(body: &[u8]) -> Result<([u64; LIST], usize), u32> {
+    let mut pgns = [0; LIST];
+    let mut held = 0;
+    for x in entries_from(body).map(u64::from) {
+        if !pgns[..held].contains(&x) {
+            *pgns.get_mut(held).ok_or(16u32)? = x;
+            held += 1;
+        }
+    }
+    Ok((pgns, held))
+}
+
+fn add(pairs: &mut [Pair], body: &[u8]) -> Result<(), u32> {
+    if pairs.iter().any(|p| p[0] == CLEARED) {
+        return Err(15);
+    }
+    let (pgns, held) = different(body)?;
+    let pgns = &pgns[..held];
+    let mut fresh = [0u32; PORTS - 1];
+    for (pair, fresh) in pairs.iter().zip(&mut fresh) {
+        let entries = entries_of(pair);
+        for (i, x) in pgns.iter().enumerate() {
+            if !entries.contains(x) {
+                *fresh |= 1 << i;
+            }
+        }
+        if entries.len() + fresh.count_ones() as usize > LIST {
+            return Err(16);
+        }
+    }
+    for (pair, fresh) in pairs.iter_mut().zip(fresh) {
+        for (i, &x) in pgns.iter().enumerate() {
+            if fresh >> i & 1 == 1 {
+                pair[2 + pair[1] as usize] = x;
+                pair[1] += 1;
+            }
+        }
+    }
+    Ok(())
+}
+
+fn delete(pairs: &mut [Pair], body: &[u8]) -> Result<(), u32> {
+    if pairs.iter().any(|p| p[0] == CLEARED) {
+        return Err(15);
+    }
+    let mut gone = [0u32; PORTS - 1];
+    for (pair, gone) in pairs.iter().zip(&mut gone) {
+        let entries = entries_of(pair);
+        for x in entries_from(body).map(u64::from) {
+            *gone |= 1 << entries.iter().position(|&y| y == x).ok_or(17u32)?;
+        }
+    }
+    for (pair, gone) in pairs.iter_mut().zip(gone) {
+        let [_, count, list @ ..] = pair;
+        let mut kept = 0;
+        for i in 0..*count as usize {
+            if gone >> i & 1 == 0 {
+                list[kept] = list[i];
+                kept += 1;
+            }
+        }
+        *count = kept as u64;
+    }
+    Ok(())
+}
+
+fn create(pairs: &mut [Pair], mode: u8, body: &[u8]) -> Result<(), u32> {
+    if mode > 1 {
+        return Err(13);
+    }
+    if pairs.iter().any(|p| p[0] != CLEARED) {
+        return Err(14);
+    }
+    let (pgns, held) = different(body)?;
+    for pair in pairs {
+        pair[0] = BLOCK + u64::from(mode);
+        pair[1] = held as u64;
+        pair[2..2 + held].copy_from_slice(&pgns[..held]);
+    }
+    Ok(())
+}
+
+fn has_eight_bytes(payload: &[u8]) -> Result<(), u32> {
+    if payload.len() == 8 {
+        Ok(())
+    } else {
+        Err(12)
+    }
+}
+
+// ---- addresses
+
+/// Every address of a NAME but one is dropped; whether there was one.
+fn drop_others(table: &mut [Place; PLACES], name: u64, keep: usize) -> bool {
+    let mut dropped = false;
+    for (i, place) in table.iter_mut().enumerate() {
+        if place[1] == name && place[0] != 0 && i != keep {
+            *place = [0, 0];
+            dropped = true;
+        }
+    }
+    dropped
+}
+
+fn contest(place: &mut Place, port: u64, name: u64) -> Event {
+    let [holder_port, holder] = *place;
+    let event = match () {
+        _ if holder_port == 0 => Event::Recorded,
+        _ if name == holder => Event::Refreshed,
+        _ if name < holder => Event::TookOver(holder),
+        _ => return Event::Beaten,
+    };
+    *place = [port, name];
+    event
+}
+
+fn own_id(address: u64) -> u32 {
+    0x18EEFF00 + address as u32
+}
+
+fn pack(bytes: &[u8]) -> u64 {
+    match bytes.try_into() {
+        Ok(eight) => u64::from_le_bytes(eight),
+        Err(_) => bytes.iter().rev().fold(0, |word, &b| word << 8 | u64::from(b)),
+    }
+}
+
+/// The place among a port's three pairs of the one to another port.
+fn pair_of(from: usize, to: usize) -> usize {
+    if to < from {
+        to
+    } else {
+        to - 1
+    }
+}
+
+impl<'a> Unit<'a> {
+    fn over(words: &'a mut [u64]) -> Option<Unit<'a>> {
+        let words: &mut [u64; RECORD] = words.try_into().ok()?;
+        let (own, rest) = words.split_first_chunk_mut()?;
+        let (pairs, rest) = rest.split_at_mut(34 * 12);
+        let (queues, table) = rest.split_at_mut(65 * 4);
+        Some(Unit {
+            own,
+            pairs: pairs.as_chunks_mut().0.try_into().ok()?,
+            queues: queues.as_chunks_mut().0.try_into().ok()?,
+            table: table.as_chunks_mut().0.try_into().ok()?,
+        })
+    }
+
+    fn holds_address(&self) -> bool {
+        self.own[0] == CLAIMING || self.own[0] == CLAIMED
+    }
+
+    fn is_own(&self, address: u64) -> bool {
+        self.holds_address() && address == self.own[1]
+    }
+
+    /// The unit's own frame at every port; the ports where it is lost.
+    fn announce(&mut self, id: u32) -> u64 {
+        let name = self.own[3];
+        let mut lost = 0;
+        for (q, queue) in self.queues.iter_mut().enumerate() {
+            if !join(queue, u64::from(id) | 8 << 32, name) {
+                lost |= 1 << q;
+            }
+        }
+        lost
+    }
+
+    /// A claim: its event, and the identifier of the frame that the unit sends.
+    fn claim(&mut self, port: u64, sa: usize, name: u64) -> (Event, Option<u32>) {
+        if name == self.own[3] {
+            return (Event::Nothing, None);
+        }
+        let dropped = drop_others(self.table, name, sa);
+        if sa as u64 == NO_ADDRESS {
+            return (if dropped { Event::Withdrew } else { Event::Nothing }, None);
+        }
+        if !self.is_own(sa as u64) {
+            return (contest(&mut self.table[sa], port, name), None);
+        }
+        if self.own[3] < name {
+            return (Event::Defended, Some(own_id(sa as u64)));
+        }
+        self.table[sa] = [port, name];
+        self.own[0] = LOST;
+        self.own[1] = NO_ADDRESS;
+        (Event::Displaced, Some(own_id(NO_ADDRESS)))
+    }
+
+    /// Rules 2, 3 and 5: accepted, lost, compared.
+    fn forward(&mut self, from: usize, pgn: u32, head: u64, bytes: u64) -> (u64, u64, u64) {
+        let (mut accepted, mut lost, mut total) = (0, 0, 0);
+        for to in (0..PORTS).filter(|&to| to != from) {
+            let (permitted, compared) = ask(&self.pairs[3 * from + pair_of(from, to)], pgn);
+            total += compared;
+            if !permitted {
+                continue;
+            }
+            if join(&mut self.queues[to], head, bytes) {
+                accepted |= 1 << to;
+            } else {
+                lost |= 1 << to;
+            }
+        }
+        (accepted, lost, total)
+    }
+
+    fn frame(&mut self, port: usize, id: u32, bytes: &[u8]) -> Result<FrameAnswer, u32> {
+        let (pf, ps, sa) = (id >> 16 & 255, id >> 8 & 255, id & 255);
+        let pgn = id >> 8 & if pf < 240 { 0x3FF00 } else { 0x3FFFF };
+        if id >> 29 != 0 {
+            return Err(3);
+        }
+        if bytes.len() > 8 {
+            return Err(4);
+        }
+        if sa == 255 || sa == 254 && pgn != REQUEST_PGN && !(pgn == CLAIM_PGN && ps == 255) {
+            return Err(5);
+        }
+        let word = pack(bytes);
+        let consumed = pf < 240 && self.is_own(u64::from(ps));
+        let head = u64::from(id) | (bytes.len() as u64) << 32;
+        let (accepted, lost, compared) = if consumed { (0, 0, 0) } else { self.forward(port - 1, pgn, head, word) };
+        let (event, own) = if pgn == CLAIM_PGN && ps == 255 && bytes.len() == 8 {
+            self.claim(port as u64, sa as usize, word)
+        } else if pgn == REQUEST_PGN && bytes == [0x00, 0xEE, 0x00] && (consumed || ps == 255) && self.own[0] != UNSTARTED {
+            (Event::Nothing, Some(own_id(self.own[1])))
+        } else {
+            (Event::Nothing, None)
+        };
+        let own_lost = own.map_or(0, |id| self.announce(id));
+        Ok(FrameAnswer { consumed, accepted, lost, event, own_lost, compared })
+    }
+
+    /// A command on pairs, where `to` may be all.
+    fn command(&mut self, from: usize, to: usize, payload: &[u8]) -> Result<(), u32> {
+        let first = 3 * (from - 1);
+        let pairs = match to {
+            ALL => &mut self.pairs[first..first + 3],
+            _ => slice::from_mut(&mut self.pairs[first + pair_of(from - 1, to - 1)]),
+        };
+        match payload[0] {
+            ADD => add(pairs, entries_in(payload, 2)?),
+            DELETE => delete(pairs, entries_in(payload, 2)?),
+            CREATE => create(pairs, payload[2], entries_in(payload, 3)?),
+            _ => {
+                has_eight_bytes(payload)?;
+                pairs.iter_mut().for_each(|p| p[0] = CLEARED);
+                Ok(())
+            }
+        }
+    }
+
+    /// Writes the reply that reports a list; its length without filling.
+    fn reply_list(&self, from: usize, to: usize, pair: u8, reply: &mut [u8]) -> usize {
+        let block = &self.pairs[3 * (from - 1) + pair_of(from - 1, to - 1)];
+        let entries = entries_of(block);
+        reply[..3].copy_from_slice(&[1, pair, u8::from(block[0] == PASS)]);
+        for (out, pgn) in reply[3..].chunks_exact_mut(3).zip(entries) {
+            out.copy_from_slice(&pgn.to_le_bytes()[..3]);
+        }
+        3 + 3 * entries.len()
+    }
+
+    /// Writes the reply that reports a port's addresses; its length without filling.
+    fn reply_addresses(&self, port: usize, reply: &mut [u8]) -> usize {
+        reply[0] = 65;
+        reply[1] = port as u8;
+        let mut n = 2;
+        for (i, place) in self.table.iter().enumerate() {
+            if place[0] == port as u64 && i as u64 != self.own[1] {
+                reply[n] = i as u8;
+                n += 1;
+            }
+        }
+        n
+    }
+
+    /// 9 to 17, and what the payload asks for where none applies: a reply's length, or nothing where an acknowledgment is due.
+    fn perform(&mut self, port: usize, payload: &[u8], reply: &mut [u8]) -> Result<Option<usize>, u32> {
+        let (from, to) = (usize::from(payload[1] >> 4), usize::from(payload[1] & 15));
+        let is_port = |p: usize| (1..=PORTS).contains(&p);
+        let function = payload[0];
+        match function {
+            ADDRESSES if !is_port(to) => Err(10),
+            ADDRESSES if port != 1 && port != to => Err(11),
+            ADDRESSES => has_eight_bytes(payload).map(|()| Some(self.reply_addresses(to, reply))),
+            REQUEST | ADD | DELETE | CLEAR | CREATE => {
+                if !is_port(from) || from == to || !(is_port(to) || to == ALL && function != REQUEST) {
+                    return Err(10);
+                }
+                if port != 1 && port != from && port != to {
+                    return Err(11);
+                }
+                if function == REQUEST {
+                    return has_eight_bytes(payload).map(|()| Some(self.reply_list(from, to, payload[1], reply)));
+                }
+                self.command(from, to, payload).map(|()| None)
+            }
+            _ => Err(9),
+        }
+    }
+
+    /// The number of a message that is not refused with 1, 2, 6, 7 or 8, the PGN and the length of what was written.
+    fn message(&mut self, port: usize, requester: u8, payload: &[u8], reply: &mut [u8]) -> (u32, u64, usize) {
+        let number = match self.perform(port, payload, reply) {
+            Ok(Some(mut n)) => {
+                if n < 8 {
+                    reply[n..8].fill(FILLING);
+                    n = 8;
+                }
+                return (0, REPLY_PGN, n);
+            }
+            Ok(None) => 0,
+            Err(number) => number,
+        };
+        let control = match number {
+            0 => 0,
+            11 => 2,
+            _ => 1,
+        };
+        reply[..8].copy_from_slice(&[control, payload[0], FILLING, FILLING, requester, 0x00, 0xED, 0x00]);
+        (number, ACKNOWLEDGMENT_PGN, 8)
+    }
+
+    /// The ports where the unit's own frame was lost.
+    fn start(&mut self) -> Result<u64, u32> {
+        if self.own[0] != UNSTARTED {
+            return Err(18);
+        }
+        let preferred = self.own[2];
+        if preferred >= NO_ADDRESS {
+            return Err(8);
+        }
+        let place = &mut self.table[preferred as usize];
+        if place[0] != 0 && place[1] < self.own[3] {
+            self.own[0] = LOST;
+            self.own[1] = NO_ADDRESS;
+        } else {
+            *place = [0, 0];
+            self.own[0] = CLAIMING;
+            self.own[1] = preferred;
+        }
+        Ok(self.announce(own_id(self.own[1])))
+    }
+}
+
+fn event_words(event: Event) -> (u64, u64) {
+    match event {
+        Event::Nothing => (0, 0),
+        Event::Withdrew => (1, 0),
+        Event::Defended => (2, 0),
+        Event::Displaced => (3, 0),
+        Event::Recorded => (4, 0),
+        Event::Refreshed => (5, 0),
+        Event::TookOver(old) => (6, old),
+        Event::Beaten => (7, 0),
+    }
+}
+
+/// 1, then 2.
+fn lent<'a>(words: &'a mut [u64], port: u32, good: bool) -> Result<Unit<'a>, u32> {
+    if !(1..=PORTS as u32).contains(&port) {
+        return Err(1);
+    }
+    match Unit::over(words) {
+        Some(unit) if good => Ok(unit),
+        _ => Err(2),
+    }
+}
+
+fn frame(words: &mut [u64], port: u32, id: u32, bytes: &[u8], answer: &mut [u64]) -> Result<(), u32> {
+    let mut unit = lent(words, port, answer.len() == 7)?;
+    let a = unit.frame(port as usize, id, bytes)?;
+    let (event, old_name) = event_words(a.event);
+    answer.copy_from_slice(&[u64::from(a.consumed), a.accepted, a.lost, event, old_name, a.own_lost, a.compared]);
+    Ok(())
+}
+
+fn take_out(words: &mut [u64], port: u32, answer: &mut [u64], bytes: &mut [u8]) -> Result<(), u32> {
+    let unit = lent(words, port, answer.len() == 3 && bytes.len() == 8)?;
+    match take(&mut unit.queues[port as usize - 1]) {
+        Some(t) => {
+            answer.copy_from_slice(&[1, u64::from(t.id), u64::from(t.len)]);
+            bytes.copy_from_slice(&t.bytes.to_le_bytes());
+        }
+        None => answer.fill(0),
+    }
+    Ok(())
+}
+
+fn message(words: &mut [u64], port: u32, requester: u32, payload: &[u8], reply: &mut [u8], answer: &mut [u64]) -> Result<(), u32> {
+    let two: Result<&mut [u64; 2], _> = answer.try_into();
+    let mut unit = lent(words, port, two.is_ok() && reply.len() >= LONGEST);
+    if let Ok(u) = &unit {
+        if u.own[0] != CLAIMED {
+            unit = Err(6);
+        } else if !(8..=LONGEST).contains(&payload.len()) {
+            unit = Err(7);
+        } else if u64::from(requester) >= NO_ADDRESS {
+            unit = Err(8);
+        }
+    }
+    let (number, pgn, length) = match unit {
+        Ok(mut u) => u.message(port as usize, requester as u8, payload, reply),
+        Err(number) => (number, 0, 0),
+    };
+    if let Ok(answer) = two {
+        *answer = [pgn, length as u64];
+    }
+    if number == 0 {
+        Ok(())
+    } else {
+        Err(number)
+    }
+}
+
+fn number(done: Result<(), u32>) -> u32 {
+    done.err().unwrap_or(0)
+}
+
+// ---- the edge: C hands in pointers with lengths
+
+#[no_mangle]
+pub unsafe extern "C" fn rust_power_on(record: *mut u64, record_len: usize, name: u64, preferred: u32) -> u32 {
+    let words = slice::from_raw_parts_mut(record, record_len);
+    if words.len() != RECORD {
+        return 2;
+    }
+    words.fill(0);
+    words[..4].copy_from_slice(&[UNSTARTED, NO_ADDRESS, u64::from(preferred), name]);
+    0
+}
+
+#[no_mangle]
+pub unsafe extern "C" fn rust_frame(
+    record: *mut u64,
+    record_len: usize,
+    port: u32,
+    id: u32,
+    bytes: *const u8,
+    len: usize,
+    answer: *mut u64,
+    answer_len: usize,
+) -> u32 {
+    let words = slice::from_raw_parts_mut(record, record_len);
+    let answer = slice::from_raw_parts_mut(answer, answer_len);
+    number(frame(words, port, id, slice::from_raw_parts(bytes, len), answer))
+}
+
+#[no_mangle]
+pub unsafe extern "C" fn rust_take(
+    record: *mut u64,
+    record_len: usize,
+    port: u32,
+    answer: *mut u64,
+    answer_len: usize,
+    bytes: *mut u8,
+    bytes_len: usize,
+) -> u32 {
+    let words = slice::from_raw_parts_mut(record, record_len);
+    let answer = slice::from_raw_parts_mut(answer, answer_len);
+    number(take_out(words, port, answer, slice::from_raw_parts_mut(bytes, bytes_len)))
+}
+
+#[no_mangle]
+pub unsafe extern "C" fn rust_message(
+    record: *mut u64,
+    record_len: usize,
+    port: u32,
+    requester: u32,
+    payload: *const u8,
+    payload_len: usize,
+    reply: *mut u8,
+    reply_len: usize,
+    answer: *mut u64,
+    answer_len: usize,
+) -> u32 {
+    let words = slice::from_raw_parts_mut(record, record_len);
+    let payload = slice::from_raw_parts(payload, payload_len);
+    let reply = slice::from_raw_parts_mut(reply, reply_len);
+    number(message(words, port, requester, payload, reply, slice::from_raw_parts_mut(answer, answer_len)))
+}
+
+#[no_mangle]
+pub unsafe extern "C" fn rust_start(record: *mut u64, record_len: usize, answer: *mut u64, answer_len: usize) -> u32 {
+    let words = slice::from_raw_parts_mut(record, record_len);
+    let answer = slice::from_raw_parts_mut(answer, answer_len);
+    let (Some(mut unit), [lost]) = (Unit::over(words), answer) else { return 2 };
+    number(unit.start().map(|ports| *lost = ports))
+}
+
+#[no_mangle]
+pub unsafe extern "C" fn rust_quiet(record: *mut u64, record_len: usize) -> u32 {
+    let Some(unit) = Unit::over(slice::from_raw_parts_mut(record, record_len)) else { return 2 };
+    if unit.own[0] != CLAIMING {
+        return 18;
+    }
+    unit.own[0] = CLAIMED;
+    0
+}
