@@ -1,6 +1,6 @@
 -- A frame and Start as whole calls: the forwarding, what is acted on and the unit's own frame, put together. Assumes nothing.
 use mathlib.Core.Path.{_≡_, refl, sym, ap, _∙_}
-use mathlib.Core.Bool.{true, false}
+use mathlib.Core.Bool.{Bool, true, false, true≢false}
 use mathlib.Core.List.{List, [], _∷_, _++_}
 use Prim.Native.Nat.{ℕ, _+_, _-_, _≤_, _<_}
 use native.Mathlib.Omega.{arith}
@@ -27,7 +27,7 @@ use Rattle.forwarding.specs.Forwarding.{verdict, sentIf, losesOwn}
 use Rattle.claims.specs.Claims.{Acted, frameActed, started}
 use Rattle.forwarding.specs.Steps.{forwardedTo, sharesTo, Forwarding, announcedTo, unsentTo, Announcing}
 use Rattle.claims.specs.Steps.{Acting}
-use Rattle.bridge.specs.Steps.{Responding, Passing}
+use Rattle.bridge.specs.Steps.{Sharing, Responding, Passing}
 use Rattle.unit.proofs.Ports.{each-at, each-same, each-twice, mask-same, mask-none, total-none}
 use Rattle.record.proofs.Regions.{rows-four}
 use Rattle.bridge.proofs.Answers.{call-refused, call-done}
@@ -105,6 +105,21 @@ module _ {words after : List ℕ} (port : ℕ) (f : Frame) (r : Response) where
           ((rw rest-still at (R .state))
           ∙ rw forwarded (ap (λ rows. record { rest = done .rest; rows = rows }) rows-are));
     }
+
+-- ---- a frame that is not refused: for the unit or for others, as `consumed` says
+pub kept-still : {words : List ℕ} {port : ℕ} {b : Bool} {f : Frame} → b ≡ true → Sharing 4 words words port b f (record { accepted = 0; lost = 0; compared = 0 })
+kept-still h = record { kept = λ _. (refl, refl); sent = λ g. absurd (true≢false (sym h ∙ g)) }
+
+pub shared : {words mid : List ℕ} {port pgn : ℕ} {b : Bool} {f : Frame} {s : Share} → b ≡ false → pgn ≡ pgnOf (f .id) → Forwarding 4 words mid (port - 1) pgn f s → Sharing 4 words mid port b f s
+shared h g F = record { kept = λ k. absurd (true≢false (sym k ∙ h)); sent = λ _. rw g at F }
+
+pub passed : {words mid after : List ℕ} (port : ℕ) (f : Frame) (b : Bool) (s : Share) (r : Response) → b ≡ consumes (modelOf 4 words .rest .own) (f .id) → Sharing 4 words mid port b f s
+    → Responding 4 mid after (frameActed (modelOf 4 mid .rest) port b f) r
+    → Passing 4 words after port f (record { refusal = 0; consumed = b; accepted = s .accepted; lost = s .lost; event = r .event; unsent = r .unsent; compared = s .compared })
+passed port f true s r h S R =
+    let k = S .kept refl in
+    rw (k .1) (consumed port f r (sym h) (rw (k .0) at R))
+passed port f false s r h S R = carried port f r (sym h) refl (S .sent refl) R
 
 -- ---- the call of a frame
 -- the frame that the code makes is the one that was handed in

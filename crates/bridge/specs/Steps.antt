@@ -1,18 +1,26 @@
 -- The contracts of the steps inside a frame's call. Only private functions cite these.
 -- Assumes nothing.
-use Prim.Native.Nat.{ℕ}
+use Prim.Native.Nat.{ℕ, _-_}
+use mathlib.Core.Bool.{Bool, true, false}
 use mathlib.Core.Path.{_≡_}
 use mathlib.Core.List.{List}
+use Rattle.identifier.specs.Identifier.{pgnOf}
 use Rattle.delivery.specs.Unit.{joinAll}
 use Rattle.queue.specs.declared.Frame.{Frame}
 use Rattle.queue.specs.Queue.{size}
 use Rattle.unit.specs.Ports.{each}
 use Rattle.unit.specs.Model.{Model, withRest, modelOf}
-use Rattle.forwarding.specs.Steps.{announcedTo, unsentTo}
+use Rattle.forwarding.specs.declared.Share.{Share}
+use Rattle.forwarding.specs.Steps.{Forwarding, announcedTo, unsentTo}
 use Rattle.claims.specs.Claims.{Acted}
 use Rattle.bridge.specs.declared.FrameAnswer.{FrameAnswer}
 use Rattle.bridge.specs.declared.Response.{Response}
 use Rattle.bridge.specs.Calls.{frameDone, frameSends, framePassed}
+
+-- a frame for others was forwarded, one for the unit was not
+pub record Sharing (ports : ℕ) (before after : List ℕ) (port : ℕ) (consumed : Bool) (f : Frame) (r : Share) : Type 0 where
+  pub kept : consumed ≡ true → (after ≡ before) × (r ≡ record { accepted = 0; lost = 0; compared = 0 })
+  pub sent : consumed ≡ false → Forwarding ports before after (port - 1) (pgnOf (f .id)) f r
 
 -- the event, and the ports where the unit's own frame was lost
 pub record Responding (ports : ℕ) (before after : List ℕ) (a : Acted) (r : Response) : Type 0 where

@@ -1,13 +1,13 @@
 // The unit: a bridge of four ports on one record that the caller lends. No function requires anything of its caller: what is wrong is refused by a
 // number, and a refusal changes nothing.
 use addresses::Event;
+use forwarding::Share;
 pub use message_answers::MessageAnswer;
 use queue::Frame;
 use queue::Taken;
 use unit::Claim;
 pub use unit::Unit;
 ghost use mathlib.Core.Path.{_≡_};
-ghost use mathlib.Core.Bool.{true, false};
 ghost use Prim.Native.Nat.{_≤_, _<_};
 ghost use lib.ListN.{length};
 ghost use Rattle.identifier.specs.Identifier.{saOf};
@@ -15,7 +15,7 @@ ghost use Rattle.unit.specs.Model.{modelOf, recordLength};
 ghost use Rattle.unit.specs.Own.{consumes};
 ghost use Rattle.claims.specs.Claims.{frameActed};
 ghost use Rattle.bridge.specs.Calls.{frameRefused, Framing, TakingOut, Messaging, Starting, Quieting};
-ghost use Rattle.bridge.specs.Steps.{Responding, Passing};
+ghost use Rattle.bridge.specs.Steps.{Responding, Sharing, Passing};
 
 // What came of a frame. Ports are masks, bit p - 1 for port p. A refusal of 0 is none; refused, the rest is empty.
 pub struct FrameAnswer {
@@ -58,54 +58,52 @@ fn respond(words: &mut [u64], port: u64, consumed: bool, f: Frame) -> Response
     Response { event, unsent }
 }
 
-// A frame for the unit.
-fn consume(words: &mut [u64], port: u32, f: Frame) -> FrameAnswer
-    requires { ⌜ (length (now words) ≡ recordLength 4) × (1 ≤ port) × (port ≤ 4) × (saOf (f .id) < 255) × (consumes (modelOf 4 (now words) .rest .own) (f .id) ≡ true) ⌝ }
-    ensures { λ r. ⌜ Passing 4 (now (words .entry)) (now (words .exit)) port f r ⌝ }
+// Whether a frame is for the unit (rule 1). The unit is read only where the frame has a destination.
+fn is_for_unit(words: &[u64], id: u32) -> bool
+    requires { ⌜ length (now words) ≡ recordLength 4 ⌝ }
+    ensures { λ r. ⌜ r ≡ consumes (modelOf 4 (now (words .entry)) .rest .own) id ⌝ }
 {
-    let r = respond(words, port as u64, true, f);
-    let event = r.event;
-    FrameAnswer {
-        refusal: 0,
-        consumed: true,
-        accepted: 0,
-        lost: 0,
-        event,
-        unsent: r.unsent,
-        compared: 0,
+    if identifier::has_destination(id) {
+        let unit = unit::read_unit(words);
+        return unit.consumes(id);
     }
+    false
 }
 
-// A frame for others.
-fn carry(words: &mut [u64], port: u32, f: Frame) -> FrameAnswer
-    requires { ⌜ (length (now words) ≡ recordLength 4) × (1 ≤ port) × (port ≤ 4) × (saOf (f .id) < 255) × (consumes (modelOf 4 (now words) .rest .own) (f .id) ≡ false) ⌝ }
+// A frame for others is forwarded, one for the unit is not.
+fn share(words: &mut [u64], port: u32, consumed: bool, f: Frame) -> Share
+    requires { ⌜ (length (now words) ≡ recordLength 4) × (1 ≤ port) × (port ≤ 4) ⌝ }
+    ensures { λ r. ⌜ Sharing 4 (now (words .entry)) (now (words .exit)) port consumed f r ⌝ }
+{
+    if consumed {
+        return Share {
+            accepted: 0,
+            lost: 0,
+            compared: 0,
+        };
+    }
+    let from = port as usize - 1;
+    forwarding::forward(words, from, identifier::pgn(f.id), f)
+}
+
+// A frame that is not refused. It is acted on in one place, so that its fields stay in registers.
+fn pass(words: &mut [u64], port: u32, f: Frame) -> FrameAnswer
+    requires { ⌜ (length (now words) ≡ recordLength 4) × (1 ≤ port) × (port ≤ 4) × (saOf (f .id) < 255) ⌝ }
     ensures { λ r. ⌜ Passing 4 (now (words .entry)) (now (words .exit)) port f r ⌝ }
 {
-    let from = port as usize - 1;
-    let s = forwarding::forward(words, from, identifier::pgn(f.id), f);
-    let r = respond(words, port as u64, false, f);
+    let consumed = is_for_unit(words, f.id);
+    let s = share(words, port, consumed, f);
+    let r = respond(words, port as u64, consumed, f);
     let event = r.event;
     FrameAnswer {
         refusal: 0,
-        consumed: false,
+        consumed,
         accepted: s.accepted,
         lost: s.lost,
         event,
         unsent: r.unsent,
         compared: s.compared,
     }
-}
-
-// A frame that is not refused.
-fn pass(words: &mut [u64], port: u32, f: Frame) -> FrameAnswer
-    requires { ⌜ (length (now words) ≡ recordLength 4) × (1 ≤ port) × (port ≤ 4) × (saOf (f .id) < 255) ⌝ }
-    ensures { λ r. ⌜ Passing 4 (now (words .entry)) (now (words .exit)) port f r ⌝ }
-{
-    let unit = unit::read_unit(words);
-    if unit.consumes(f.id) {
-        return consume(words, port, f);
-    }
-    carry(words, port, f)
 }
 
 // A refused frame's answer.

@@ -44,16 +44,6 @@ pub fn tell_frame(answer: &mut [u64], a: FrameAnswer)
     answer[6] = a.compared as u64;
 }
 
-// The word of a frame's bytes, with 0 past its length.
-fn word_of(f: Frame) -> u64
-    ensures { λ r. ⌜ bytesOf bytesLength r ≡ bytesOfFrame f ⌝ }
-{
-    if f.len < 8 {
-        return f.bytes % (1 << (8 * f.len));
-    }
-    f.bytes
-}
-
 // Writes the eight bytes of a word, least significant first.
 fn write_word(bytes: &mut [u8], word: u64)
     requires { ⌜ length (now bytes) ≡ bytesLength ⌝ }
@@ -64,6 +54,18 @@ fn write_word(bytes: &mut [u8], word: u64)
         bytes[i] = storage::byte_at(word, i);
         i += 1;
     }
+}
+
+// Writes a frame's bytes, with 0 past its length. Of a frame of eight, which most are, the word goes out as it is.
+fn write_bytes(bytes: &mut [u8], f: Frame)
+    requires { ⌜ length (now bytes) ≡ bytesLength ⌝ }
+    ensures { λ _. ⌜ now (bytes .exit) ≡ bytesOfFrame f ⌝ }
+{
+    if f.len < 8 {
+        write_word(bytes, f.bytes % (1 << (8 * f.len)));
+        return;
+    }
+    write_word(bytes, f.bytes);
 }
 
 // The answer to a take, which is done: 0.
@@ -81,7 +83,7 @@ pub fn tell_taken(answer: &mut [u64], bytes: &mut [u8], taken: Taken) -> u32
             answer[0] = 1;
             answer[1] = f.id as u64;
             answer[2] = f.len as u64;
-            write_word(bytes, word_of(f));
+            write_bytes(bytes, f);
         }
     }
     0

@@ -12,9 +12,10 @@ ghost use Rattle.message_answers.specs.Messages.{performedBy, changedBy}
 ghost use Rattle.message_answers.specs.Steps.{Telling, Replying, Reporting};
 
 // What was written to the reply buffer: the PGN and the length, 0 and 0 for nothing; and the number that refused the message, or 0.
+// PGN and length are not neighbours: the compiler would read them as one word that two stores have written, and the processor waits for both.
 pub struct MessageAnswer {
-    pub refusal: u32,
     pub pgn: u32,
+    pub refusal: u32,
     pub length: u32,
 }
 

@@ -1,50 +1,28 @@
--- `bridge::pass` meets its contract: consumed or carried on. Assumes nothing.
-use mathlib.Core.Path.{sym, _∙_}
+-- `bridge::pass` meets its contract: shared out, then acted on. Assumes nothing.
+use Rattle.bridge.proofs.Passes.{passed}
 use borrow.Author.Needs.{needs}
 use Rattle.bridge.proofs.pass.Statement.{statement}
 use Rattle.bridge.proofs.pass.Tie as tie
 
-read-unit-requires : tie.Need-read-unit-requires
-read-unit-requires c κs = search needs
+is-for-unit-requires : tie.Need-is-for-unit-requires
+is-for-unit-requires c κs = search needs
 
-consumes-requires : tie.Need-consumes-requires
-consumes-requires c κs = search needs
+share-requires : tie.Need-share-requires
+share-requires c κs = search needs
 
-consume-requires : tie.Need-consume-requires
-consume-requires c κs =
-    let at-consumes = c .before .before in
-    let at-read = at-consumes .before in
-    let pre = at-read .before .before .before .pre in
-    (pre .0, pre .1, pre .2, pre .3, rw (← (at-read .read-unit .ensures)) (sym (at-consumes .consumes .ensures) ∙ c .before .if1 .taken))
+respond-requires : tie.Need-respond-requires
+respond-requires c κs = search needs
 
 same-length : tie.Need-same-length
 same-length c = search needs
 
 returns : tie.Need-returns
-returns c = search needs
-
-carry-requires : tie.Need-carry-requires
-carry-requires c κs =
-    let at-consumes = c .before .before in
-    let at-read = at-consumes .before in
-    let pre = at-read .before .before .before .pre in
-    (pre .0, pre .1, pre .2, pre .3, rw (← (at-read .read-unit .ensures)) (sym (at-consumes .consumes .ensures) ∙ c .before .if1 .left))
-
-same-length-2 : tie.Need-same-length-2
-same-length-2 c = search needs
-
-returns-2 : tie.Need-returns-2
-returns-2 c = search needs
+returns c =
+    let at-respond = c .before .before in
+    let at-share = at-respond .before .before .before .before in
+    let at-for = at-share .before .before in
+    let args = at-for .before .before .before .args in
+    passed (args .port) (args .f) (at-for .is-for-unit .result) (at-share .share .result) (at-respond .respond .result) (at-for .is-for-unit .ensures) (at-share .share .ensures) (at-respond .respond .ensures)
 
 pub pass-spec : {M : Type 1} → statement M
-pass-spec =
-    tie.close
-    (tie.spec
-    read-unit-requires
-    consumes-requires
-    consume-requires
-    same-length
-    returns
-    carry-requires
-    same-length-2
-    returns-2)
+pass-spec = tie.close (tie.spec is-for-unit-requires share-requires respond-requires same-length returns)

@@ -37,11 +37,8 @@ cast-answer-2 c = search needs
 slice-write-answer-6 : tie.Need-slice-write-answer-6
 slice-write-answer-6 c = search needs
 
-word-of-requires : tie.Need-word-of-requires
-word-of-requires c κs = search needs
-
-write-word-requires : tie.Need-write-word-requires
-write-word-requires c κs = search needs
+write-bytes-requires : tie.Need-write-bytes-requires
+write-bytes-requires c κs = search needs
 
 same-length : tie.Need-same-length
 same-length c = search needs
@@ -59,10 +56,10 @@ same-length-3 c = search needs
 
 returns-2 : tie.Need-returns-2
 returns-2 c =
-    let at = c .before .before .before .before .before .before .before .before in
+    let at = c .before .before .before .before .before .before .before in
     let f = at .taken .given .0 .0 in
     let args = at .before .before .before .before .args in
-    told-frame (at .taken .given .1) (stored (1 ∷ f .id ∷ f .len ∷ []) (args .answer .now) (omega arith)) (rw (← (c .before .before .before .word-of .ensures)) (c .before .before .write-word .ensures))
+    told-frame (at .taken .given .1) (stored (1 ∷ f .id ∷ f .len ∷ []) (args .answer .now) (omega arith)) (c .before .before .write-bytes .ensures)
 
 pub tell-taken-spec : {M : Type 1} → statement M
 tell-taken-spec =
@@ -78,8 +75,7 @@ tell-taken-spec =
     slice-write-answer-5
     cast-answer-2
     slice-write-answer-6
-    word-of-requires
-    write-word-requires
+    write-bytes-requires
     same-length
     returns
     same-length-2
