@@ -33,6 +33,10 @@ pub cut-frame : (f : Frame) → f .len < 8 → bytesOf bytesLength (f .bytes % 2
 unfolding bytesOfFrame
 cut-frame f h = cut 8 (f .len) (f .bytes) (omega arith)
 
+-- nothing is cut where nothing stands past it
+pub short-frame : (f : Frame) → f .len < 8 → f .bytes < 2 ^ (8 * f .len) → bytesOf bytesLength (f .bytes) ≡ bytesOfFrame f
+short-frame f h small = rw (mod-eq-of-lt small) at (cut-frame f h)
+
 -- a frame that says more has eight
 pub whole-frame : (f : Frame) → 8 ≤ f .len → bytesOf bytesLength (f .bytes) ≡ bytesOfFrame f
 unfolding bytesOfFrame

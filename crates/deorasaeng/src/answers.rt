@@ -56,16 +56,21 @@ fn write_word(bytes: &mut [u8], word: u64)
     }
 }
 
-// Writes a frame's bytes, with 0 past its length. Of a frame of eight, which most are, the word goes out as it is.
+// Writes a frame's bytes, with 0 past its length: its word as it is, where no byte stands there.
 fn write_bytes(bytes: &mut [u8], f: Frame)
     requires { ⌜ length (now bytes) ≡ bytesLength ⌝ }
     ensures { λ _. ⌜ now (bytes .exit) ≡ bytesOfFrame f ⌝ }
 {
-    if f.len < 8 {
-        write_word(bytes, f.bytes % (1 << (8 * f.len)));
+    if 8 <= f.len {
+        write_word(bytes, f.bytes);
         return;
     }
-    write_word(bytes, f.bytes);
+    let limit: u64 = 1 << (8 * f.len);
+    if f.bytes < limit {
+        write_word(bytes, f.bytes);
+        return;
+    }
+    write_word(bytes, f.bytes % limit);
 }
 
 // The answer to a take, which is done: 0.
