@@ -11,35 +11,51 @@ use lib.ListN.{length, getD, take, drop}
 use lib.Seq.{getD-take, length-take-le}
 use Rattle.filter.specs.declared.Asked.{Asked}
 use Rattle.filter.specs.Filter.{filterOf, meant, listed, place, permits, asked, Asking, Counting}
-use Rattle.filter.specs.Steps.{indexOf, Finding}
+use Rattle.filter.specs.Steps.{indexOf, Others, Finding}
 use Rattle.filter.proofs.Walk.{Left, left-all, left-next, left-one, left-none}
 use Rattle.filter.proofs.Meaning.{front, permits-test}
 
--- ---- the loop: after i entries the index is i more than that in the rest
-abbrev pub Passed : List ℕ → ℕ → ℕ → ℕ → Type 0
-Passed list n x i = Left (indexOf x (take n list)) (λ es. i + indexOf x es) (take n list) i
+-- ---- the loop: after i entries the index v is i more than that in the rest
+abbrev pub Passed : ℕ → List ℕ → ℕ → ℕ → ℕ → Type 0
+Passed v list n x i = Left v (λ es. i + indexOf x es) (take n list) i
 
-module _ (list : List ℕ) (n x : ℕ) where
-  pub passed-none : Passed list n x 0
-  passed-none = left-all (omega arith)
+pub passed-none : (list : List ℕ) (n x : ℕ) → Passed (indexOf x (take n list)) list n x 0
+passed-none list n x = left-all (omega arith)
 
-  module _ {i : ℕ} (fits : n ≤ length list) (P : Passed list n x i) where
-    pub passed-one : i < n → (getD list i 0 ≡ x → ⊥) → Passed list n x (i + 1)
+pub passed-start : (list : List ℕ) (start n x : ℕ) → n ≤ length list → start ≤ n → Passed (start + indexOf x (drop start (take n list))) list n x start
+passed-start list start n x fits h = record { inside = omega (arith, length-take-le n list fits); value = refl }
+
+module _ {v : ℕ} (list : List ℕ) (n x : ℕ) (fits : n ≤ length list) where
+  module _ {i : ℕ} (P : Passed v list n x i) where
+    pub passed-one : i < n → (getD list i 0 ≡ x → ⊥) → Passed v list n x (i + 1)
     unfolding indexOf
     passed-one turn ne =
         left-one P (omega (arith, length-take-le n list fits)) (rw (getD-take n list i 0 turn, ne-eqb (getD list i 0) x ne) (omega arith))
 
-    pub found-here : i < n → getD list i 0 ≡ x → Finding list n x i
+    pub found-here : i < n → getD list i 0 ≡ x → (i ≡ v) × (i ≤ n)
     unfolding indexOf
     found-here turn e =
         let h = left-next P (omega (arith, length-take-le n list fits)) in
-        record { index = sym (h ∙ rw (getD-take n list i 0 turn, eq-eqb (getD list i 0) x e) (omega arith)); inside = omega arith }
+        (sym (h ∙ rw (getD-take n list i 0 turn, eq-eqb (getD list i 0) x e) (omega arith)), omega arith)
 
-    pub found-none : n ≤ i → Finding list n x n
+    pub found-none : n ≤ i → (n ≡ v) × (n ≤ n)
     unfolding indexOf
     found-none done =
         let e = left-none P (omega (arith, length-take-le n list fits)) in
-        record { index = omega (arith, e, P .inside, length-take-le n list fits); inside = omega arith }
+        (omega (arith, e, P .inside, length-take-le n list fits), omega arith)
+
+  pub passed-four : {i : ℕ} → Passed v list n x i → Others list i n x → Passed v list n x (i + 4)
+  passed-four {i} P O =
+      let two : i + 2 ≡ i + 1 + 1 = omega arith in
+      let three : i + 3 ≡ i + 1 + 1 + 1 = omega arith in
+      let four : i + 4 ≡ i + 1 + 1 + 1 + 1 = omega arith in
+      let room = O .room in
+      rw four
+      (passed-one
+      (passed-one
+      (passed-one
+      (passed-one P (omega arith) (O .first)) (omega arith) (O .second)) (omega arith) (rw two at (O .third)))
+      (omega arith) (rw three at (O .fourth)))
 
 -- ---- what the index says
 pub index-listed : (x : ℕ) (es : List ℕ) → indexOf x es < length es → (listed x es ≡ true) × (place x es ≡ indexOf x es + 1)

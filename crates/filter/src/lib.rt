@@ -2,13 +2,14 @@
 pub mod entries;
 
 ghost use mathlib.Core.Path.{_≡_};
+ghost use mathlib.Core.Bool.{true};
 ghost use Prim.Native.Nat.{_≤_, _<_};
 ghost use mathlib.Core.List.{_∷_};
 ghost use lib.ListN.{length, drop, getD};
 ghost use Rattle.filter.specs.Filter.{blockSize, listSize, filterOf, reportedMode, Asking, Counting};
 ghost use Rattle.filter.specs.Entries.{entriesOf};
 ghost use Rattle.filter.specs.Changes.{isCleared, wouldPass, lacks, Adding, Deleting, Creating, Clearing};
-ghost use Rattle.filter.specs.Steps.{Finding, Extending, Growing, Keeping};
+ghost use Rattle.filter.specs.Steps.{Others, FindingFrom, Finding, Extending, Growing, Keeping};
 
 // The most PGNs that a list holds, and the words of a block.
 pub const LIST_SIZE: usize = 32;
@@ -76,12 +77,35 @@ pub fn pgn_at(block: &[u64], i: usize) -> u64
     block[at]
 }
 
-// The index at which x first stands among the first n of a list, or n.
-fn find(list: &[u64], n: usize, x: u64) -> usize
-    requires { ⌜ n ≤ length (now list) ⌝ }
-    ensures { λ r. ⌜ Finding (now (list .entry)) n x r ⌝ }
+// Whether four more of the first n stand from i on, none of which is x.
+fn four_others(list: &[u64], i: usize, n: usize, x: u64) -> bool
+    requires { ⌜ (n ≤ length (now list)) × (i ≤ n) ⌝ }
+    ensures { λ r. ⌜ (r ≡ true → Others (now (list .entry)) i n x) ⌝ }
 {
-    let mut i = 0;
+    if n - i < 4 {
+        return false;
+    }
+    if list[i] == x {
+        return false;
+    }
+    if list[i + 1] == x {
+        return false;
+    }
+    if list[i + 2] == x {
+        return false;
+    }
+    if list[i + 3] == x {
+        return false;
+    }
+    true
+}
+
+// The index at which x first stands from `start` on among the first n of a list, or n.
+fn find_from(list: &[u64], start: usize, n: usize, x: u64) -> usize
+    requires { ⌜ (n ≤ length (now list)) × (start ≤ n) ⌝ }
+    ensures { λ r. ⌜ FindingFrom (now (list .entry)) start n x r ⌝ }
+{
+    let mut i = start;
     while i < n {
         if list[i] == x {
             return i;
@@ -89,6 +113,18 @@ fn find(list: &[u64], n: usize, x: u64) -> usize
         i += 1;
     }
     n
+}
+
+// The index at which x first stands among the first n of a list, or n. Four at a time are passed over.
+fn find(list: &[u64], n: usize, x: u64) -> usize
+    requires { ⌜ n ≤ length (now list) ⌝ }
+    ensures { λ r. ⌜ Finding (now (list .entry)) n x r ⌝ }
+{
+    let mut i = 0;
+    while four_others(list, i, n, x) {
+        i += 4;
+    }
+    find_from(list, i, n, x)
 }
 
 // Whether the pair permits a PGN, and how many entries were compared: forwarding rules 2 and 5.
