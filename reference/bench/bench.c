@@ -9,10 +9,10 @@
 #include <ucontext.h>
 
 /* Words of the record. */
-#define MODE(pair) (PAIRS + PAIR * (pair))
+#define MODE(pair) (PAIRS_AT + PAIR_WORDS * (pair))
 #define COUNT(pair) (MODE(pair) + 1)
 #define WAITING(port) DEORASAENG_QUEUE_AT(port)
-#define HOLDER(address) (TABLE + 2 * (address))
+#define HOLDER(address) (TABLE_AT + PLACE_WORDS * (address))
 
 /* A frame's identifier; its PGN is in no list unless a row says so. */
 enum { DATA = 0x0CF00400, PGN = 61444, CLAIM = 0x18EEFF26, ASK_ALL = 0x18EAFF26, TO_UNIT = 0x18EF5026 };

@@ -107,7 +107,7 @@ static void make_message(struct call *c, const uint64_t *record)
 {
     static const uint8_t functions[] = {0, 2, 2, 2, 3, 3, 3, 4, 6, 6, 6, 64};
     uint32_t from = 1 + below(4), to = 1 + (from + below(3)) % 4;
-    const uint64_t *pair = record + PAIRS + PAIR * (3 * (from - 1) + (to < from ? to - 1 : to - 2));
+    const uint64_t *pair = record + PAIRS_AT + PAIR_WORDS * (3 * (from - 1) + (to < from ? to - 1 : to - 2));
     for (int i = 0; i < 16; i++)
         c->payload[i] = next();
     c->payload[0] = one_in(64) ? below(256) : functions[below(sizeof functions)];
@@ -174,12 +174,12 @@ static void meaning(const uint64_t *record, uint64_t *out)
 {
     memcpy(out, record, 8 * RECORD);
     for (int i = 0; i < 12; i++) {
-        uint64_t *pair = out + PAIRS + PAIR * i, n = pair[0] ? pair[1] : 0;
+        uint64_t *pair = out + PAIRS_AT + PAIR_WORDS * i, n = pair[0] ? pair[1] : 0;
         pair[1] = n;
         memset(pair + 2 + n, 0, 8 * (32 - n));
     }
     for (int q = 0; q < 4; q++) {
-        uint64_t *queue = out + QUEUES + QUEUE * q;
+        uint64_t *queue = out + QUEUES_AT + QUEUE_WORDS * q;
         memset(queue + 1 + 2 * queue[0], 0, 16 * (32 - queue[0]));
     }
 }

@@ -2,13 +2,11 @@
 #ifndef CALLS_H
 #define CALLS_H
 
+#include "../layout.h"
 #include "twin.h"
 #include <stdbool.h>
 
-enum { SIDES = 3, RECORD = DEORASAENG_RECORD_WORDS, LONGEST = 1785 };
-
-/* Where the record's regions begin, and the words of a pair and of a queue. */
-enum { PAIRS = 4, PAIR = 34, QUEUES = DEORASAENG_QUEUE_AT(1), QUEUE = DEORASAENG_QUEUE_WORDS, TABLE = 672, PLACES = 254 };
+enum { SIDES = 3, RECORD = DEORASAENG_RECORD_WORDS, LONGEST = DEORASAENG_REPLY_BYTES };
 
 struct side {
     const char *name;

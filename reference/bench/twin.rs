@@ -6,7 +6,12 @@ const PORTS: usize = 4;
 const LIST: usize = 32;
 const QUEUE: usize = 32;
 const PLACES: usize = 254;
-const RECORD: usize = 1180;
+const PAIR_WORDS: usize = 2 + LIST;
+const QUEUE_WORDS: usize = 1 + 2 * QUEUE;
+const PLACE_WORDS: usize = 2;
+const PAIRS: usize = PORTS * (PORTS - 1);
+const OWN: usize = 4;
+const RECORD: usize = OWN + PAIR_WORDS * PAIRS + QUEUE_WORDS * PORTS + PLACE_WORDS * PLACES;
 const LONGEST: usize = 1785;
 const NO_ADDRESS: u64 = 254;
 const ALL: usize = 15;
@@ -34,16 +39,16 @@ const CREATE: u8 = 6;
 const ADDRESSES: u8 = 64;
 
 /// The mode, the count, the PGNs.
-type Pair = [u64; 2 + LIST];
+type Pair = [u64; PAIR_WORDS];
 /// The count, and two words for each frame: the identifier with the length above it, the bytes.
-type Queue = [u64; 1 + 2 * QUEUE];
+type Queue = [u64; QUEUE_WORDS];
 /// The arrival port, the NAME.
-type Place = [u64; 2];
+type Place = [u64; PLACE_WORDS];
 
 /// The record's regions.
 struct Unit<'a> {
-    own: &'a mut [u64; 4],
-    pairs: &'a mut [Pair; PORTS * (PORTS - 1)],
+    own: &'a mut [u64; OWN],
+    pairs: &'a mut [Pair; PAIRS],
     queues: &'a mut [Queue; PORTS],
     table: &'a mut [Place; PLACES],
 }
@@ -281,8 +286,8 @@ impl<'a> Unit<'a> {
     fn over(words: &'a mut [u64]) -> Option<Unit<'a>> {
         let words: &mut [u64; RECORD] = words.try_into().ok()?;
         let (own, rest) = words.split_first_chunk_mut()?;
-        let (pairs, rest) = rest.split_at_mut(34 * 12);
-        let (queues, table) = rest.split_at_mut(65 * 4);
+        let (pairs, rest) = rest.split_at_mut(PAIR_WORDS * PAIRS);
+        let (queues, table) = rest.split_at_mut(QUEUE_WORDS * PORTS);
         Some(Unit {
             own,
             pairs: pairs.as_chunks_mut().0.try_into().ok()?,

@@ -2,7 +2,7 @@
 #ifndef SOAK_COMMON_H
 #define SOAK_COMMON_H
 
-#include "../../include/deorasaeng.h"
+#include "../layout.h"
 #include <inttypes.h>
 #include <stdio.h>
 #include <stdlib.h>

@@ -69,14 +69,14 @@ static uint64_t *some_record(size_t length)
     if (length == RECORD && below(4) != 0) {
         record[0] = below(3) ? 2 : below(5);
         record[1] = record[2] = 0x80;
-        for (int i = 0; i < 12; i++) {
-            record[4 + 34 * i] = below(4);
-            record[5 + 34 * i] = below(36);
-            for (int j = 0; j < 32; j++)
-                record[6 + 34 * i + j] = some_pgn();
+        for (uint64_t *pair = record + PAIRS_AT; pair < record + QUEUES_AT; pair += PAIR_WORDS) {
+            pair[0] = below(4);
+            pair[1] = below(LIST + 4);
+            for (int j = 0; j < LIST; j++)
+                pair[2 + j] = some_pgn();
         }
-        for (int port = 1; port <= 4; port++)
-            record[DEORASAENG_QUEUE_AT(port)] = below(36);
+        for (int port = 1; port <= PORTS; port++)
+            record[DEORASAENG_QUEUE_AT(port)] = below(QUEUE + 4);
         memcpy(lent[0].old, record, 8 * length);
     }
     return record;

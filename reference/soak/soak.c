@@ -2,7 +2,7 @@
    says agrees with what the record's words say. usage: soak SEED CALLS */
 #include "common.h"
 
-enum { RECORD = DEORASAENG_RECORD_WORDS, GUARDS = 16, LONGEST = 2000, QUEUES = 412, TABLE = 672, PAIRS = 4 };
+enum { RECORD = DEORASAENG_RECORD_WORDS, GUARDS = 16, LONGEST = 2000 };
 
 static const uint64_t WORD = 0xA5A55A5AA5A55A5A;
 static const uint8_t BYTE = 0x5C;
@@ -67,7 +67,7 @@ static void power_on(void)
     uint64_t name = 0xA000000000000000u + (below(8) == 0 ? 8 : 0); /* the lowest but for a few, so that the unit is seldom displaced */
     uint32_t number = deorasaeng_power_on(record, RECORD, name, preferred[below(8)]);
     count(POWER_ON, number);
-    check(number == 0 && words_are(record + PAIRS, RECORD - PAIRS, 0), "power-on");
+    check(number == 0 && words_are(record + PAIRS_AT, RECORD - PAIRS_AT, 0), "power-on");
 }
 
 /* The forwarded frame joins where it is accepted, the unit's own at every port or at none, save where it is lost. */
@@ -99,7 +99,7 @@ static void frame(void)
         check_same(0, RECORD, "a refused frame changed the record");
         return;
     }
-    check_same(PAIRS, QUEUES, "a frame changed a list");
+    check_same(PAIRS_AT, QUEUES_AT, "a frame changed a list");
     check_joined(port, answer[DEORASAENG_ACCEPTED], answer[DEORASAENG_LOST], answer[DEORASAENG_OWN_LOST]);
     if (answer[DEORASAENG_CONSUMED])
         check((answer[DEORASAENG_ACCEPTED] | answer[DEORASAENG_LOST] | answer[DEORASAENG_COMPARED]) == 0, "consumed and forwarded");
@@ -167,8 +167,8 @@ static void message(void)
     count(MESSAGE, number);
     uint64_t pgn = answer[DEORASAENG_PGN], written = answer[DEORASAENG_WRITTEN];
     check_lent(DEORASAENG_MESSAGE_ANSWER, written, room);
-    check_same(0, PAIRS, "a message changed the unit");
-    check_same(QUEUES, RECORD, "a message changed a queue or the table");
+    check_same(0, PAIRS_AT, "a message changed the unit");
+    check_same(QUEUES_AT, RECORD, "a message changed a queue or the table");
     if (number != 0)
         check_same(0, RECORD, "a refused message changed the record");
     if (pgn == 60672)
@@ -189,7 +189,7 @@ static void start(void)
         check_same(0, RECORD, "a refused Start changed the record");
         return;
     }
-    check_same(PAIRS, QUEUES, "Start changed a list");
+    check_same(PAIRS_AT, QUEUES_AT, "Start changed a list");
     for (uint32_t q = 1; q <= 4; q++)
         check(waiting(record, q) == waiting(before, q) + !(answer[0] >> (q - 1) & 1), "Start's frame");
 }

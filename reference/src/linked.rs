@@ -11,8 +11,8 @@ use crate::pair::{Pair, LONGEST_LIST};
 use crate::unit::{other_ports, Unit, LONGEST_QUEUE, PORTS};
 
 /// The published lengths, in words.
-pub const RECORD_WORDS: usize = 1180;
-pub const QUEUE_WORDS: usize = 65;
+pub const RECORD_WORDS: usize = TABLE_AT + 2 * PLACES;
+pub const QUEUE_WORDS: usize = 1 + 2 * LONGEST_QUEUE;
 /// The lengths of the answers, in words.
 pub const FRAME_ANSWER: usize = 7;
 pub const TAKE_ANSWER: usize = 3;
@@ -23,9 +23,11 @@ pub const FRAME_BYTES: usize = 8;
 
 /// The regions of the record: where each begins.
 const PAIRS_AT: usize = 4;
-const PAIR_WORDS: usize = 34;
-const QUEUES_AT: usize = 412;
-const TABLE_AT: usize = 672;
+const PAIR_WORDS: usize = 2 + LONGEST_LIST;
+const QUEUES_AT: usize = PAIRS_AT + PAIR_WORDS * PORTS.len() * (PORTS.len() - 1);
+const TABLE_AT: usize = QUEUES_AT + QUEUE_WORDS * PORTS.len();
+/// The addresses that the table has a place for.
+const PLACES: usize = 254;
 
 #[link(name = "deorasaeng", kind = "static")]
 extern "C" {

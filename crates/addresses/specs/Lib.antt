@@ -1,4 +1,3 @@
 pub mod Table
-pub mod Claims
-pub mod Events
 pub mod Calls
+pub mod Steps

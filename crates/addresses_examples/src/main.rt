@@ -1,9 +1,10 @@
 // A morning's claims on one table. A line for each: arrival port, SA and NAME, what came of it, and the addresses then on that port.
-use addresses::Event;
+use address_claims::Event;
 use libc::STDOUT_FILENO;
 ghost use mathlib.Core.Path.{_≡_};
 ghost use Prim.Native.Nat.{_≤_};
 ghost use lib.ListN.{length};
+ghost use Rattle.addresses.specs.Table.{tableLength};
 
 const CLAIMS: usize = 12;
 
@@ -59,12 +60,12 @@ fn print_event(event: Event) {
 
 // What a claim from a port is: SA 254 withdraws, any other claims.
 fn act(table: &mut [u64], port: u64, address: usize, name: u64) -> Event
-    requires { ⌜ length (now table) ≡ 508 ⌝ }
+    requires { ⌜ length (now table) ≡ tableLength ⌝ }
 {
     if address < 254 {
-        return addresses::claim(table, port, address, name);
+        return address_claims::claim(table, port, address, name);
     }
-    addresses::withdraw(table, name)
+    address_claims::withdraw(table, name)
 }
 
 // An address of a list.
@@ -86,7 +87,7 @@ fn print_list(list: &[u8], n: usize)
 
 // The addresses on a port.
 fn print_port(table: &[u64], port: u64)
-    requires { ⌜ length (now table) ≡ 508 ⌝ }
+    requires { ⌜ length (now table) ≡ tableLength ⌝ }
 {
     let mut list = [0u8; 254];
     let n = addresses::list_on(table, port, 254, &mut list);
@@ -102,7 +103,7 @@ fn print_port(table: &[u64], port: u64)
 
 // A claim, and its line.
 fn print_claim(table: &mut [u64], port: u64, address: usize, name: u64)
-    requires { ⌜ length (now table) ≡ 508 ⌝ }
+    requires { ⌜ length (now table) ≡ tableLength ⌝ }
 {
     io::write_all(STDOUT_FILENO, b"port ");
     io::print_decimal(STDOUT_FILENO, port);
@@ -116,7 +117,7 @@ fn print_claim(table: &mut [u64], port: u64, address: usize, name: u64)
 }
 
 fn main() {
-    let mut words = [0u64; 508];
+    let mut words = [0u64; addresses::TABLE_LENGTH];
     let table: &mut [u64] = &mut words;
     let mut i: usize = 0;
     while i < CLAIMS {

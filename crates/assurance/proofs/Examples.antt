@@ -1,17 +1,19 @@
 -- The table of examples, each by computing. Assumes nothing.
 use mathlib.Core.Path.{refl}
-use Rattle.filter.specs.Filter.{asked, permits, listed, place, reportedMode}
-use Rattle.filter.specs.Entries.{entriesOf, every, wellFormed, reported}
-use Rattle.filter.specs.Changes.{addOne, addAll, isCleared, wouldPass, mayCreate, modeFor, created}
-use Rattle.network_message.specs.Decoding.{isKnown, isPort, mayBeAll, isPair, namesPorts, mayName, isFilling, entriesEnd, holdsEntries, hasGoodBody, hasWrongMode, refusalOf, commandOf, decoded}
-use Rattle.network_message.specs.Replies.{controlOf, acknowledgment, filled, listBody, listReply}
+use Rattle.filter.specs.Filter.{asked, permits, place, reportedMode, isCleared}
+use Rattle.entries.specs.Entries.{listed, entriesOf, every, wellFormed, reported}
+use Rattle.pgn_list.specs.PgnList.{addOne, addAll}
+use Rattle.filter_commands.specs.Changes.{wouldPass, mayCreate, modeFor, created}
+use Rattle.network_message.specs.Decoding.{isKnown, mayBeAll, isPair, namesPorts, mayName, isFilling, entriesEnd, holdsEntries, hasGoodBody, hasWrongMode, refusalOf, commandOf, decoded}
+use Rattle.checks.specs.Ports.{isPort}
+use Rattle.replies.specs.Replies.{controlOf, acknowledgment, filled, listBody, listReply}
 use Rattle.storage.specs.Bytes.{packed, bytesOf}
 use Rattle.unit.specs.Ports.{each, mask, total}
 use Rattle.unit.specs.Own.{consumes, isOwn}
 use Rattle.forwarding.specs.Forwarding.{verdict}
 use Rattle.bridge.specs.Calls.{offered}
-use Rattle.list_commands.specs.Commands.{names, anyBelow, anyNamed, changeNamed, listRefusal, commanded}
-use Rattle.record.specs.Pairs.{holdsOf, changeOf}
+use Rattle.list_commands.specs.Commands.{names, anyBelow, anyNamed, changeNamed, listRefusal, listChecks, commanded}
+use Rattle.filter_commands.specs.Pairs.{holdsOf, changeOf}
 use Rattle.refusals.specs.Refusals.{messageRefusal}
 use Rattle.message_answers.specs.Messages.{performedBy}
 use Rattle.bridge.specs.Calls.{messaged}
@@ -20,7 +22,7 @@ use Rattle.identifier.specs.Identifier.{pgnOf, destinationOf, isPgn, wrongSourc
 use Rattle.assurance.specs.Examples.{Examples}
 
 pub examples : Examples
-unfolding pgnOf destinationOf wrongSource framePassed mask total offered consumes isOwn verdict asked permits listed place messaged messageRefusal decoded refusalOf isKnown namesPorts isPair isPort mayBeAll mayName hasGoodBody holdsEntries entriesEnd isFilling wellFormed entriesOf every packed isPgn hasWrongMode commandOf performedBy listRefusal anyNamed anyBelow names holdsOf isCleared wouldPass addAll addOne commanded changeNamed each changeOf created mayCreate modeFor acknowledgment controlOf listReply filled listBody reportedMode reported bytesOf
+unfolding pgnOf destinationOf wrongSource framePassed mask total offered consumes isOwn verdict asked permits listed place messaged messageRefusal decoded refusalOf isKnown namesPorts isPair isPort mayBeAll mayName hasGoodBody holdsEntries entriesEnd isFilling wellFormed entriesOf every packed isPgn hasWrongMode commandOf performedBy listRefusal listChecks anyNamed anyBelow names holdsOf isCleared wouldPass addAll addOne commanded changeNamed each changeOf created mayCreate modeFor acknowledgment controlOf listReply filled listBody reportedMode reported bytesOf
 examples = record {
   p1 = (refl, refl);
   p2 = (refl, refl);

@@ -12,7 +12,7 @@ use Rattle.queue.specs.Queue.{priority}
 use Rattle.filter.specs.Filter.{Filter, pass, clear}
 use Rattle.addresses.specs.declared.Place.the-variants.{Free}
 use Rattle.unit.specs.declared.Claim.the-variants.{Claimed}
-use Rattle.unit.specs.Model.{Model}
+use Rattle.unit.specs.Model.{Model, recordLength}
 use Rattle.bridge.specs.Calls.{frameOf}
 use Rattle.message_answers.specs.Messages.{Replied}
 use Rattle.bridge.specs.Calls.{messaged}
@@ -45,6 +45,7 @@ abbrev pub with : List Filter → Model
 with pairs = record {
   rest = record { own = record { claim = Claimed; address = 0x80; preferred = 0x80; name = 1 }; pairs = pairs; table = replicate 254 Free };
   rows = replicate 4 [];
+  seen = record {};
 }
 
 abbrev pub beforeP5 : Model
@@ -56,7 +57,7 @@ afterP5 = with (record { mode = pass; entries = 65265 ∷ [] } ∷ replicate 11 
 
 -- "Unless said, the tool is on port 1 with requester 21 and the buffer is long enough"
 abbrev pub message : Model → ℕ → List ℕ → Replied
-message m port payload = messaged 4 1180 1785 (m .rest) port 0x21 payload
+message m port payload = messaged 4 (recordLength 4) 1785 (m .rest) port 0x21 payload
 
 abbrev pub create : List ℕ
 create = 0x06 ∷ 0x12 ∷ 0x01 ∷ 0xF1 ∷ 0xFE ∷ 0x00 ∷ 0xFF ∷ 0xFF ∷ []
@@ -78,12 +79,12 @@ pub record Examples : Type 0 where
   pub p4 : (tooWide 0x1FFFFFFF ≡ false) × (wrongSource 0x1FFFFFFF ≡ true)
   -- 06 12 01 F1 FE 00 FF FF, port 1, requester 21: 00 06 FF FF 21 00 ED 00, and it is done
   pub p5 : (message beforeP5 1 create .number ≡ 0)
-      × (message beforeP5 1 create .written ≡ 0x00 ∷ 0x06 ∷ 0xFF ∷ 0xFF ∷ 0x21 ∷ 0x00 ∷ 0xED ∷ 0x00 ∷ [])
+      × (message beforeP5 1 create .written (beforeP5 .seen) ≡ 0x00 ∷ 0x06 ∷ 0xFF ∷ 0xFF ∷ 0x21 ∷ 0x00 ∷ 0xED ∷ 0x00 ∷ [])
       × (message beforeP5 1 create .pairs ≡ afterP5 .rest .pairs)
   -- then 00 12 and six FF: 01 12 01 F1 FE 00 FF FF
-  pub p6 : (message afterP5 1 ask .number ≡ 0) × (message afterP5 1 ask .written ≡ 0x01 ∷ 0x12 ∷ 0x01 ∷ 0xF1 ∷ 0xFE ∷ 0x00 ∷ 0xFF ∷ 0xFF ∷ [])
+  pub p6 : (message afterP5 1 ask .number ≡ 0) × (message afterP5 1 ask .written (afterP5 .seen) ≡ 0x01 ∷ 0x12 ∷ 0x01 ∷ 0xF1 ∷ 0xFE ∷ 0x00 ∷ 0xFF ∷ 0xFF ∷ [])
   -- P6 from port 3: 11; 02 00 FF FF 21 00 ED 00
-  pub p7 : (message afterP5 3 ask .number ≡ 11) × (message afterP5 3 ask .written ≡ 0x02 ∷ 0x00 ∷ 0xFF ∷ 0xFF ∷ 0x21 ∷ 0x00 ∷ 0xED ∷ 0x00 ∷ [])
+  pub p7 : (message afterP5 3 ask .number ≡ 11) × (message afterP5 3 ask .written (afterP5 .seen) ≡ 0x02 ∷ 0x00 ∷ 0xFF ∷ 0xFF ∷ 0x21 ∷ 0x00 ∷ 0xED ∷ 0x00 ∷ [])
   -- 02 11 F1 FE 00 FF FF FF: 10
   pub p8 : message afterP5 1 (add 0x11 0xF1 0xFE 0x00) .number ≡ 10
   -- 02 12 FF FF FF FF FF FF, after P5: 12

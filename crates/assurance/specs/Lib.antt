@@ -1,6 +1,2 @@
 pub mod Examples
-pub mod Made
-pub mod Meets
-pub mod Demand1
-pub mod Demand2
-pub mod Demand3
+pub mod Assurance

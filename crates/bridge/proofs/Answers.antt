@@ -58,7 +58,7 @@ module _ {words : List ℕ} {port n : ℕ} (e : n ≡ takeRefusal 4 (length word
         call =
             call-done (sym e ∙ z) long
             (T .state
-            ∙ ap (λ rows. record { rest = modelOf 4 words .rest; rows = rows })
+            ∙ ap (λ rows. record { rest = modelOf 4 words .rest; rows = rows; seen = modelOf 4 words .seen })
             (sym (each-one (λ row. kept (pull priority row)) (port - 1) 4 (modelOf 4 words .rows) [] (omega (arith, goes .1, goes .2)) (omega (arith, goes .1, goes .2, rows-four words)))));
         answer = rw (← e, eq-eqb n 0 z) (ap TakeAnswer.Took (T .answer));
         ahead = T .ahead;

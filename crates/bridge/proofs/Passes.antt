@@ -2,12 +2,10 @@
 use mathlib.Core.Path.{_≡_, refl, sym, ap, _∙_}
 use mathlib.Core.Bool.{Bool, true, false, true≢false}
 use mathlib.Core.List.{List, [], _∷_, _++_}
-use Prim.Native.Nat.{ℕ, _+_, _-_, _≤_, _<_}
+use Prim.Native.Nat.{ℕ, _-_, _<_}
 use native.Mathlib.Omega.{arith}
 use borrow.Author.Tests.{eq-eqb, ne-eqb}
-use lib.ListN.{length, take}
-use lib.Seq.{take-all}
-use Rattle.storage.specs.Bytes.{packed}
+use lib.ListN.{length}
 use Rattle.identifier.specs.Identifier.{pgnOf}
 use Rattle.delivery.specs.Row.{join}
 use Rattle.delivery.specs.Unit.{joinAll}
@@ -21,7 +19,7 @@ use Rattle.unit.specs.Ports.{each, mask}
 use Rattle.unit.specs.Model.{modelOf, recordLength, rowAt, withRows}
 use Rattle.unit.specs.Own.{startChecks, consumes, framesSent}
 use Rattle.refusals.specs.Refusals.{frameRefusal, startRefusal}
-use Rattle.network_message.specs.Checks.{first}
+use Rattle.checks.specs.Checks.{first}
 use Rattle.bridge.specs.Calls.{frameOf, offered, refusal, restAfter, asks, sends, performed, frameRefused, framePassed, frameAnswer, startAnswer, Framing, Starting}
 use Rattle.forwarding.specs.Forwarding.{verdict, sentIf, losesOwn}
 use Rattle.claims.specs.Claims.{Acted, frameActed, started}
@@ -58,14 +56,14 @@ module _ {words after : List ℕ} (port : ℕ) (f : Frame) (r : Response) where
   }
 
   -- ---- a frame that is carried on
-  module _ {mid : List ℕ} {pgn : ℕ} {s : Share} (h : consumes (modelOf 4 words .rest .own) (f .id) ≡ false) (g : pgn ≡ pgnOf (f .id)) (F : Forwarding 4 words mid (port - 1) pgn f s) (R : Responding 4 mid after (frameActed (modelOf 4 mid .rest) port false f) r) where
+  module _ {mid : List ℕ} {s : Share} (h : consumes (modelOf 4 words .rest .own) (f .id) ≡ false) (F : Forwarding 4 words mid (verdict 4 (modelOf 4 words .rest .pairs) (port - 1) (pgnOf (f .id))) f s) (R : Responding 4 mid after (frameActed (modelOf 4 mid .rest) port false f) r) where
     -- what forwarding does at port q
     abbrev change : ℕ → List Frame → List Frame
     change q row = joinAll size row (sentIf (verdict 4 (modelOf 4 words .rest .pairs) (port - 1) (pgnOf (f .id)) q) f)
 
     forwarded : modelOf 4 mid ≡ withRows (modelOf 4 words) (each change 4 (modelOf 4 words .rows))
     unfolding forwardedTo
-    forwarded = rw g at (F .state)
+    forwarded = F .state
 
     rest-still : modelOf 4 mid .rest ≡ modelOf 4 words .rest
     rest-still = rw forwarded
@@ -99,18 +97,18 @@ module _ {words after : List ℕ} (port : ℕ) (f : Frame) (r : Response) where
     pub carried : Passing 4 words after port f (record { refusal = 0; consumed = false; accepted = s .accepted; lost = s .lost; event = r .event; unsent = r .unsent; compared = s .compared })
     unfolding framePassed offered sharesTo announcedTo
     carried = record {
-      answer = rw (h, event-is, unsent-is, F .answer, g);
+      answer = rw (h, event-is, unsent-is, F .answer);
       state =
           rw h
           ((rw rest-still at (R .state))
-          ∙ rw forwarded (ap (λ rows. record { rest = done .rest; rows = rows }) rows-are));
+          ∙ rw forwarded (ap (λ rows. record { rest = done .rest; rows = rows; seen = modelOf 4 words .seen }) rows-are));
     }
 
 -- ---- a frame that is not refused: for the unit or for others, as `consumed` says
 pub kept-still : {words : List ℕ} {port : ℕ} {b : Bool} {f : Frame} → b ≡ true → Sharing 4 words words port b f (record { accepted = 0; lost = 0; compared = 0 })
 kept-still h = record { kept = λ _. (refl, refl); sent = λ g. absurd (true≢false (sym h ∙ g)) }
 
-pub shared : {words mid : List ℕ} {port pgn : ℕ} {b : Bool} {f : Frame} {s : Share} → b ≡ false → pgn ≡ pgnOf (f .id) → Forwarding 4 words mid (port - 1) pgn f s → Sharing 4 words mid port b f s
+pub shared : {words mid : List ℕ} {port pgn : ℕ} {b : Bool} {f : Frame} {s : Share} → b ≡ false → pgn ≡ pgnOf (f .id) → Forwarding 4 words mid (verdict 4 (modelOf 4 words .rest .pairs) (port - 1) pgn) f s → Sharing 4 words mid port b f s
 shared h g F = record { kept = λ k. absurd (true≢false (sym k ∙ h)); sent = λ _. rw g at F }
 
 pub passed : {words mid after : List ℕ} (port : ℕ) (f : Frame) (b : Bool) (s : Share) (r : Response) → b ≡ consumes (modelOf 4 words .rest .own) (f .id) → Sharing 4 words mid port b f s
@@ -119,13 +117,9 @@ pub passed : {words mid after : List ℕ} (port : ℕ) (f : Frame) (b : Bool) (s
 passed port f true s r h S R =
     let k = S .kept refl in
     rw (k .1) (consumed port f r (sym h) (rw (k .0) at R))
-passed port f false s r h S R = carried port f r (sym h) refl (S .sent refl) R
+passed port f false s r h S R = carried port f r (sym h) (S .sent refl) R
 
 -- ---- the call of a frame
--- the frame that the code makes is the one that was handed in
-pub frame-is : {id n word : ℕ} (bytes : List ℕ) → n ≡ length bytes → n ≤ 8 → word ≡ packed (take 8 bytes) → record { id = id; len = n; bytes = word } ≡ frameOf id bytes
-frame-is bytes e h w = rw (w, take-all 8 bytes (omega arith), e)
-
 module _ {words : List ℕ} (port id : ℕ) (bytes : List ℕ) {n : ℕ} (e : n ≡ frameRefusal 4 (length words) port id (length bytes)) where
   pub frame-refused : {r : FrameAnswer} → (n ≡ 0 → ⊥) → r ≡ frameRefused n → Framing 4 words words port id bytes r
   unfolding frameAnswer refusal

@@ -8,7 +8,6 @@ use mathlib.Core.List.{List, [], _++_}
 use mathlib.Core.Option.{Option, none, some}
 use lib.ListN.{length, take, drop}
 use lib.Dec.{eqb}
-use Rattle.storage.specs.Bytes.{packed}
 use Rattle.identifier.specs.Identifier.{pgnOf}
 use Rattle.delivery.specs.Row.{pull, given}
 use Rattle.delivery.specs.Unit.{joinAll, rowNext}
@@ -16,7 +15,7 @@ use Rattle.filter.specs.declared.Asked.{Asked}
 use Rattle.filter.specs.Filter.{Filter}
 use Rattle.queue.specs.declared.Frame.{Frame}
 use Rattle.queue.specs.Queue.{size, priority, takenOf, blockLength as queueLength}
-use Rattle.addresses.specs.declared.Event.{Event}
+use Rattle.address_claims.specs.declared.Event.{Event}
 use Rattle.network_message.specs.Decoding.{decoded}
 use Rattle.unit.specs.declared.Claim.the-variants.{Claimed}
 use Rattle.unit.specs.Ports.{each, mask, total}
@@ -24,6 +23,7 @@ use Rattle.unit.specs.Model.{Rest, Model, rowAt, withOwn, withPairs, rowsFrom, 
 use Rattle.unit.specs.Own.{consumes, moved, framesSent}
 use Rattle.forwarding.specs.Forwarding.{sentIf, accepts, loses, losesOwn, silent, verdict}
 use Rattle.claims.specs.Claims.{Acted, frameActed, started}
+pub use Rattle.claims.specs.Claims.{frameOf}
 use Rattle.message_answers.specs.declared.MessageAnswer.{MessageAnswer}
 use Rattle.message_answers.specs.Messages.{Replied, messageAnswer, performedBy}
 use Rattle.refusals.specs.Refusals.{frameRefusal, takeRefusal, startRefusal, quietRefusal, messageRefusal}
@@ -40,10 +40,6 @@ pub data Call : Type 0 where
   Quiet : Call
 
 -- ---- a frame
--- a frame as it is handed in
-abbrev pub frameOf : ℕ → List ℕ → Frame
-frameOf id bytes = record { id = id; len = length bytes; bytes = packed bytes }
-
 -- what is answered for port q: the pair is asked (rule 2), but a consumed frame is not forwarded (rule 1)
 unfoldable pub offered : ℕ → Rest → ℕ → ℕ → ℕ → Asked
 offered ports rest p id q = cond (consumes (rest .own) id) silent (verdict ports (rest .pairs) p (pgnOf id) q)
@@ -51,7 +47,7 @@ offered ports rest p id q = cond (consumes (rest .own) id) silent (verdict ports
 -- ---- a message
 -- nothing is written for 1 to 8
 abbrev pub silentReply : ℕ → List Filter → Replied
-silentReply number pairs = record { number = number; pairs = pairs; pgn = 0; written = [] }
+silentReply number pairs = record { number = number; pairs = pairs; pgn = 0; written = λ seen. [] }
 
 unfoldable pub messaged : ℕ → ℕ → ℕ → Rest → ℕ → ℕ → List ℕ → Replied
 messaged ports lent lentReply rest port requester payload =
@@ -104,6 +100,7 @@ unfoldable pub performed : ℕ → ℕ → Model → Call → Model
 performed ports lent m k = record {
   rest = restAfter ports lent (m .rest) k;
   rows = each (λ q row. rowNext priority size (asks k) q row (sends ports (m .rest) k q)) ports (m .rows);
+  seen = m .seen;
 }
 
 -- a refused call changes nothing
@@ -181,10 +178,10 @@ pub record TakingOut (ports : ℕ) (before after : List ℕ) (port : ℕ) (r : T
 
 pub record Messaging (ports : ℕ) (before after : List ℕ) (port requester : ℕ) (payload lent back : List ℕ) (r : MessageAnswer) : Type 0 where
   pub call : Calling ports before after (Message port requester payload (length lent))
-  pub answer : r ≡ messageAnswer (messaged ports (length before) (length lent) (modelOf ports before .rest) port requester payload)
+  pub answer : r ≡ messageAnswer (messaged ports (length before) (length lent) (modelOf ports before .rest) port requester payload) (modelOf ports before .seen)
   pub written : back
-      ≡ messaged ports (length before) (length lent) (modelOf ports before .rest) port requester payload .written
-      ++ drop (length (messaged ports (length before) (length lent) (modelOf ports before .rest) port requester payload .written)) lent
+      ≡ messaged ports (length before) (length lent) (modelOf ports before .rest) port requester payload .written (modelOf ports before .seen)
+      ++ drop (length (messaged ports (length before) (length lent) (modelOf ports before .rest) port requester payload .written (modelOf ports before .seen))) lent
 
 pub record Starting (ports : ℕ) (before after : List ℕ) (r : StartAnswer) : Type 0 where
   pub call : Calling ports before after Start

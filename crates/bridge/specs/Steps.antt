@@ -11,6 +11,7 @@ use Rattle.queue.specs.Queue.{size}
 use Rattle.unit.specs.Ports.{each}
 use Rattle.unit.specs.Model.{Model, withRest, modelOf}
 use Rattle.forwarding.specs.declared.Share.{Share}
+use Rattle.forwarding.specs.Forwarding.{verdict}
 use Rattle.forwarding.specs.Steps.{Forwarding, announcedTo, unsentTo}
 use Rattle.claims.specs.Claims.{Acted}
 use Rattle.bridge.specs.declared.FrameAnswer.{FrameAnswer}
@@ -20,7 +21,7 @@ use Rattle.bridge.specs.Calls.{frameDone, frameSends, framePassed}
 -- a frame for others was forwarded, one for the unit was not
 pub record Sharing (ports : ℕ) (before after : List ℕ) (port : ℕ) (consumed : Bool) (f : Frame) (r : Share) : Type 0 where
   pub kept : consumed ≡ true → (after ≡ before) × (r ≡ record { accepted = 0; lost = 0; compared = 0 })
-  pub sent : consumed ≡ false → Forwarding ports before after (port - 1) (pgnOf (f .id)) f r
+  pub sent : consumed ≡ false → Forwarding ports before after (verdict ports (modelOf ports before .rest .pairs) (port - 1) (pgnOf (f .id))) f r
 
 -- the event, and the ports where the unit's own frame was lost
 pub record Responding (ports : ℕ) (before after : List ℕ) (a : Acted) (r : Response) : Type 0 where
@@ -33,6 +34,7 @@ abbrev pub framed : ℕ → Model → ℕ → Frame → Model
 framed ports m port f = record {
   rest = frameDone (m .rest) port f .rest;
   rows = each (λ q row. joinAll size row (frameSends ports (m .rest) port f q)) ports (m .rows);
+  seen = m .seen;
 }
 
 pub record Passing (ports : ℕ) (before after : List ℕ) (port : ℕ) (f : Frame) (r : FrameAnswer) : Type 0 where

@@ -1,6 +1,6 @@
 // The unit: a bridge of four ports on one record that the caller lends. No function requires anything of its caller: what is wrong is refused by a
 // number, and a refusal changes nothing.
-use addresses::Event;
+use address_claims::Event;
 use forwarding::Share;
 pub use message_answers::MessageAnswer;
 use queue::Frame;

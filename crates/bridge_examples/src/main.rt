@@ -1,5 +1,5 @@
 // A morning of the unit, run: power-on, Start, Quiet, claims, contention for the unit's address, a full port, takes. A line for each call.
-use addresses::Event;
+use address_claims::Event;
 use bridge::FrameAnswer;
 use bridge::TakeAnswer;
 use bridge::Unit;
@@ -8,6 +8,9 @@ use queue::Frame;
 use queue::Taken;
 
 const NAME: u64 = 0xA000000000000050;
+
+// Two more than a queue holds.
+const TURNS: u32 = queue::SIZE as u32 + 2;
 
 fn text(word: &[u8]) {
     io::write_all(STDOUT_FILENO, word);
@@ -170,7 +173,7 @@ fn turn(words: &mut [u64], i: u32) {
 // Until port 2 is full.
 fn load(words: &mut [u64]) {
     let mut i: u32 = 0;
-    while i < 34 {
+    while i < TURNS {
         turn(words, i);
         i += 1;
     }
@@ -185,7 +188,7 @@ fn unload(words: &mut [u64]) {
 }
 
 fn main() {
-    let mut record = [0u64; 1180];
+    let mut record = [0u64; Unit::RECORD_LENGTH];
     let words: &mut [u64] = &mut record;
     text(b"power-on: ");
     number(Unit::power_on(words, NAME, 0x50));

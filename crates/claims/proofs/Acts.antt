@@ -9,9 +9,9 @@ use lib.Dec.{ltb, eqb}
 use Rattle.identifier.specs.Identifier.{saOf}
 use Rattle.queue.specs.declared.Frame.{Frame}
 use Rattle.addresses.specs.declared.Place.the-variants.{Free}
-use Rattle.addresses.specs.declared.Event.{Event}
-use Rattle.addresses.specs.declared.Event.the-variants.{Nothing, Defended, Displaced}
-use Rattle.addresses.specs.Claims.{othersDropped, settled, claimed, claimEvent, withdrawn, withdrawEvent}
+use Rattle.address_claims.specs.declared.Event.{Event}
+use Rattle.address_claims.specs.declared.Event.the-variants.{Nothing, Defended, Displaced}
+use Rattle.address_claims.specs.Claims.{othersDropped, settled, claimed, claimEvent, withdrawn, withdrawEvent}
 use Rattle.unit.specs.declared.Claim.the-variants.{Claiming, Lost}
 use Rattle.unit.specs.declared.Sent.{Sent}
 use Rattle.unit.specs.declared.Sent.the-variants.{One}

@@ -2,17 +2,17 @@
 -- Assumes nothing.
 use Prim.Native.Nat.{ℕ}
 use mathlib.Core.Bool.{Bool, false, _&&_, _||_, cond}
-use mathlib.Core.List.{[], _∷_}
-use lib.ListN.{getD, set}
+use mathlib.Core.List.{List, [], _∷_}
+use lib.ListN.{length, getD, set}
 use lib.Dec.{eqb, ltb}
 use Rattle.storage.specs.Bytes.{packed}
 use Rattle.identifier.specs.Identifier.{pgnOf, psOf, saOf, request, addressClaimed}
 use Rattle.queue.specs.declared.Frame.{Frame}
 use Rattle.addresses.specs.declared.Place.{Place}
 use Rattle.addresses.specs.declared.Place.the-variants.{Free, Held}
-use Rattle.addresses.specs.declared.Event.{Event}
-use Rattle.addresses.specs.declared.Event.the-variants.{Nothing, Defended, Displaced}
-use Rattle.addresses.specs.Claims.{othersDropped, claimed, claimEvent, withdrawn, withdrawEvent, settled}
+use Rattle.address_claims.specs.declared.Event.{Event}
+use Rattle.address_claims.specs.declared.Event.the-variants.{Nothing, Defended, Displaced}
+use Rattle.address_claims.specs.Claims.{othersDropped, claimed, claimEvent, withdrawn, withdrawEvent, settled}
 use Rattle.unit.specs.declared.Claim.the-variants.{Claiming, Lost}
 use Rattle.unit.specs.declared.Sent.{Sent}
 use Rattle.unit.specs.declared.Sent.the-variants.{One}
@@ -20,6 +20,10 @@ use Rattle.unit.specs.Model.{Rest, withOwn, withTable}
 use Rattle.unit.specs.Own.{isOwn, moved, claimFrame, cannotClaimFrame, requestAnswer}
 
 -- ---- what a frame is
+-- as it is handed in
+abbrev pub frameOf : ℕ → List ℕ → Frame
+frameOf id bytes = record { id = id; len = length bytes; bytes = packed bytes }
+
 -- "a claim is PGN 60928, PS 255, length 8; the NAME is its bytes"
 unfoldable pub isClaim : Frame → Bool
 isClaim f = eqb (pgnOf (f .id)) addressClaimed && (eqb (psOf (f .id)) 255 && eqb (f .len) 8)

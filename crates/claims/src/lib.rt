@@ -1,5 +1,5 @@
 // What is done about an address claim, a request for one, and Start.
-use addresses::Event;
+use address_claims::Event;
 use addresses::Place;
 use queue::Frame;
 use unit::Claim;
@@ -20,7 +20,7 @@ pub struct Acted {
 }
 
 // Whether a frame is an address claim.
-fn is_claim(f: Frame) -> bool
+pub fn is_claim(f: Frame) -> bool
     ensures { λ r. ⌜ r ≡ isClaim f ⌝ }
 {
     if identifier::pgn(f.id) != identifier::ADDRESS_CLAIMED {

@@ -8,9 +8,7 @@ use native.Mathlib.Omega.{arith}
 use borrow.Author.Tests.{eq-eqb, ne-eqb}
 use lib.Dec.{eqb}
 use lib.ListN.{length}
-use Rattle.queue.specs.declared.Frame.{Frame}
 use Rattle.queue.specs.declared.Taken.{Taken}
-use Rattle.queue.specs.declared.Taken.the-variants.{Given, Nothing}
 use Rattle.queue.specs.Queue.{Taking}
 use Rattle.bridge.specs.declared.FrameAnswer.{FrameAnswer}
 use Rattle.bridge.specs.declared.TakeAnswer.{TakeAnswer}
@@ -20,7 +18,8 @@ use Rattle.bridge.specs.declared.StartAnswer.{StartAnswer}
 use Rattle.unit.specs.Model.{Model, modelOf}
 use Rattle.refusals.specs.Refusals.{frameRefusal, takeRefusal, startRefusal}
 use Rattle.bridge.specs.Calls.{Call, next, refusal, framePassed, frameAnswer, takeAnswer, startAnswer, Calling, Framing, TakingOut, Messaging, Starting}
-use Rattle.deorasaeng.specs.Interface.{lentRefusal, Served, frameLength, takeLength, bytesLength, messageLength, startLength, takeNumber, frameWords, takeWords, bytesOfFrame, bytesOfTaken, gave, Telling, FrameCall, TakeCall, MessageCall, StartCall, QueueCall, queueNumber}
+use Rattle.deorasaeng.specs.Interface.{lentRefusal, Served, messageLength, startLength, takeNumber, gave, FrameCall, TakeCall, MessageCall, StartCall, QueueCall, queueNumber}
+use Rattle.flat_answers.specs.Answers.{frameLength, takeLength, bytesLength, frameWords, takeWords, bytesOfTaken, Telling}
 use Rattle.deorasaeng.proofs.Numbers.{not-0, frame-lent, frame-number, take-lent, take-lent-bytes, take-number, silent, replied-as, start-lent, start-number, queue-lent, queue-lent-bytes, queue-number}
 
 -- ---- the record
@@ -97,13 +96,6 @@ module _ {before after : List ℕ} {port id : ℕ} {bytes answer : List ℕ} {a 
   frame-done z t = frame-called (sym z) t
 
 -- ---- deorasaeng_take
-module _ {told bytes : List ℕ} {taken : Taken} where
-  pub told-nothing : taken ≡ Nothing → told ≡ 0 ∷ 0 ∷ 0 ∷ [] → Telling told bytes bytes taken 0
-  told-nothing is t = record { number = refl; tells = rw is t; writes = rw is }
-
-  pub told-frame : {written : List ℕ} {f : Frame} → taken ≡ Given f → told ≡ 1 ∷ f .id ∷ f .len ∷ [] → written ≡ bytesOfFrame f → Telling told bytes written taken 0
-  told-frame is t w = record { number = refl; tells = rw is t; writes = rw is w }
-
 module _ {before : List ℕ} {port : ℕ} {answer bytes : List ℕ} {r : ℕ} where
   take-untouched : r ≡ lentRefusal 4 port → r ≡ takeNumber 4 (length before) (length answer) (length bytes) port → TakeCall 4 before before port answer answer bytes bytes r
   take-untouched e n =

@@ -7,14 +7,15 @@ use native.Mathlib.Omega.{arith}
 use borrow.Author.Tests.{eq-eqb, ne-eqb}
 use lib.Dec.{ltb}
 use lib.ListN.{length}
-use Rattle.network_message.specs.Replies.{longest}
+use Rattle.network_message.specs.Decoding.{longest}
 use Rattle.unit.specs.declared.Unit.{Unit}
 use Rattle.unit.specs.Model.{Rest}
-use Rattle.refusals.specs.Refusals.{noPort, frameRefusal, takeRefusal, startRefusal}
+use Rattle.checks.specs.Ports.{noPort}
+use Rattle.refusals.specs.Refusals.{frameRefusal, takeRefusal, startRefusal, messageRefusal}
 use Rattle.unit.specs.PowerOn.{notLong}
-use Rattle.refusals.specs.Refusals.{messageRefusal}
 use Rattle.bridge.specs.Calls.{silentReply, messaged}
-use Rattle.deorasaeng.specs.Interface.{notOf, lentRefusal, frameLength, takeLength, bytesLength, messageLength, startLength, frameNumber, takeNumber, messageNumber, repliedTo, startNumber, queueNumber}
+use Rattle.deorasaeng.specs.Interface.{notOf, lentRefusal, messageLength, startLength, frameNumber, takeNumber, messageNumber, repliedTo, startNumber, queueNumber}
+use Rattle.flat_answers.specs.Answers.{frameLength, takeLength, bytesLength}
 
 wrong : {published lent : ℕ} → (lent ≡ published → ⊥) → notOf published lent ≡ true
 wrong {published} {lent} h = rw (ne-eqb lent published h)

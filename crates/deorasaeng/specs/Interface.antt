@@ -2,29 +2,25 @@
 -- and the bytes that it writes. `before` and `after` are the record's words; `answer` and `told` the answer's words before and after; `lent..` is the
 -- length of storage that was lent. `deorasaeng_power_on` and `deorasaeng_quiet` have no answer: their contracts are the bridge's, `PoweringOn` and `Quieting`.
 -- Assumes nothing.
-use Prim.Native.Nat.{ℕ, _+_, _-_}
+use Prim.Native.Nat.{ℕ, _+_}
 use mathlib.Core.Bool.{Bool, true, not, _||_, cond}
 use mathlib.Core.Path.{_≡_}
 use mathlib.Core.List.{List, [], _∷_, _++_}
-use lib.ListN.{length, take, drop, replicate}
+use lib.ListN.{length, take, drop}
 use lib.Dec.{ltb, eqb}
-use Rattle.storage.specs.Bytes.{bytesOf}
 use Rattle.identifier.specs.Identifier.{tooWide, wrongSource}
 use Rattle.delivery.specs.Row.{pull, given}
-use Rattle.queue.specs.declared.Frame.{Frame}
 use Rattle.queue.specs.declared.Taken.{Taken}
-use Rattle.queue.specs.declared.Taken.the-variants.{Given, Nothing}
+use Rattle.queue.specs.declared.Taken.the-variants.{Nothing}
 use Rattle.queue.specs.Queue.{blockLength, rowOf, priority, takenOf, Taking}
-use Rattle.addresses.specs.Events.{eventNumber, oldName}
-use Rattle.network_message.specs.Checks.{check, first}
-use Rattle.network_message.specs.Decoding.{decoded}
-use Rattle.network_message.specs.Replies.{longest}
-use Rattle.bridge.specs.declared.FrameAnswer.{FrameAnswer}
+use Rattle.checks.specs.Checks.{check, first}
+use Rattle.network_message.specs.Decoding.{decoded, longest}
 use Rattle.bridge.specs.declared.TakeAnswer.{TakeAnswer}
 use Rattle.bridge.specs.declared.TakeAnswer.the-variants.{Refused, Took}
 use Rattle.unit.specs.declared.Unit.{Unit}
-use Rattle.unit.specs.Model.{Rest, modelOf}
-use Rattle.refusals.specs.Refusals.{noPort}
+use Rattle.unit.specs.Model.{Rest, Seen, modelOf}
+use Rattle.checks.specs.Ports.{noPort}
+use Rattle.flat_answers.specs.Answers.{frameLength, takeLength, bytesLength, frameWords, takeWords, bytesOfTaken}
 use Rattle.unit.specs.PowerOn.{notLong}
 use Rattle.unit.specs.Own.{startChecks}
 use Rattle.unit.specs.Own.{isClaimed}
@@ -53,9 +49,6 @@ abbrev pub filled : ℕ → List ℕ → List ℕ → List ℕ
 filled r words answer = cond (eqb r 0) words answer
 
 -- ---- deorasaeng_frame
-abbrev pub frameLength : ℕ
-frameLength = 7
-
 unfoldable pub frameNumber : ℕ → ℕ → ℕ → ℕ → ℕ → ℕ → ℕ
 frameNumber ports lent lentAnswer port id len =
     first
@@ -66,50 +59,20 @@ frameNumber ports lent lentAnswer port id len =
     ∷ check (wrongSource id) 5
     ∷ [])
 
--- consumed (0, 1), accepted ports, lost ports, claim event, old NAME, ports where the unit's own frame was lost, entries compared
-abbrev pub frameWords : FrameAnswer → List ℕ
-frameWords a = cond (a .consumed) 1 0 ∷ a .accepted ∷ a .lost ∷ eventNumber (a .event) ∷ oldName (a .event) ∷ a .unsent ∷ a .compared ∷ []
-
 pub record FrameCall (ports : ℕ) (before after : List ℕ) (port id : ℕ) (bytes answer told : List ℕ) (r : ℕ) : Type 0 where
   pub number : r ≡ frameNumber ports (length before) (length answer) port id (length bytes)
   pub served : Served ports before after (FrameIn port id bytes) r
   pub tells : told ≡ filled r (frameWords (frameAnswer ports (length before) (modelOf ports before) port id bytes)) answer
 
 -- ---- deorasaeng_take
-abbrev pub takeLength : ℕ
-takeLength = 3
-
-abbrev pub bytesLength : ℕ
-bytesLength = 8
-
 unfoldable pub takeNumber : ℕ → ℕ → ℕ → ℕ → ℕ → ℕ
 takeNumber ports lent lentAnswer lentBytes port =
     first (check (noPort ports port) 1 ∷ check (notLong ports lent || notOf takeLength lentAnswer || notOf bytesLength lentBytes) 2 ∷ [])
-
--- 1 for a frame and 0 for nothing waiting, identifier, length
-abbrev pub takeWords : Taken → List ℕ
-takeWords (Given f) = 1 ∷ f .id ∷ f .len ∷ []
-takeWords Nothing = 0 ∷ 0 ∷ 0 ∷ []
-
--- "the frame's bytes, 0 past its length"
-unfoldable pub bytesOfFrame : Frame → List ℕ
-bytesOfFrame f = take (f .len) (bytesOf bytesLength (f .bytes)) ++ replicate (bytesLength - f .len) 0
-
--- "untouched when nothing waits"
-abbrev pub bytesOfTaken : Taken → List ℕ → List ℕ
-bytesOfTaken (Given f) bytes = bytesOfFrame f
-bytesOfTaken Nothing bytes = bytes
 
 -- what a take that is not refused gave
 abbrev pub gave : TakeAnswer → Taken
 gave (Refused number) = Nothing
 gave (Took taken) = taken
-
--- what the private function ensures that tells a take that is done
-pub record Telling (told bytes written : List ℕ) (taken : Taken) (r : ℕ) : Type 0 where
-  pub number : r ≡ 0
-  pub tells : told ≡ takeWords taken
-  pub writes : written ≡ bytesOfTaken taken bytes
 
 pub record TakeCall (ports : ℕ) (before after : List ℕ) (port : ℕ) (answer told bytes written : List ℕ) (r : ℕ) : Type 0 where
   pub number : r ≡ takeNumber ports (length before) (length answer) (length bytes) port
@@ -141,8 +104,8 @@ repliedTo ports lent lentReply lentAnswer rest port requester payload =
     (silentReply (messageNumber ports lent lentReply lentAnswer rest port requester (length payload)) (rest .pairs))
 
 -- PGN and length of what was written: a refusal fills them too, unless the answer itself is not of its length
-abbrev pub messageWords : Replied → List ℕ → List ℕ
-messageWords a answer = cond (notOf messageLength (length answer)) answer (a .pgn ∷ length (a .written) ∷ [])
+abbrev pub messageWords : Replied → Seen → List ℕ → List ℕ
+messageWords a seen answer = cond (notOf messageLength (length answer)) answer (a .pgn ∷ length (a .written seen) ∷ [])
 
 -- the bytes that are written, and the others as they were
 abbrev pub over : List ℕ → List ℕ → List ℕ
@@ -151,8 +114,8 @@ over written bytes = written ++ drop (length written) bytes
 pub record MessageCall (ports : ℕ) (before after : List ℕ) (port requester : ℕ) (payload reply back answer told : List ℕ) (r : ℕ) : Type 0 where
   pub number : r ≡ repliedTo ports (length before) (length reply) (length answer) (modelOf ports before .rest) port requester payload .number
   pub served : Served ports before after (Message port requester payload (length reply)) r
-  pub writes : back ≡ over (repliedTo ports (length before) (length reply) (length answer) (modelOf ports before .rest) port requester payload .written) reply
-  pub tells : told ≡ messageWords (repliedTo ports (length before) (length reply) (length answer) (modelOf ports before .rest) port requester payload) answer
+  pub writes : back ≡ over (repliedTo ports (length before) (length reply) (length answer) (modelOf ports before .rest) port requester payload .written (modelOf ports before .seen)) reply
+  pub tells : told ≡ messageWords (repliedTo ports (length before) (length reply) (length answer) (modelOf ports before .rest) port requester payload) (modelOf ports before .seen) answer
 
 -- ---- deorasaeng_start
 abbrev pub startLength : ℕ

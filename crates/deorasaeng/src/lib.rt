@@ -1,7 +1,5 @@
 // The C interface of the unit: exported functions over numbers and slices alone. Each gives 0 for done or the number that refuses the call, and requires
 // nothing: a wrong length is refused with 2.
-mod answers;
-
 use bridge::TakeAnswer;
 use queue::Queue;
 use unit::Unit;
@@ -10,14 +8,20 @@ ghost use Rattle.unit.specs.PowerOn.{PoweringOn};
 ghost use Rattle.bridge.specs.Calls.{Quieting};
 ghost use Rattle.deorasaeng.specs.Interface.{lentRefusal, FrameCall, TakeCall, MessageCall, StartCall, QueueCall};
 
+// The published lengths of the answers.
+pub const FRAME_WORDS: usize = 7;
+
+pub const TAKE_WORDS: usize = 3;
+
+pub const MESSAGE_WORDS: usize = 2;
+
+pub const START_WORDS: usize = 1;
+
 // The number of a call that names a port and lends storage of a wrong length: 1 stands before 2.
 fn lent_refusal(port: u32) -> u32
     ensures { λ r. ⌜ r ≡ lentRefusal 4 port ⌝ }
 {
-    if port < 1 {
-        return 1;
-    }
-    if 4 < port {
+    if !checks::is_port(port) {
         return 1;
     }
     2
@@ -42,7 +46,7 @@ pub extern "C" fn deorasaeng_frame(
 ) -> u32
     ensures { λ r. ⌜ FrameCall 4 (now (words .entry)) (now (words .exit)) port id (now (bytes .entry)) (now (answer .entry)) (now (answer .exit)) r ⌝ }
 {
-    if answer.len() != answers::FRAME_WORDS {
+    if answer.len() != FRAME_WORDS {
         return lent_refusal(port);
     }
     let a = bridge::frame(words, port, id, bytes);
@@ -50,7 +54,7 @@ pub extern "C" fn deorasaeng_frame(
     if number != 0 {
         return number;
     }
-    answers::tell_frame(answer, a);
+    flat_answers::tell_frame(answer, a);
     0
 }
 
@@ -64,16 +68,16 @@ pub extern "C" fn deorasaeng_take(
 ) -> u32
     ensures { λ r. ⌜ TakeCall 4 (now (words .entry)) (now (words .exit)) port (now (answer .entry)) (now (answer .exit)) (now (bytes .entry)) (now (bytes .exit)) r ⌝ }
 {
-    if answer.len() != answers::TAKE_WORDS {
+    if answer.len() != TAKE_WORDS {
         return lent_refusal(port);
     }
-    if bytes.len() != answers::FRAME_BYTES {
+    if bytes.len() != flat_answers::FRAME_BYTES {
         return lent_refusal(port);
     }
     let t = bridge::take(words, port);
     match t {
         TakeAnswer::Refused(number) => number,
-        TakeAnswer::Took(taken) => answers::tell_taken(answer, bytes, taken),
+        TakeAnswer::Took(taken) => flat_answers::tell_taken(answer, bytes, taken),
     }
 }
 
@@ -89,7 +93,7 @@ pub extern "C" fn deorasaeng_message(
 ) -> u32
     ensures { λ r. ⌜ MessageCall 4 (now (words .entry)) (now (words .exit)) port requester (now (payload .entry)) (now (reply .entry)) (now (reply .exit)) (now (answer .entry)) (now (answer .exit)) r ⌝ }
 {
-    if answer.len() != answers::MESSAGE_WORDS {
+    if answer.len() != MESSAGE_WORDS {
         return lent_refusal(port);
     }
     let a = bridge::message(words, port, requester, payload, reply);
@@ -103,7 +107,7 @@ pub extern "C" fn deorasaeng_message(
 pub extern "C" fn deorasaeng_start(words: &mut [u64], answer: &mut [u64]) -> u32
     ensures { λ r. ⌜ StartCall 4 (now (words .entry)) (now (words .exit)) (now (answer .entry)) (now (answer .exit)) r ⌝ }
 {
-    if answer.len() != answers::START_WORDS {
+    if answer.len() != START_WORDS {
         return 2;
     }
     let a = bridge::start(words);
@@ -133,16 +137,16 @@ struct AfterTold {
 fn take_told(queue: Queue, answer: &mut [u64], bytes: &mut [u8]) -> AfterTold
     ensures { λ r. ⌜ QueueCall (queue .words) (r .queue .words) (now (answer .entry)) (now (answer .exit)) (now (bytes .entry)) (now (bytes .exit)) (r .number) ⌝ }
 {
-    if answer.len() != answers::TAKE_WORDS {
+    if answer.len() != TAKE_WORDS {
         return AfterTold { queue, number: 2 };
     }
-    if bytes.len() != answers::FRAME_BYTES {
+    if bytes.len() != flat_answers::FRAME_BYTES {
         return AfterTold { queue, number: 2 };
     }
     let t = queue.take();
     let rest = t.queue;
     let taken = t.taken;
-    let number = answers::tell_taken(answer, bytes, taken);
+    let number = flat_answers::tell_taken(answer, bytes, taken);
     AfterTold {
         queue: rest,
         number,

@@ -1,4 +1,4 @@
--- What the words of a block mean: the mode word decides, and the list stands at the front of the PGNs. Assumes nothing.
+-- What the words of a block mean: the mode word decides, and the PGNs stand at the front of the list. Assumes nothing.
 use mathlib.Core.Path.{_≡_, refl, sym, ap, _∙_}
 use mathlib.Core.Bool.{Bool, true, false, cond, false≢true}
 use mathlib.Core.List.{List, [], _∷_}
@@ -7,9 +7,9 @@ use native.Mathlib.Omega.{arith}
 use borrow.Author.Tests.{ne-eqb, lt-ltb}
 use lib.Dec.{eqb, ltb, eqb·suc-zero}
 use lib.ListN.{length, getD, take, drop, set, length-take, length-drop}
-use lib.Seq.{take-all, getD-take, getD-drop}
-use Rattle.filter.specs.Filter.{blockSize, listSize, clear, meant, filterOf, reportedMode, permits, Counting}
-use Rattle.filter.specs.Changes.{isCleared}
+use lib.Seq.{getD-take, getD-drop, length-take-le}
+use Rattle.filter.specs.Filter.{modePlace, countPlace, listPlace, listOf, blockSize, clear, meant, filterOf, reportedMode, permits, Counting, isCleared}
+use Rattle.pgn_list.specs.PgnList.{listSize}
 
 -- ---- the mode word
 pub cleared-test : (m : ℕ) (es : List ℕ) → isCleared (meant m es .mode) ≡ eqb m 0
@@ -33,6 +33,12 @@ permits-test (suc (suc m)) es true h = sym (lt-ltb 1 (suc (suc m)) (omega arith)
 permits-test (suc (suc m)) es false h = sym (ne-eqb (suc (suc m)) 1 (λ z. omega arith))
 
 -- ---- the list
+pub list-long : (words : List ℕ) → length words ≡ blockSize → length (listOf words) ≡ listSize
+list-long words long = length-take-le listSize (drop listPlace words) (omega (arith, length-drop listPlace words))
+
+pub list-at : (words : List ℕ) (i : ℕ) → i < listSize → getD (listOf words) i 0 ≡ getD words (listPlace + i) 0
+list-at words i h = getD-take listSize (drop listPlace words) i 0 h ∙ getD-drop listPlace words i 0
+
 pub meant-entries : (m : ℕ) (es : List ℕ) → (m ≡ 0 → ⊥) → meant m es .entries ≡ es
 unfolding meant
 meant-entries zero es h = absurd (h refl)
@@ -47,7 +53,7 @@ none-of (suc (suc m)) es e = absurd (false≢true e)
 
 pub cleared-none : (words : List ℕ) → isCleared (filterOf words .mode) ≡ true → filterOf words .entries ≡ []
 unfolding filterOf
-cleared-none words e = none-of (getD words 0 0) (take (getD words 1 0) (drop 2 words)) e
+cleared-none words e = none-of (getD words modePlace 0) (take (getD words countPlace 0) (listOf words)) e
 
 take-again : (c : ℕ) (l : List ℕ) → take (length (take c l)) l ≡ take c l
 take-again zero l = refl
@@ -61,21 +67,21 @@ front-of (suc zero) c l = take-again c l
 front-of (suc (suc m)) c l = take-again c l
 
 -- the first n of the PGNs are the list, where n is how many it holds
-pub front : {words : List ℕ} {n : ℕ} → Counting words n → take n (drop 2 words) ≡ filterOf words .entries
+pub front : {words : List ℕ} {n : ℕ} → Counting words n → take n (listOf words) ≡ filterOf words .entries
 unfolding filterOf
-front {words} {n} C = rw (C .number) (front-of (getD words 0 0) (getD words 1 0) (drop 2 words))
+front {words} {n} C = rw (C .number) (front-of (getD words modePlace 0) (getD words countPlace 0) (listOf words))
 
 -- ---- counting
 module _ {words : List ℕ} (long : length words ≡ blockSize) where
-  pub count-cleared : getD words 0 0 ≡ 0 → Counting words 0
+  pub count-cleared : getD words modePlace 0 ≡ 0 → Counting words 0
   unfolding filterOf meant
   count-cleared h = record { number = rw h refl; small = zero-le }
 
-  pub count-listed : {n : ℕ} → (getD words 0 0 ≡ 0 → ⊥) → n ≡ min (getD words 1 0) listSize → Counting words n
+  pub count-listed : {n : ℕ} → (getD words modePlace 0 ≡ 0 → ⊥) → n ≡ min (getD words countPlace 0) listSize → Counting words n
   unfolding filterOf
   count-listed {n} h e =
-      let l : length (take (getD words 1 0) (drop 2 words)) ≡ min (getD words 1 0) listSize = length-take (getD words 1 0) (drop 2 words) ∙ rw (length-drop 2 words, long) in
-      record { number = rw (meant-entries (getD words 0 0) (take (getD words 1 0) (drop 2 words)) h) (e ∙ sym l); small = omega arith }
+      let l : length (take (getD words countPlace 0) (listOf words)) ≡ min (getD words countPlace 0) listSize = length-take (getD words countPlace 0) (listOf words) ∙ rw (list-long words long) in
+      record { number = rw (meant-entries (getD words modePlace 0) (take (getD words countPlace 0) (listOf words)) h) (e ∙ sym l); small = omega arith }
 
 few-of : (m c : ℕ) (l : List ℕ) → length l ≡ listSize → length (meant m (take c l) .entries) ≤ listSize
 unfolding meant
@@ -85,20 +91,14 @@ few-of (suc (suc m)) c l h = omega (arith, length-take c l)
 
 pub counting : (words : List ℕ) → length words ≡ blockSize → Counting words (length (filterOf words .entries))
 unfolding filterOf
-counting words long = record { number = refl; small = few-of (getD words 0 0) (getD words 1 0) (drop 2 words) (omega (arith, length-drop 2 words)) }
+counting words long = record { number = refl; small = few-of (getD words modePlace 0) (getD words countPlace 0) (listOf words) (list-long words long) }
 
-pub pgn-is : (words : List ℕ) (i : ℕ) → length words ≡ blockSize → i < length (filterOf words .entries) → getD words (2 + i) 0 ≡ getD (filterOf words .entries) i 0
+pub pgn-is : (words : List ℕ) (i : ℕ) → length words ≡ blockSize → i < length (filterOf words .entries) → getD words (listPlace + i) 0 ≡ getD (filterOf words .entries) i 0
 pgn-is words i long h =
-    rw (← (front (counting words long)), getD-take (length (filterOf words .entries)) (drop 2 words) i 0 h, getD-drop 2 words i 0)
+    let C = counting words long in
+    rw (← (front C), getD-take (length (filterOf words .entries)) (listOf words) i 0 h, list-at words i (omega (arith, C .small)))
 
 pub cleared-is : (words : List ℕ) → filterOf (set words 0 0) ≡ clear
 unfolding filterOf meant
 cleared-is [] = refl
 cleared-is (m ∷ words) = refl
-
--- the list as a part of the block
-pub part : (words : List ℕ) → length words ≡ blockSize → take (length words - 2) (drop 2 words) ≡ drop 2 words
-part words long = take-all (length words - 2) (drop 2 words) (omega (arith, length-drop 2 words))
-
-pub part-long : (words : List ℕ) → length words ≡ blockSize → length (take (length words - 2) (drop 2 words)) ≡ length words - 2
-part-long words long = rw (part words long) (length-drop 2 words)

@@ -1,20 +1,31 @@
 -- One directed pair's filter: what its block of words means, and what asking it answers.
 -- Assumes nothing.
 use Prim.Native.Nat.{ℕ, zero, suc, _+_, _≤_}
-use mathlib.Core.Bool.{Bool, true, false, cond, not, _||_}
+use mathlib.Core.Bool.{Bool, true, false, cond, not}
 use mathlib.Core.Path.{_≡_}
 use mathlib.Core.List.{List, [], _∷_}
 use lib.ListN.{length, take, drop, getD}
 use lib.Dec.{eqb}
+use Rattle.entries.specs.Entries.{listed}
+use Rattle.pgn_list.specs.PgnList.{listSize}
 use Rattle.filter.specs.declared.Asked.{Asked}
 
--- "a list of at most 32 PGNs"
-abbrev pub listSize : ℕ
-listSize = 32
+-- where a block has its mode, its count and its list, which is of as many words as a list holds
+abbrev pub modePlace : ℕ
+modePlace = 0
 
--- the words of a block: mode, count, the PGNs
+abbrev pub countPlace : ℕ
+countPlace = 1
+
+abbrev pub listPlace : ℕ
+listPlace = 2
+
+abbrev pub listOf : List ℕ → List ℕ
+listOf words = take listSize (drop listPlace words)
+
+-- the words of a block
 abbrev pub blockSize : ℕ
-blockSize = 2 + listSize
+blockSize = listPlace + listSize
 
 -- cleared, block (mode 0) or pass (mode 1)
 pub data Mode : Type 0 where
@@ -30,20 +41,21 @@ pub record Filter : Type 0 where
 abbrev pub clear : Filter
 clear = record { mode = cleared; entries = [] }
 
+-- 15, Add and Delete: the pair is cleared. 14, Create: it is not.
+unfoldable pub isCleared : Mode → Bool
+isCleared cleared = true
+isCleared block = false
+isCleared pass = false
+
 -- by the mode word: 0 is cleared and has no entries, whatever the count says; 1 blocks; any other passes
 unfoldable pub meant : ℕ → List ℕ → Filter
 meant zero es = clear
 meant (suc zero) es = record { mode = block; entries = es }
 meant (suc (suc m)) es = record { mode = pass; entries = es }
 
--- what a block means: its list is the first `count` of its PGNs. Those past the count are the block's free part.
+-- what a block means: its PGNs are the first `count` of its list. Those past the count are the block's free part.
 unfoldable pub filterOf : List ℕ → Filter
-filterOf words = meant (getD words 0 0) (take (getD words 1 0) (drop 2 words))
-
--- whether x is in a list
-unfoldable pub listed : ℕ → List ℕ → Bool
-listed x [] = false
-listed x (y ∷ ys) = eqb y x || listed x ys
+filterOf words = meant (getD words modePlace 0) (take (getD words countPlace 0) (listOf words))
 
 -- forwarding rule 2: what a pair of that mode permits, by whether the PGN is listed
 unfoldable pub permits : Mode → Bool → Bool

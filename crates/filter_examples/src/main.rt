@@ -90,10 +90,10 @@ fn add(text: &[u8], block: &mut [u64], bytes: &[u8]) {
     let mut refusal = 0;
     if filter::is_cleared(block) {
         refusal = 15;
-    } else if filter::would_pass(block, bytes) {
+    } else if filter_commands::would_pass(block, bytes) {
         refusal = 16;
     }
-    let done = filter::add(block, bytes);
+    let done = filter_commands::add(block, bytes);
     outcome(block, done, refusal);
 }
 
@@ -106,10 +106,10 @@ fn delete(text: &[u8], block: &mut [u64], bytes: &[u8]) {
     let mut refusal = 0;
     if filter::is_cleared(block) {
         refusal = 15;
-    } else if filter::lacks(block, bytes) {
+    } else if filter_commands::lacks(block, bytes) {
         refusal = 17;
     }
-    let done = filter::delete(block, bytes);
+    let done = filter_commands::delete(block, bytes);
     outcome(block, done, refusal);
 }
 
@@ -122,10 +122,10 @@ fn create(text: &[u8], block: &mut [u64], pass: bool, bytes: &[u8]) {
     let mut refusal = 0;
     if !filter::is_cleared(block) {
         refusal = 14;
-    } else if filter::would_pass(block, bytes) {
+    } else if filter_commands::would_pass(block, bytes) {
         refusal = 16;
     }
-    let done = filter::create(block, pass, bytes);
+    let done = filter_commands::create(block, pass, bytes);
     outcome(block, done, refusal);
 }
 
@@ -135,14 +135,14 @@ fn clear(block: &mut [u64]) {
         return;
     }
     say(b"Clear");
-    filter::clear(block);
+    filter_commands::clear(block);
     outcome(block, true, 0);
 }
 
 // Whether bytes are entries.
 fn entries(text: &[u8], bytes: &[u8]) {
     say(text);
-    if filter::entries::well_formed(bytes) {
+    if entries::well_formed(bytes) {
         say(b": entries\n");
     } else {
         say(b": refused with 12\n");
@@ -235,7 +235,7 @@ fn three_bytes() {
 
 // The cases, one after the other on one pair.
 fn main() {
-    let mut block = [0u64; 34];
+    let mut block = [0u64; filter::BLOCK_SIZE];
     cleared_pair(&mut block);
     pass_pair(&mut block);
     longer_pair(&mut block);

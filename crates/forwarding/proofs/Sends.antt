@@ -20,9 +20,9 @@ verdict-is : {before : List ℕ} {p q pgn : ℕ} {v : Asked} → (p ≡ q → �
 unfolding verdict
 verdict-is {before} {p} {q} ne P = rw (ne-eqb p q ne) (sym (P .answer))
 
-module _ {before : List ℕ} {p q bit pgn : ℕ} {f : Frame} where
+module _ {before : List ℕ} {p q bit : ℕ} (pgn : ℕ) {f : Frame} where
   -- the arrival port
-  pub send-self : p ≡ q → Sending 4 before before p q bit pgn f (record { accepted = 0; lost = 0; compared = 0 })
+  pub send-self : p ≡ q → Sending 4 before before (verdict 4 (modelOf 4 before .rest .pairs) p pgn q) q bit f (record { accepted = 0; lost = 0; compared = 0 })
   unfolding verdict
   send-self e = record {
     answer = rw (eq-eqb p q e);
@@ -31,7 +31,7 @@ module _ {before : List ℕ} {p q bit pgn : ℕ} {f : Frame} where
   }
 
   module _ {v : Asked} (ne : p ≡ q → ⊥) (P : PairAsking 4 before p q pgn v) where
-    pub send-stopped : v .permitted ≡ false → Sending 4 before before p q bit pgn f (record { accepted = 0; lost = 0; compared = v .compared })
+    pub send-stopped : v .permitted ≡ false → Sending 4 before before (verdict 4 (modelOf 4 before .rest .pairs) p pgn q) q bit f (record { accepted = 0; lost = 0; compared = v .compared })
     send-stopped e = record {
       answer = rw (verdict-is ne P, e);
       state = rw (verdict-is ne P, e) (row-same (modelOf 4 before) q);
@@ -39,7 +39,7 @@ module _ {before : List ℕ} {p q bit pgn : ℕ} {f : Frame} where
     }
 
     pub send-permitted : {after : List ℕ} {w : Bool} (b : Bool) → v .permitted ≡ true → w ≡ b → RowJoining 4 before after q f w
-        → Sending 4 before after p q bit pgn f (record { accepted = cond b bit 0; lost = cond (not b) bit 0; compared = v .compared })
+        → Sending 4 before after (verdict 4 (modelOf 4 before .rest .pairs) p pgn q) q bit f (record { accepted = cond b bit 0; lost = cond (not b) bit 0; compared = v .compared })
     send-permitted b e h J = record {
       answer = rw (verdict-is ne P, e, ← (J .answer), h);
       state = rw (verdict-is ne P, e) (J .state);

@@ -4,7 +4,8 @@ use unit::Sent;
 ghost use mathlib.Core.Path.{_≡_};
 ghost use Prim.Native.Nat.{_<_};
 ghost use lib.ListN.{length};
-ghost use Rattle.unit.specs.Model.{recordLength};
+ghost use Rattle.unit.specs.Model.{modelOf, recordLength};
+ghost use Rattle.forwarding.specs.Forwarding.{verdict};
 ghost use Rattle.forwarding.specs.Steps.{Sending, Forwarding, Announcing, OwnJoining};
 
 // What came of a frame: accepted and lost ports as masks, bit p - 1 for port p, and the entries compared.
@@ -17,7 +18,7 @@ pub struct Share {
 // A frame from one port at another: the pair is asked, and the frame joins where it is permitted.
 fn send(words: &mut [u64], from: usize, to: usize, bit: u32, pgn: u32, f: Frame) -> Share
     requires { ⌜ (length (now words) ≡ recordLength 4) × (from < 4) × (to < 4) ⌝ }
-    ensures { λ r. ⌜ Sending 4 (now (words .entry)) (now (words .exit)) from to bit pgn f r ⌝ }
+    ensures { λ r. ⌜ Sending 4 (now (words .entry)) (now (words .exit)) (verdict 4 (modelOf 4 (now (words .entry)) .rest .pairs) from pgn to) to bit f r ⌝ }
 {
     if from == to {
         return Share {
@@ -53,7 +54,7 @@ fn send(words: &mut [u64], from: usize, to: usize, bit: u32, pgn: u32, f: Frame)
 // A frame from one port at every other.
 pub fn forward(words: &mut [u64], from: usize, pgn: u32, f: Frame) -> Share
     requires { ⌜ (length (now words) ≡ recordLength 4) × (from < 4) ⌝ }
-    ensures { λ r. ⌜ Forwarding 4 (now (words .entry)) (now (words .exit)) from pgn f r ⌝ }
+    ensures { λ r. ⌜ Forwarding 4 (now (words .entry)) (now (words .exit)) (verdict 4 (modelOf 4 (now (words .entry)) .rest .pairs) from pgn) f r ⌝ }
 {
     let mut accepted: u32 = 0;
     let mut lost: u32 = 0;

@@ -2,26 +2,28 @@
 use mathlib.Core.Path.{_≡_, refl, sym, _∙_}
 use mathlib.Core.Bool.{Bool, false}
 use mathlib.Core.List.{List}
-use Prim.Native.Nat.{ℕ, _-_, _≤_, _<_}
+use Prim.Native.Nat.{ℕ, _-_, _≤_}
 use native.Mathlib.Omega.{arith}
 use borrow.Author.Tests.{eq-eqb, ne-eqb}
 use lib.ListN.{length}
-use Rattle.identifier.specs.Identifier.{saOf, wrongSource}
+use Rattle.identifier.specs.Identifier.{pgnOf}
 use Rattle.filter.specs.declared.Asked.{Asked}
 use Rattle.queue.specs.declared.Frame.{Frame}
-use Rattle.addresses.specs.declared.Event.{Event}
+use Rattle.address_claims.specs.declared.Event.{Event}
 use Rattle.unit.specs.declared.Sent.{Sent}
 use Rattle.claims.specs.declared.Acted.{Acted as Done}
 use Rattle.unit.specs.Model.{Model, modelOf, recordLength}
-use Rattle.refusals.specs.Refusals.{noPort, takeRefusal}
-use Rattle.unit.specs.PowerOn.{notLong, powerOnRefusal}
-use Rattle.forwarding.specs.Forwarding.{verdict}
-use Rattle.claims.specs.Claims.{frameActed}
-use Rattle.record.specs.Steps.{PairAsking, RowJoining}
+use Rattle.unit.specs.Own.{consumes}
+use Rattle.unit.specs.PowerOn.{powerOnRefusal}
+use Rattle.checks.specs.Ports.{noPort}
+use Rattle.refusals.specs.Refusals.{frameRefusal}
+use Rattle.forwarding.specs.Forwarding.{silent, verdict}
 use Rattle.forwarding.specs.Steps.{Announcing}
+use Rattle.claims.specs.Claims.{frameOf, isClaim, frameActed}
 use Rattle.claims.specs.Steps.{Acting}
-use Rattle.frame_parts.specs.Parts.{Changing, askRefusal, askAnswer, joinAnswer, PartJoining, actRefusal, actAnswer, PartActing, announceAnswer, PartAnnouncing}
-use Rattle.refusals.proofs.Checks.{none, port-in, long-in, source-in, take-goes}
+use Rattle.record.specs.Steps.{PairAsking, RowJoining}
+use Rattle.frame_parts.specs.Parts.{Changing, turnedAway, arrival, pairRefusal, askedOf, askAnswer, PartAsking, joinAnswer, joinedModel, PartJoining, actAnswer, PartActing, announceAnswer, PartAnnouncing}
+use Rattle.refusals.proofs.Checks.{none, port-in, frame-goes}
 
 -- ---- any part that changes the record
 module _ {before : List ℕ} {refusal : ℕ} {then : Model} where
@@ -31,48 +33,56 @@ module _ {before : List ℕ} {refusal : ℕ} {then : Model} where
   pub changed : {after : List ℕ} → refusal ≡ 0 → length after ≡ length before → modelOf 4 after ≡ then → Changing 4 before after refusal then
   changed z long state = record { long = long; state = rw (eq-eqb refusal 0 z) state; refused = λ h. absurd (h z) }
 
--- ---- ask
-pub ask-goes : (lent from to : ℕ) → askRefusal 4 lent from to ≡ 0 → (lent ≡ recordLength 4) × (1 ≤ from) × (from ≤ 4) × (1 ≤ to) × (to ≤ 4)
-unfolding askRefusal
-ask-goes lent from to e =
+-- ---- arrive
+module _ (words : List ℕ) (port id : ℕ) (bytes : List ℕ) {n : ℕ} (e : n ≡ frameRefusal 4 (length words) port id (length bytes)) where
+  pub arrive-refused : (n ≡ 0 → ⊥) → turnedAway n ≡ arrival 4 (length words) (modelOf 4 words .rest) port id bytes
+  unfolding arrival
+  arrive-refused h = rw (← e, ne-eqb n 0 h)
+
+  pub arrive-goes : {f : Frame} {consumed claim : Bool} → n ≡ 0 → f ≡ frameOf id bytes → consumed ≡ consumes (modelOf 4 words .rest .own) id → claim ≡ isClaim f
+      → record { refusal = 0; frame = f; consumed = consumed; claim = claim } ≡ arrival 4 (length words) (modelOf 4 words .rest) port id bytes
+  unfolding arrival
+  arrive-goes z g c k = rw (← e, eq-eqb n 0 z, k, c, g)
+
+-- ---- from one port to another
+pub pair-goes : (lent from to id len : ℕ) → pairRefusal 4 lent from to id len ≡ 0 → (lent ≡ recordLength 4) × (1 ≤ from) × (from ≤ 4) × (1 ≤ to) × (to ≤ 4)
+unfolding pairRefusal
+pair-goes lent from to id len e =
     let a = none (noPort 4 to) 1 (omega arith) e in
-    let t = take-goes lent from (a .1) in
+    let t = frame-goes lent from id len (a .1) in
     let p = port-in 4 to (a .0) in
     (t .0, t .1, t .2, p .0, p .1)
 
-module _ (words : List ℕ) (from to pgn : ℕ) {n : ℕ} (e : n ≡ askRefusal 4 (length words) from to) where
-  pub ask-refused : (n ≡ 0 → ⊥) → record { refusal = n; permitted = false; compared = 0 } ≡ askAnswer 4 (length words) (modelOf 4 words) from to pgn
+-- ---- ask
+module _ (words : List ℕ) (from to id : ℕ) {n : ℕ} (e : n ≡ pairRefusal 4 (length words) from to id 0) where
+  pub ask-refused : (n ≡ 0 → ⊥) → PartAsking 4 words from to id (askedOf n silent)
   unfolding askAnswer
-  ask-refused h = rw (← e, ne-eqb n 0 h)
+  ask-refused h = record { answer = rw (← e, ne-eqb n 0 h); small = omega arith }
 
-  pub ask-self : n ≡ 0 → from ≡ to → record { refusal = 0; permitted = false; compared = 0 } ≡ askAnswer 4 (length words) (modelOf 4 words) from to pgn
+  pub ask-self : n ≡ 0 → from ≡ to → PartAsking 4 words from to id (askedOf 0 silent)
   unfolding askAnswer verdict
-  ask-self z s = rw (← e, eq-eqb n 0 z, s, eq-eqb (to - 1) (to - 1) refl)
+  ask-self z s = record { answer = rw (← e, eq-eqb n 0 z, s, eq-eqb (to - 1) (to - 1) refl); small = omega arith }
 
-  pub ask-pair : {v : Asked} → n ≡ 0 → (from - 1 ≡ to - 1 → ⊥) → PairAsking 4 words (from - 1) (to - 1) pgn v → record { refusal = 0; permitted = v .permitted; compared = v .compared } ≡ askAnswer 4 (length words) (modelOf 4 words) from to pgn
+  pub ask-pair : {pgn : ℕ} {v : Asked} → n ≡ 0 → (from - 1 ≡ to - 1 → ⊥) → pgn ≡ pgnOf id → PairAsking 4 words (from - 1) (to - 1) pgn v → PartAsking 4 words from to id (askedOf 0 v)
   unfolding askAnswer verdict
-  ask-pair z h P = rw (← e, eq-eqb n 0 z, ne-eqb (from - 1) (to - 1) h, ← (P .answer))
+  ask-pair z h g P = record { answer = rw (← e, eq-eqb n 0 z, ne-eqb (from - 1) (to - 1) h, ← g, ← (P .answer)); small = P .small }
 
 -- ---- join
-module _ {words : List ℕ} (port : ℕ) (f : Frame) {n : ℕ} (e : n ≡ takeRefusal 4 (length words) port) where
-  pub join-refused : (n ≡ 0 → ⊥) → PartJoining 4 words words port f (record { refusal = n; accepted = false })
+module _ {words : List ℕ} (from to : ℕ) (f : Frame) {n : ℕ} (e : n ≡ pairRefusal 4 (length words) from to (f .id) (f .len)) where
+  pub join-refused : (n ≡ 0 → ⊥) → PartJoining 4 words words from to f (record { refusal = n; accepted = false })
   unfolding joinAnswer
   join-refused h = record { answer = rw (← e, ne-eqb n 0 h); change = unchanged (λ z. h (e ∙ z)) }
 
-  pub joined : {after : List ℕ} {w : Bool} → n ≡ 0 → length after ≡ length words → RowJoining 4 words after (port - 1) f w → PartJoining 4 words after port f (record { refusal = 0; accepted = w })
-  unfolding joinAnswer
-  joined z long J = record { answer = rw (← e, z, J .answer); change = changed (sym e ∙ z) long (J .state) }
+  pub join-self : n ≡ 0 → from ≡ to → PartJoining 4 words words from to f (record { refusal = 0; accepted = false })
+  unfolding joinAnswer joinedModel
+  join-self z s = record { answer = rw (← e, z, eq-eqb from to s); change = changed (sym e ∙ z) refl (rw (eq-eqb from to s)) }
+
+  pub joined : {after : List ℕ} {w : Bool} → n ≡ 0 → (from ≡ to → ⊥) → length after ≡ length words → RowJoining 4 words after (to - 1) f w → PartJoining 4 words after from to f (record { refusal = 0; accepted = w })
+  unfolding joinAnswer joinedModel
+  joined z h long J = record { answer = rw (← e, z, ne-eqb from to h, J .answer); change = changed (sym e ∙ z) long (rw (ne-eqb from to h) (J .state)) }
 
 -- ---- act
-pub act-goes : (lent port id : ℕ) → actRefusal 4 lent port id ≡ 0 → (lent ≡ recordLength 4) × (saOf id < 255)
-unfolding actRefusal
-act-goes lent port id e =
-    let a = none (noPort 4 port) 1 (omega arith) e in
-    let b = none (notLong 4 lent) 2 (omega arith) (a .1) in
-    let d = none (wrongSource id) 5 (omega arith) (b .1) in
-    (long-in lent (b .0), source-in id (d .0))
-
-module _ {words : List ℕ} (port : ℕ) (consumed : Bool) (f : Frame) {n : ℕ} (e : n ≡ actRefusal 4 (length words) port (f .id)) where
+module _ {words : List ℕ} (port : ℕ) (consumed : Bool) (f : Frame) {n : ℕ} (e : n ≡ frameRefusal 4 (length words) port (f .id) (f .len)) where
   pub act-refused : (n ≡ 0 → ⊥) → PartActing 4 words words port consumed f (record { refusal = n; event = Event.Nothing; sent = Sent.Nothing })
   unfolding actAnswer
   act-refused h = record { answer = rw (← e, ne-eqb n 0 h); change = unchanged (λ z. h (e ∙ z)) }

@@ -1,29 +1,32 @@
--- The parts that a frame's call is made of, as calls of their own: ask one pair, send a frame to one port, act on a claim or request, send the unit's
--- own frame. Each says what it answers and what it does to the model; another product is built on these alone.
+-- The parts that a frame's call is made of, as calls of their own: a frame arrives, one pair is asked, a frame is sent to one port, a claim or request is
+-- acted on, the unit's own frame is sent. Each says what it answers and what it does to the model; another product is built on these alone.
 -- Assumes nothing.
-use Prim.Native.Nat.{ℕ, _-_}
-use mathlib.Core.Bool.{Bool, false, _&&_, cond}
+use Prim.Native.Nat.{ℕ, _-_, _≤_}
+use mathlib.Core.Bool.{Bool, false, not, _&&_, cond}
 use mathlib.Core.Path.{_≡_}
-use mathlib.Core.List.{List, [], _∷_}
+use mathlib.Core.List.{List}
 use lib.ListN.{length}
 use lib.Dec.{eqb}
-use Rattle.identifier.specs.Identifier.{wrongSource}
+use Rattle.identifier.specs.Identifier.{pgnOf}
 use Rattle.delivery.specs.Row.{room, join}
 use Rattle.filter.specs.declared.Asked.{Asked}
+use Rattle.pgn_list.specs.PgnList.{listSize}
 use Rattle.queue.specs.declared.Frame.{Frame}
 use Rattle.queue.specs.Queue.{size}
-use Rattle.addresses.specs.declared.Event.{Event}
+use Rattle.address_claims.specs.declared.Event.{Event}
 use Rattle.unit.specs.declared.Sent.{Sent}
+use Rattle.frame_parts.specs.declared.Arrival.{Arrival}
 use Rattle.frame_parts.specs.declared.AskAnswer.{AskAnswer}
 use Rattle.frame_parts.specs.declared.JoinAnswer.{JoinAnswer}
 use Rattle.frame_parts.specs.declared.ActAnswer.{ActAnswer}
 use Rattle.frame_parts.specs.declared.AnnounceAnswer.{AnnounceAnswer}
-use Rattle.unit.specs.Model.{Model, rowAt, withRest, withRow, modelOf}
-use Rattle.refusals.specs.Refusals.{noPort, takeRefusal}
-use Rattle.unit.specs.PowerOn.{notLong, powerOnRefusal}
-use Rattle.network_message.specs.Checks.{check, first}
-use Rattle.forwarding.specs.Forwarding.{verdict}
-use Rattle.claims.specs.Claims.{Acted, frameActed}
+use Rattle.unit.specs.Model.{Rest, Model, rowAt, withRest, withRow, modelOf}
+use Rattle.unit.specs.Own.{consumes}
+use Rattle.checks.specs.Ports.{noPort}
+use Rattle.refusals.specs.Refusals.{frameRefusal}
+use Rattle.unit.specs.PowerOn.{powerOnRefusal}
+use Rattle.forwarding.specs.Forwarding.{silent, verdict}
+use Rattle.claims.specs.Claims.{frameOf, isClaim, Acted, frameActed}
 use Rattle.forwarding.specs.Steps.{announcedTo, unsentTo}
 
 -- a part that changes the record: refused, or the model is changed
@@ -32,35 +35,55 @@ pub record Changing (ports : ℕ) (before after : List ℕ) (refusal : ℕ) (the
   pub state : modelOf ports after ≡ cond (eqb refusal 0) then (modelOf ports before)
   pub refused : (refusal ≡ 0 → ⊥) → after ≡ before
 
--- ---- ask one pair (rule 2): the arrival port is no target
-unfoldable pub askRefusal : ℕ → ℕ → ℕ → ℕ → ℕ
-askRefusal ports lent from to = cond (noPort ports to) 1 (takeRefusal ports lent from)
+-- ---- a frame arrives: refused as a whole call would be (1 to 5), or told whether it is for the unit (rule 1) and whether it is a claim
+abbrev pub noFrame : Frame
+noFrame = record { id = 0; len = 0; bytes = 0 }
 
+abbrev pub arrived : Rest → Frame → Arrival
+arrived rest f = record { refusal = 0; frame = f; consumed = consumes (rest .own) (f .id); claim = isClaim f }
+
+abbrev pub turnedAway : ℕ → Arrival
+turnedAway refusal = record { refusal = refusal; frame = noFrame; consumed = false; claim = false }
+
+unfoldable pub arrival : ℕ → ℕ → Rest → ℕ → ℕ → List ℕ → Arrival
+arrival ports lent rest port id bytes =
+    cond (eqb (frameRefusal ports lent port id (length bytes)) 0)
+    (arrived rest (frameOf id bytes))
+    (turnedAway (frameRefusal ports lent port id (length bytes)))
+
+-- ---- a frame from one port to another: 1 is either port's, then 2 to 5 as the table has them
+unfoldable pub pairRefusal : ℕ → ℕ → ℕ → ℕ → ℕ → ℕ → ℕ
+pairRefusal ports lent from to id len = cond (noPort ports to) 1 (frameRefusal ports lent from id len)
+
+-- ---- ask one pair (rule 2): by the identifier alone, which has no length; the arrival port is no target
 abbrev pub askedOf : ℕ → Asked → AskAnswer
 askedOf refusal v = record { refusal = refusal; permitted = v .permitted; compared = v .compared }
 
-unfoldable pub askAnswer : ℕ → ℕ → Model → ℕ → ℕ → ℕ → AskAnswer
-askAnswer ports lent m from to pgn =
-    cond (eqb (askRefusal ports lent from to) 0)
-    (askedOf 0 (verdict ports (m .rest .pairs) (from - 1) pgn (to - 1)))
-    (record { refusal = askRefusal ports lent from to; permitted = false; compared = 0 })
+unfoldable pub askAnswer : ℕ → ℕ → Rest → ℕ → ℕ → ℕ → AskAnswer
+askAnswer ports lent rest from to id =
+    cond (eqb (pairRefusal ports lent from to id 0) 0)
+    (askedOf 0 (verdict ports (rest .pairs) (from - 1) (pgnOf id) (to - 1)))
+    (askedOf (pairRefusal ports lent from to id 0) silent)
 
--- ---- send a frame to one port (rule 3)
-unfoldable pub joinAnswer : ℕ → ℕ → Model → ℕ → JoinAnswer
-joinAnswer ports lent m port = record {
-  refusal = takeRefusal ports lent port;
-  accepted = eqb (takeRefusal ports lent port) 0 && room size (rowAt m (port - 1));
+pub record PartAsking (ports : ℕ) (words : List ℕ) (from to id : ℕ) (r : AskAnswer) : Type 0 where
+  pub answer : r ≡ askAnswer ports (length words) (modelOf ports words .rest) from to id
+  pub small : r .compared ≤ listSize
+
+-- ---- send a frame to one port (rule 3): the arrival port is no target
+unfoldable pub joinAnswer : ℕ → ℕ → Model → ℕ → ℕ → Frame → JoinAnswer
+joinAnswer ports lent m from to f = record {
+  refusal = pairRefusal ports lent from to (f .id) (f .len);
+  accepted = eqb (pairRefusal ports lent from to (f .id) (f .len)) 0 && (not (eqb from to) && room size (rowAt m (to - 1)));
 }
 
-pub record PartJoining (ports : ℕ) (before after : List ℕ) (port : ℕ) (f : Frame) (r : JoinAnswer) : Type 0 where
-  pub answer : r ≡ joinAnswer ports (length before) (modelOf ports before) port
-  pub change : Changing ports before after (takeRefusal ports (length before) port)
-      (withRow (modelOf ports before) (port - 1) (join size (rowAt (modelOf ports before) (port - 1)) f))
+unfoldable pub joinedModel : Model → ℕ → ℕ → Frame → Model
+joinedModel m from to f = cond (eqb from to) m (withRow m (to - 1) (join size (rowAt m (to - 1)) f))
+
+pub record PartJoining (ports : ℕ) (before after : List ℕ) (from to : ℕ) (f : Frame) (r : JoinAnswer) : Type 0 where
+  pub answer : r ≡ joinAnswer ports (length before) (modelOf ports before) from to f
+  pub change : Changing ports before after (pairRefusal ports (length before) from to (f .id) (f .len)) (joinedModel (modelOf ports before) from to f)
 
 -- ---- act on a claim or request
-unfoldable pub actRefusal : ℕ → ℕ → ℕ → ℕ → ℕ
-actRefusal ports lent port id = first (check (noPort ports port) 1 ∷ check (notLong ports lent) 2 ∷ check (wrongSource id) 5 ∷ [])
-
 unfoldable pub actAnswer : ℕ → Acted → ActAnswer
 actAnswer refusal a =
     cond (eqb refusal 0)
@@ -68,8 +91,8 @@ actAnswer refusal a =
     (record { refusal = refusal; event = Event.Nothing; sent = Sent.Nothing })
 
 pub record PartActing (ports : ℕ) (before after : List ℕ) (port : ℕ) (consumed : Bool) (f : Frame) (r : ActAnswer) : Type 0 where
-  pub answer : r ≡ actAnswer (actRefusal ports (length before) port (f .id)) (frameActed (modelOf ports before .rest) port consumed f)
-  pub change : Changing ports before after (actRefusal ports (length before) port (f .id))
+  pub answer : r ≡ actAnswer (frameRefusal ports (length before) port (f .id) (f .len)) (frameActed (modelOf ports before .rest) port consumed f)
+  pub change : Changing ports before after (frameRefusal ports (length before) port (f .id) (f .len))
       (withRest (modelOf ports before) (frameActed (modelOf ports before .rest) port consumed f .rest))
 
 -- ---- send the unit's own frame (rule 3 at every port)

@@ -1,14 +1,22 @@
 // What a frame's call is made of, each part as a call of its own that refuses and requires nothing: another product is built on these.
-use addresses::Event;
+use address_claims::Event;
 use queue::Frame;
 use unit::Sent;
 use unit::Unit;
 ghost use mathlib.Core.Path.{_≡_};
 ghost use lib.ListN.{length};
 ghost use Rattle.unit.specs.Model.{modelOf};
-ghost use Rattle.frame_parts.specs.Parts.{askRefusal, askAnswer, PartJoining, actRefusal, PartActing, PartAnnouncing};
+ghost use Rattle.frame_parts.specs.Parts.{arrival, pairRefusal, PartAsking, PartJoining, PartActing, PartAnnouncing};
 
-// Whether a pair permits a PGN, and the entries compared, or the refusal.
+// A frame that came in: whether it is for the unit, which is not forwarded, and whether it is an address claim; or the refusal.
+pub struct Arrival {
+    pub refusal: u32,
+    pub frame: Frame,
+    pub consumed: bool,
+    pub claim: bool,
+}
+
+// Whether a pair permits a frame, and the entries compared, or the refusal.
 pub struct AskAnswer {
     pub refusal: u32,
     pub permitted: bool,
@@ -34,24 +42,56 @@ pub struct AnnounceAnswer {
     pub unsent: u32,
 }
 
-// The number that asking a pair is refused with, or 0.
-fn ask_refusal(lent: usize, from: u32, to: u32) -> u32
-    ensures { λ r. ⌜ r ≡ askRefusal 4 lent from to ⌝ }
+// A frame arrived at a port. The record is read alone.
+pub fn arrive(words: &[u64], port: u32, id: u32, bytes: &[u8]) -> Arrival
+    ensures { λ r. ⌜ r ≡ arrival 4 (length (now (words .entry))) (modelOf 4 (now (words .entry)) .rest) port id (now (bytes .entry)) ⌝ }
 {
-    if to < 1 {
-        return 1;
+    let len = bytes.len();
+    let number = refusals::frame_refusal(words.len(), port, id, len);
+    if number != 0 {
+        return Arrival {
+            refusal: number,
+            frame: Frame {
+                id: 0,
+                len: 0,
+                bytes: 0,
+            },
+            consumed: false,
+            claim: false,
+        };
     }
-    if 4 < to {
-        return 1;
+    let word = storage::pack(bytes);
+    let frame = Frame {
+        id,
+        len: len as u32,
+        bytes: word,
+    };
+    let unit = unit::read_unit(words);
+    let consumed = unit.consumes(id);
+    let claim = claims::is_claim(frame);
+    Arrival {
+        refusal: 0,
+        frame,
+        consumed,
+        claim,
     }
-    refusals::take_refusal(lent, from)
 }
 
-// Asks the pair from one port to another.
-pub fn ask(words: &[u64], from: u32, to: u32, pgn: u32) -> AskAnswer
-    ensures { λ r. ⌜ r ≡ askAnswer 4 (length (now (words .entry))) (modelOf 4 (now (words .entry))) from to pgn ⌝ }
+// The number that a frame from one port to another is refused with, or 0.
+fn pair_refusal(lent: usize, from: u32, to: u32, id: u32, len: usize) -> u32
+    ensures { λ r. ⌜ r ≡ pairRefusal 4 lent from to id len ⌝ }
 {
-    let number = ask_refusal(words.len(), from, to);
+    if checks::is_port(to) {
+        return refusals::frame_refusal(lent, from, id, len);
+    }
+    1
+}
+
+// Asks the pair from one port to another about a frame with this identifier. The arrival port is no target.
+pub fn ask(words: &[u64], from: u32, to: u32, id: u32) -> AskAnswer
+    ensures { λ r. ⌜ PartAsking 4 (now (words .entry)) from to id r ⌝ }
+{
+    let number = pair_refusal(words.len(), from, to, id, 0);
     if number != 0 {
         return AskAnswer {
             refusal: number,
@@ -68,7 +108,7 @@ pub fn ask(words: &[u64], from: u32, to: u32, pgn: u32) -> AskAnswer
     }
     let p = from as usize - 1;
     let q = to as usize - 1;
-    let v = record::ask_pair(words, p, q, pgn);
+    let v = record::ask_pair(words, p, q, identifier::pgn(id));
     AskAnswer {
         refusal: 0,
         permitted: v.permitted,
@@ -76,18 +116,24 @@ pub fn ask(words: &[u64], from: u32, to: u32, pgn: u32) -> AskAnswer
     }
 }
 
-// Sends a frame to one port, asking no pair.
-pub fn join(words: &mut [u64], port: u32, f: Frame) -> JoinAnswer
-    ensures { λ r. ⌜ PartJoining 4 (now (words .entry)) (now (words .exit)) port f r ⌝ }
+// Sends a frame from one port to another, asking no pair. The arrival port is no target.
+pub fn join(words: &mut [u64], from: u32, to: u32, f: Frame) -> JoinAnswer
+    ensures { λ r. ⌜ PartJoining 4 (now (words .entry)) (now (words .exit)) from to f r ⌝ }
 {
-    let number = refusals::take_refusal(words.len(), port);
+    let number = pair_refusal(words.len(), from, to, f.id, f.len as usize);
     if number != 0 {
         return JoinAnswer {
             refusal: number,
             accepted: false,
         };
     }
-    let q = port as usize - 1;
+    if from == to {
+        return JoinAnswer {
+            refusal: 0,
+            accepted: false,
+        };
+    }
+    let q = to as usize - 1;
     let accepted = record::join_row(words, q, f);
     JoinAnswer {
         refusal: 0,
@@ -95,25 +141,11 @@ pub fn join(words: &mut [u64], port: u32, f: Frame) -> JoinAnswer
     }
 }
 
-// The number that acting on a frame is refused with, or 0.
-fn act_refusal(lent: usize, port: u32, id: u32) -> u32
-    ensures { λ r. ⌜ r ≡ actRefusal 4 lent port id ⌝ }
-{
-    let number = refusals::take_refusal(lent, port);
-    if number != 0 {
-        return number;
-    }
-    if identifier::has_wrong_source(id) {
-        return 5;
-    }
-    0
-}
-
 // Acts on a frame that is a claim or a request for one; `consumed` tells whether it was for the unit.
 pub fn act(words: &mut [u64], port: u32, consumed: bool, f: Frame) -> ActAnswer
     ensures { λ r. ⌜ PartActing 4 (now (words .entry)) (now (words .exit)) port consumed f r ⌝ }
 {
-    let number = act_refusal(words.len(), port, f.id);
+    let number = refusals::frame_refusal(words.len(), port, f.id, f.len as usize);
     if number != 0 {
         return ActAnswer {
             refusal: number,

@@ -12,18 +12,19 @@ use lib.Seq.{length-take-le, getD-append-add, set-getD}
 use lib.Dec.{eqb}
 use Rattle.storage.proofs.Blocks.{length-blocks}
 use Rattle.filter.specs.Filter.{Filter, filterOf, clear}
-use Rattle.record.specs.declared.pairs.Change.{Change}
+use Rattle.filter_commands.specs.declared.pairs.Change.{Change}
 use Rattle.unit.specs.Ports.{each}
 use Rattle.unit.specs.Model.{modelOf, recordLength, withRest, withPairs}
 use Rattle.list_commands.specs.Commands.{firstPair, names, anyBelow, changeNamed, changeAt, listRefusal, commanded}
-use Rattle.record.specs.Pairs.{changeOf}
+use Rattle.filter_commands.specs.Pairs.{changeOf}
 use Rattle.record.specs.Steps.{PairChanging}
 use Rattle.list_commands.specs.Steps.{PairsChanging, Commanding}
 use Rattle.unit.proofs.Ports.{each-step}
+use Rattle.filter.specs.Filter.{blockSize as filterLength}
 
 pub pairs-twelve : (words : List ℕ) → length (modelOf 4 words .rest .pairs) ≡ 12
 unfolding modelOf
-pairs-twelve words = length-blocks filterOf 34 4 12 words
+pairs-twelve words = length-blocks filterOf filterLength 4 12 words
 
 -- ---- whether the kth pair is named
 pub named-all : (from to k : ℕ) → to ≡ 15 → true ≡ names from to k

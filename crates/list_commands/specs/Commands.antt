@@ -6,13 +6,13 @@ use mathlib.Core.List.{List, [], _∷_, _++_}
 use lib.ListN.{take, drop, getD}
 use lib.Dec.{ltb, eqb}
 use Rattle.filter.specs.Filter.{Filter, clear}
-use Rattle.network_message.specs.Checks.{check, first}
+use Rattle.checks.specs.Checks.{Check, check, first}
 use Rattle.network_message.specs.Decoding.{allPorts}
 use Rattle.unit.specs.Ports.{each}
-use Rattle.record.specs.declared.pairs.Question.the-variants.{IsCleared, IsNotCleared, WouldPass, Lacks}
-use Rattle.record.specs.declared.pairs.Change.{Change}
-use Rattle.record.specs.declared.pairs.Change.the-variants.{Adds, Deletes, Clears, Creates}
-use Rattle.record.specs.Pairs.{holdsOf, changeOf}
+use Rattle.filter_commands.specs.declared.pairs.Question.the-variants.{IsCleared, IsNotCleared, WouldPass, Lacks}
+use Rattle.filter_commands.specs.declared.pairs.Change.{Change}
+use Rattle.filter_commands.specs.declared.pairs.Change.the-variants.{Adds, Deletes, Clears, Creates}
+use Rattle.filter_commands.specs.Pairs.{holdsOf, changeOf}
 
 -- ---- the pairs that a command names: from a port to one other, or to all others (15)
 -- the other port that the kth pair from port p (from 0) leads to
@@ -48,14 +48,23 @@ changeNamed ports n change from to pairs =
     take (firstPair ports from) pairs ++ each (changeAt change from to) n (drop (firstPair ports from) pairs)
 
 -- ---- 14 to 17: each asked over all named pairs before the next
+unfoldable pub listChecks : ℕ → Change → List ℕ → ℕ → ℕ → List Filter → List Check
+listChecks ports Adds xs from to pairs =
+    check (anyNamed ports (ports - 1) (holdsOf IsCleared xs) from to pairs) 15
+    ∷ check (anyNamed ports (ports - 1) (holdsOf WouldPass xs) from to pairs) 16
+    ∷ []
+listChecks ports Deletes xs from to pairs =
+    check (anyNamed ports (ports - 1) (holdsOf IsCleared xs) from to pairs) 15
+    ∷ check (anyNamed ports (ports - 1) (holdsOf Lacks xs) from to pairs) 17
+    ∷ []
+listChecks ports Clears xs from to pairs = []
+listChecks ports (Creates passing) xs from to pairs =
+    check (anyNamed ports (ports - 1) (holdsOf IsNotCleared xs) from to pairs) 14
+    ∷ check (anyNamed ports (ports - 1) (holdsOf WouldPass xs) from to pairs) 16
+    ∷ []
+
 unfoldable pub listRefusal : ℕ → Change → List ℕ → ℕ → ℕ → List Filter → ℕ
-listRefusal ports Adds xs from to pairs =
-    first (check (anyNamed ports (ports - 1) (holdsOf IsCleared xs) from to pairs) 15 ∷ check (anyNamed ports (ports - 1) (holdsOf WouldPass xs) from to pairs) 16 ∷ [])
-listRefusal ports Deletes xs from to pairs =
-    first (check (anyNamed ports (ports - 1) (holdsOf IsCleared xs) from to pairs) 15 ∷ check (anyNamed ports (ports - 1) (holdsOf Lacks xs) from to pairs) 17 ∷ [])
-listRefusal ports Clears xs from to pairs = 0
-listRefusal ports (Creates passing) xs from to pairs =
-    first (check (anyNamed ports (ports - 1) (holdsOf IsNotCleared xs) from to pairs) 14 ∷ check (anyNamed ports (ports - 1) (holdsOf WouldPass xs) from to pairs) 16 ∷ [])
+listRefusal ports change xs from to pairs = first (listChecks ports change xs from to pairs)
 
 -- "A multi-pair command is done on all its pairs or none."
 unfoldable pub commanded : ℕ → Change → List ℕ → ℕ → ℕ → List Filter → List Filter

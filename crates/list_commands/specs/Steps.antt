@@ -4,8 +4,8 @@ use Prim.Native.Nat.{ℕ, _-_}
 use mathlib.Core.Path.{_≡_}
 use mathlib.Core.List.{List}
 use Rattle.unit.specs.Model.{withRest, withPairs, modelOf}
-use Rattle.record.specs.declared.pairs.Change.{Change}
-use Rattle.record.specs.Pairs.{changeOf}
+use Rattle.filter_commands.specs.declared.pairs.Change.{Change}
+use Rattle.filter_commands.specs.Pairs.{changeOf}
 use Rattle.list_commands.specs.Commands.{changeNamed, listRefusal, commanded}
 
 -- a command was done on the pairs that it names

@@ -1,13 +1,13 @@
 // A command on the pairs from a port: judged on all that it names before any is changed.
-use record::pairs::Change;
-use record::pairs::Question;
+use filter_commands::pairs::Change;
+use filter_commands::pairs::Question;
 ghost use mathlib.Core.Path.{_≡_};
 ghost use Prim.Native.Nat.{_+_, _≤_, _<_};
 ghost use lib.ListN.{length};
-ghost use Rattle.filter.specs.Entries.{entriesOf};
+ghost use Rattle.entries.specs.Entries.{entriesOf};
 ghost use Rattle.unit.specs.Model.{modelOf, recordLength};
 ghost use Rattle.list_commands.specs.Commands.{names, firstPair, holdsAt, anyNamed, changeAt, listRefusal};
-ghost use Rattle.record.specs.Pairs.{holdsOf, changeOf};
+ghost use Rattle.filter_commands.specs.Pairs.{holdsOf, changeOf};
 ghost use Rattle.record.specs.Steps.{PairChanging};
 ghost use Rattle.list_commands.specs.Steps.{PairsChanging, Commanding};
 

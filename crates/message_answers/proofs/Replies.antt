@@ -5,11 +5,11 @@ use mathlib.Core.List.{List}
 use Prim.Native.Nat.{ℕ, _≤_}
 use native.Mathlib.Omega.{arith}
 use lib.ListN.{length}
-use Rattle.filter.specs.Entries.{entriesOf}
+use Rattle.entries.specs.Entries.{entriesOf}
 use Rattle.network_message.specs.Commands.{Ports}
 use Rattle.network_message.specs.Decoding.{functionOf, between}
-use Rattle.network_message.specs.Replies.{acknowledgment, Writing}
-use Rattle.record.specs.declared.pairs.Change.{Change}
+use Rattle.replies.specs.Replies.{acknowledgment, Writing}
+use Rattle.filter_commands.specs.declared.pairs.Change.{Change}
 use Rattle.message_answers.specs.declared.MessageAnswer.{MessageAnswer}
 use Rattle.unit.specs.Model.{modelOf}
 use Rattle.message_answers.specs.Messages.{acknowledged, replied, changedBy}

@@ -4,23 +4,24 @@ use Prim.Native.Nat.{ℕ, _-_}
 use mathlib.Core.List.{List}
 use lib.ListN.{length, getD}
 use Rattle.filter.specs.Filter.{Filter, clear}
-use Rattle.filter.specs.Entries.{entriesOf}
+use Rattle.entries.specs.Entries.{entriesOf}
 use Rattle.network_message.specs.declared.Command.{Command}
 use Rattle.network_message.specs.declared.Command.the-variants.{Refused, Request, Add, Delete, Clear, Create, AddressList}
 use Rattle.network_message.specs.Decoding.{functionOf, pairOf, between}
-use Rattle.network_message.specs.Replies.{controlOf, acknowledgment, listReply, addressReply}
-use Rattle.unit.specs.Model.{Rest, pairAt}
-use Rattle.record.specs.declared.pairs.Change.{Change}
-use Rattle.record.specs.declared.pairs.Change.the-variants.{Adds, Deletes, Clears, Creates}
+use Rattle.replies.specs.Replies.{controlOf, acknowledgment, listReply, addressReply}
+use Rattle.unit.specs.Model.{Rest, Seen, pairAt}
+use Rattle.filter_commands.specs.declared.pairs.Change.{Change}
+use Rattle.filter_commands.specs.declared.pairs.Change.the-variants.{Adds, Deletes, Clears, Creates}
 use Rattle.list_commands.specs.Commands.{listRefusal, commanded}
 use Rattle.message_answers.specs.declared.MessageAnswer.{MessageAnswer}
 
--- what a message does: the number that it is refused with, the pairs then, the PGN and the bytes that are written
+-- what a message does: the number that it is refused with, the pairs then, the PGN and the bytes that are written. The bytes alone may show what is only
+-- looked at
 pub record Replied : Type 0 where
   pub number : ℕ
   pub pairs : List Filter
   pub pgn : ℕ
-  pub written : List ℕ
+  pub written : Seen → List ℕ
 
 -- PGN 59392, "0, the function, FF, FF, the requester's address, 00, ED, 00", or with 1 or 2 for a refusal
 abbrev pub acknowledged : ℕ → ℕ → List ℕ → List Filter → Replied
@@ -28,11 +29,11 @@ acknowledged number requester payload pairs = record {
   number = number;
   pairs = pairs;
   pgn = 59392;
-  written = acknowledgment (controlOf number) (functionOf payload) requester;
+  written = λ seen. acknowledgment (controlOf number) (functionOf payload) requester;
 }
 
 abbrev pub replied : List ℕ → List Filter → Replied
-replied bytes pairs = record { number = 0; pairs = pairs; pgn = 60672; written = bytes }
+replied bytes pairs = record { number = 0; pairs = pairs; pgn = 60672; written = λ seen. bytes }
 
 -- a command on the pairs, with its entries
 abbrev pub changedBy : ℕ → Rest → ℕ → List ℕ → Change → ℕ → ℕ → ℕ → ℕ → Replied
@@ -51,5 +52,5 @@ performedBy ports rest requester payload (Create from to passing start end) = ch
 performedBy ports rest requester payload (AddressList port) = replied (addressReply port (rest .own .address) (rest .table)) (rest .pairs)
 
 -- "The answer gives the PGN and the length of what was written, 0 and 0 for nothing; buffer bytes past that length are untouched."
-abbrev pub messageAnswer : Replied → MessageAnswer
-messageAnswer r = record { refusal = r .number; pgn = r .pgn; length = length (r .written) }
+abbrev pub messageAnswer : Replied → Seen → MessageAnswer
+messageAnswer r seen = record { refusal = r .number; pgn = r .pgn; length = length (r .written seen) }

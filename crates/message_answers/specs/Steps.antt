@@ -4,7 +4,7 @@ use Prim.Native.Nat.{ℕ}
 use mathlib.Core.Path.{_≡_}
 use mathlib.Core.List.{List, _++_}
 use lib.ListN.{length, drop}
-use Rattle.network_message.specs.Replies.{controlOf, acknowledgment}
+use Rattle.replies.specs.Replies.{controlOf, acknowledgment}
 use Rattle.unit.specs.Model.{withRest, withPairs, modelOf}
 use Rattle.message_answers.specs.declared.MessageAnswer.{MessageAnswer}
 use Rattle.message_answers.specs.Messages.{Replied, messageAnswer}
@@ -21,7 +21,7 @@ pub record Reporting (bytes before after : List ℕ) (r : MessageAnswer) : Type 
 
 -- what a message does and is answered
 pub record Replying (ports : ℕ) (before after lent back : List ℕ) (reply : Replied) (r : MessageAnswer) : Type 0 where
-  pub answer : r ≡ messageAnswer reply
-  pub written : back ≡ reply .written ++ drop (length (reply .written)) lent
+  pub answer : r ≡ messageAnswer reply (modelOf ports before .seen)
+  pub written : back ≡ reply .written (modelOf ports before .seen) ++ drop (length (reply .written (modelOf ports before .seen))) lent
   pub state : modelOf ports after ≡ withRest (modelOf ports before) (withPairs (modelOf ports before .rest) (reply .pairs))
   pub refused : (reply .number ≡ 0 → ⊥) → after ≡ before

@@ -1,12 +1,13 @@
 // What a network message that was decoded does, and what is written back.
+use filter_commands::pairs::Change;
 use network_message::Command;
-use record::pairs::Change;
 ghost use mathlib.Core.Path.{_≡_};
 ghost use Prim.Native.Nat.{_-_, _≤_, _<_};
 ghost use lib.ListN.{length, getD};
 ghost use Rattle.filter.specs.Filter.{clear};
 ghost use Rattle.network_message.specs.Commands.{Good};
-ghost use Rattle.network_message.specs.Replies.{longest, listReply, addressReply};
+ghost use Rattle.network_message.specs.Decoding.{longest};
+ghost use Rattle.replies.specs.Replies.{listReply, addressReply};
 ghost use Rattle.unit.specs.Model.{modelOf, recordLength, pairAt};
 ghost use Rattle.message_answers.specs.Messages.{performedBy, changedBy};
 ghost use Rattle.message_answers.specs.Steps.{Telling, Replying, Reporting};
@@ -29,8 +30,8 @@ fn tell(reply: &mut [u8], number: u32, function: u8, requester: u32) -> MessageA
     requires { ⌜ (longest ≤ length (now reply)) × (requester < 254) ⌝ }
     ensures { λ r. ⌜ Telling (now (reply .entry)) (now (reply .exit)) number function requester r ⌝ }
 {
-    let control = network_message::control(number);
-    network_message::acknowledge(reply, control, function, requester as u8);
+    let control = replies::control(number);
+    replies::acknowledge(reply, control, function, requester as u8);
     MessageAnswer {
         refusal: number,
         pgn: ACKNOWLEDGMENT,

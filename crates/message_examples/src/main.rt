@@ -5,6 +5,8 @@ use network_message::Command;
 ghost use mathlib.Core.Path.{_≡_};
 ghost use Prim.Native.Nat.{_≤_};
 ghost use lib.ListN.{length};
+ghost use Rattle.filter.specs.Filter.{blockSize};
+ghost use Rattle.addresses.specs.Table.{tableLength};
 
 // The six bytes after the pair byte: a good body for each function, filling alone, and a Create of mode 2.
 const GOOD: u32 = 0;
@@ -115,25 +117,25 @@ fn print_reply(label: &[u8], reply: &[u8], n: usize)
 // The acknowledgment of a function, by the number that refuses it.
 fn print_acknowledgment(label: &[u8], n: u32, function: u8) {
     let mut reply = [0x77u8; 9];
-    network_message::acknowledge(&mut reply, network_message::control(n), function, 0x21);
+    replies::acknowledge(&mut reply, replies::control(n), function, 0x21);
     print_reply(label, &reply, 9);
 }
 
 // The reply for a block.
 fn print_list(label: &[u8], block: &[u64])
-    requires { ⌜ length (now block) ≡ 34 ⌝ }
+    requires { ⌜ length (now block) ≡ blockSize ⌝ }
 {
     let mut reply = [0x77u8; 1785];
-    let n = network_message::reply_list(block, 0x12, &mut reply);
+    let n = replies::reply_list(block, 0x12, &mut reply);
     print_reply(label, &reply, n);
 }
 
 // The addresses on a port.
 fn print_addresses(label: &[u8], table: &[u64], port: u32)
-    requires { ⌜ (length (now table) ≡ 508) × (port ≤ 4) ⌝ }
+    requires { ⌜ (length (now table) ≡ tableLength) × (port ≤ 4) ⌝ }
 {
     let mut reply = [0x77u8; 1785];
-    let n = network_message::reply_addresses(table, port, 254, &mut reply);
+    let n = replies::reply_addresses(table, port, 254, &mut reply);
     print_reply(label, &reply, n);
 }
 
@@ -321,7 +323,7 @@ fn print_replies() {
     print_acknowledgment(b"P5 writes", 0, 0x06);
     print_acknowledgment(b"P7 writes", 11, 0x00);
     print_acknowledgment(b"P8 writes", 10, 0x02);
-    let mut block = [0u64; 34];
+    let mut block = [0u64; filter::BLOCK_SIZE];
     print_list(b"cleared pair", &block);
     block[0] = 2;
     block[1] = 1;
@@ -331,7 +333,7 @@ fn print_replies() {
     block[3] = 61184;
     block[4] = 131071;
     print_list(b"three entries", &block);
-    let mut table = [0u64; 508];
+    let mut table = [0u64; addresses::TABLE_LENGTH];
     print_addresses(b"no address", &table, 3);
     table[76] = 3;
     table[256] = 3;

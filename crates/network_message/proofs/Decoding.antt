@@ -9,11 +9,13 @@ use native.Mathlib.Omega.{arith}
 use borrow.Author.Tests.{eq-eqb, ne-eqb, eqb-true, eqb-false, not-true}
 use lib.Dec.{eqb}
 use lib.ListN.{length}
-use Rattle.filter.specs.Filter.{listed}
-use Rattle.filter.proofs.Lists.{both}
-use Rattle.network_message.specs.Decoding.{functionOf, pairOf, fromOf, toOf, isPort, allPorts, mayBeAll, isPair, namesPorts, entriesEnd, holdsEntries, hasGoodBody, refusalOf, commandOf, answered, decoded}
+use Rattle.entries.specs.Entries.{listed}
+use Rattle.checks.proofs.Tests.{both}
+use Rattle.network_message.specs.Decoding.{functionOf, pairOf, fromOf, toOf, allPorts, mayBeAll, isPair, namesPorts, entriesEnd, holdsEntries, hasGoodBody, refusalOf, commandOf, answered, decoded}
+use Rattle.checks.specs.Ports.{isPort}
 use Rattle.network_message.specs.Commands.{named, Own, Ports, Holding, Good}
-use Rattle.network_message.proofs.Naming.{port-bounds, end-bounds}
+use Rattle.checks.proofs.Ports.{port-bounds}
+use Rattle.network_message.proofs.Naming.{end-bounds}
 use Rattle.network_message.proofs.Passing.{Passed, answered-by, by-function}
 use Rattle.network_message.proofs.Rights.{own-pairs, own-port}
 

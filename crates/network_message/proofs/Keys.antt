@@ -7,7 +7,7 @@ use Prim.Native.Nat.{ℕ, zero, suc, _≤_, _<_}
 use native.Mathlib.Omega.{arith}
 use types.Run.{OneOf}
 use borrow.Author.Tests.{ne-eqb}
-use Rattle.filter.specs.Filter.{listed}
+use Rattle.entries.specs.Entries.{listed}
 use Rattle.network_message.specs.Decoding.{isKnown, mayBeAll}
 
 module _ {f : ℕ} where

@@ -5,21 +5,16 @@ use mathlib.Core.List.{List}
 use Prim.Native.Nat.{ℕ, _+_, _-_, _≤_, _<_}
 use native.Mathlib.Numerals.{add-one}
 use native.Mathlib.Omega.{arith}
-use borrow.Author.Tests.{leb-true, eq-eqb, ne-eqb}
-use lib.Dec.{leb, eqb}
+use borrow.Author.Tests.{eq-eqb, ne-eqb}
+use lib.Dec.{eqb}
 use lib.ListN.{length, getD, take, drop, length-drop}
 use lib.Seq.{take-all, drop-cons}
-use Rattle.filter.specs.Entries.{every}
-use Rattle.filter.proofs.Lists.{both}
-use Rattle.network_message.specs.Decoding.{isPort, allPorts, mayBeAll, isPair, isFilling, entriesEnd}
+use Rattle.entries.specs.Entries.{every}
+use Rattle.checks.proofs.Ports.{port-bounds}
+use Rattle.checks.specs.Ports.{isPort}
+use Rattle.network_message.specs.Decoding.{allPorts, mayBeAll, isPair, isFilling, entriesEnd}
 
 -- ---- ports
-pub port-bounds : (ports port : ℕ) → isPort ports port ≡ true → (1 ≤ port) × (port ≤ ports)
-unfolding isPort
-port-bounds ports port e =
-    let p = both (leb 1 port) (leb port ports) e in
-    (leb-true 1 port (p .0), leb-true port ports (p .1))
-
 -- 15 is no port, so From is another
 pub pair-all : (function from to : ℕ) → isPort 4 from ≡ true → isPort 4 to ≡ false → to ≡ allPorts → isPair 4 function from to ≡ mayBeAll function
 unfolding isPair

@@ -6,10 +6,12 @@ use Prim.Native.Nat.{ℕ, _≤_, _<_}
 use native.Mathlib.Omega.{arith}
 use borrow.Author.Tests.{ne-eqb, eqb-true, eqb-false}
 use lib.Dec.{eqb}
-use Rattle.filter.specs.Filter.{listed}
+use Rattle.entries.specs.Entries.{listed}
 use Rattle.network_message.specs.declared.Command.{Command}
 use Rattle.network_message.specs.declared.Command.the-variants.{Refused, Request, Add, Delete, Clear, Create, AddressList}
-use Rattle.network_message.specs.Decoding.{isKnown, namesPorts, mayName, entriesEnd, hasGoodBody, hasWrongMode, refusalOf, commandOf, answered}
+use Rattle.checks.specs.Checks.{acknowledges}
+use Rattle.network_message.specs.Decoding.{isKnown, namesPorts, mayName, entriesEnd, hasGoodBody, payloadChecks, refusalOf, commandOf, answered}
+use Rattle.checks.proofs.FirstNumber.{first-in}
 
 -- ---- what a payload that is not refused has passed
 pub record Passed (ports port function from to : ℕ) (payload : List ℕ) : Type 0 where
@@ -37,26 +39,15 @@ module _ (ports port function from to : ℕ) (payload : List ℕ) where
       let d = next (hasGoodBody function payload) 12 (omega arith) (c .1) in
       record { known = a .0; ported = b .0; allowed = c .0; bodied = d .0 }
 
-  range : (refusalOf ports port function from to payload ≡ 0 → ⊥) → (9 ≤ refusalOf ports port function from to payload) × (refusalOf ports port function from to payload ≤ 13)
+  told : (refusalOf ports port function from to payload ≡ 0 → ⊥) → acknowledges (refusalOf ports port function from to payload) ≡ true
   unfolding refusalOf
-  range h = go (isKnown function) (namesPorts ports function from to) (mayName port function from to) (hasGoodBody function payload) (hasWrongMode function payload) h
-    where
-      number : Bool → Bool → Bool → Bool → Bool → ℕ
-      number a b c d e = cond (not a) 9 (cond (not b) 10 (cond (not c) 11 (cond (not d) 12 (cond e 13 0))))
+  told h = first-in acknowledges (payloadChecks ports port function from to payload) refl h
 
-      go : (a b c d e : Bool) → (number a b c d e ≡ 0 → ⊥) → (9 ≤ number a b c d e) × (number a b c d e ≤ 13)
-      go false b c d e h = (omega arith, omega arith)
-      go true false c d e h = (omega arith, omega arith)
-      go true true false d e h = (omega arith, omega arith)
-      go true true true false e h = (omega arith, omega arith)
-      go true true true true true h = (omega arith, omega arith)
-      go true true true true false h = absurd (h refl)
-
-  -- refused with 9 to 13, or a command that has passed
-  pub answered-by : (Q : Command → Type 0) → ((n : ℕ) → (9 ≤ n) × (n ≤ 13) → Q (Refused n)) → (Passed ports port function from to payload → Q (commandOf function from to payload)) → Q (answered (refusalOf ports port function from to payload) (commandOf function from to payload))
+  -- refused with a number that is acknowledged, or a command that has passed
+  pub answered-by : (Q : Command → Type 0) → ((n : ℕ) → acknowledges n ≡ true → Q (Refused n)) → (Passed ports port function from to payload → Q (commandOf function from to payload)) → Q (answered (refusalOf ports port function from to payload) (commandOf function from to payload))
   answered-by Q refused command =
       let n = refusalOf ports port function from to payload in
-      choose Q (eqb n 0) (λ e. command (passed (eqb-true n 0 e))) (λ e. refused n (range (eqb-false n 0 e)))
+      choose Q (eqb n 0) (λ e. command (passed (eqb-true n 0 e))) (λ e. refused n (told (eqb-false n 0 e)))
 
 -- ---- a command, by its function
 -- a known function that is none of the five is 64

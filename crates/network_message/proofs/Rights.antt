@@ -7,7 +7,8 @@ use Prim.Native.Nat.{ℕ, _≤_}
 use native.Mathlib.Omega.{arith}
 use borrow.Author.Tests.{eq-eqb, ne-eqb, eqb-true, eqb-false, le-leb}
 use lib.Dec.{eqb}
-use Rattle.network_message.specs.Decoding.{isPort, allPorts, mayName}
+use Rattle.checks.specs.Ports.{isPort}
+use Rattle.network_message.specs.Decoding.{allPorts, mayName}
 use Rattle.network_message.specs.Commands.{Named, pairs, namedBy, reaches, Own}
 
 module _ (ports port function from to : ℕ) (service : port ≡ 1 → ⊥) (real : port ≡ allPorts → ⊥) where

@@ -3,15 +3,16 @@
 use mathlib.Core.Bool.{Bool, true, cond, not, _&&_}
 use mathlib.Core.Logic.{_⊎_}
 use mathlib.Core.Path.{_≡_}
-use mathlib.Core.List.{List, _∷_}
-use Prim.Native.Nat.{ℕ, _+_, _-_, _*_, _≤_}
-use lib.ListN.{length, drop}
+use mathlib.Core.List.{List}
+use Prim.Native.Nat.{ℕ, _≤_}
+use lib.ListN.{length}
 use lib.Dec.{eqb}
-use Rattle.filter.specs.Filter.{Filter, reportedMode}
-use Rattle.filter.specs.Entries.{entriesOf, wellFormed, reported}
+use Rattle.entries.specs.Entries.{wellFormed}
 use Rattle.network_message.specs.declared.Command.{Command}
 use Rattle.network_message.specs.declared.Command.the-variants.{Refused, Request, Add, Delete, Clear, Create, AddressList}
-use Rattle.network_message.specs.Decoding.{fromOf, toOf, isPort, allPorts, between, decoded}
+use Rattle.checks.specs.Checks.{acknowledges}
+use Rattle.network_message.specs.Decoding.{allPorts, between}
+use Rattle.checks.specs.Ports.{isPort}
 
 -- ---- what is named: no pair, those from a port to one or to all, or a port
 pub data Named : Type 0 where
@@ -55,21 +56,10 @@ pub record Holding (start end : ℕ) (payload : List ℕ) : Type 0 where
   pub formed : wellFormed (between start end payload) ≡ true
 
 abbrev pub Good : ℕ → List ℕ → Command → Type 0
-Good ports payload (Refused number) = (9 ≤ number) × (number ≤ 13)
+Good ports payload (Refused number) = acknowledges number ≡ true
 Good ports payload (Request from to) = Ports ports from to × (to ≤ ports)
 Good ports payload (Add from to start end) = Ports ports from to × Holding start end payload
 Good ports payload (Delete from to start end) = Ports ports from to × Holding start end payload
 Good ports payload (Clear from to) = Ports ports from to
 Good ports payload (Create from to pass start end) = Ports ports from to × Holding start end payload
 Good ports payload (AddressList p) = (1 ≤ p) × (p ≤ ports)
-
--- ---- demand 2: a reply to a Request, sent back as Create
-unfoldable pub asCreate : List ℕ → List ℕ
-asCreate reply = 6 ∷ drop 1 reply
-
--- what it is decoded to: the pair, the mode and the list that were reported
-pub record SentBack (ports port pair : ℕ) (f : Filter) (payload : List ℕ) : Type 0 where
-  pub command : decoded ports port payload ≡ Create (fromOf pair) (toOf pair) (eqb (reportedMode (f .mode)) 1) 3 (3 + 3 * length (f .entries))
-  pub bytes : between 3 (3 + 3 * length (f .entries)) payload ≡ reported (f .entries)
-  pub list : entriesOf (between 3 (3 + 3 * length (f .entries)) payload) ≡ f .entries
-  pub long : length payload ≡ 3 + 3 * length (f .entries) + (8 - (3 + 3 * length (f .entries)))

@@ -4,12 +4,16 @@ use mathlib.Core.Bool.{Bool, cond, not, _&&_, _||_}
 use mathlib.Core.List.{List, [], _∷_}
 use Prim.Native.Nat.{ℕ, _+_, _-_, _/_, _%_}
 use lib.ListN.{length, getD, take, drop}
-use lib.Dec.{ltb, leb, eqb}
-use Rattle.filter.specs.Filter.{listed}
-use Rattle.filter.specs.Entries.{every, wellFormed}
+use lib.Dec.{ltb, eqb}
+use Rattle.entries.specs.Entries.{listed, every, wellFormed}
 use Rattle.network_message.specs.declared.Command.{Command}
 use Rattle.network_message.specs.declared.Command.the-variants.{Refused, Request, Add, Delete, Clear, Create, AddressList}
-use Rattle.network_message.specs.Checks.{check, first}
+use Rattle.checks.specs.Checks.{Check, check, first}
+use Rattle.checks.specs.Ports.{isPort}
+
+-- number 7: a message has at most 1,785 bytes; number 2: a reply buffer has room for them
+abbrev pub longest : ℕ
+longest = 1785
 
 -- byte 1
 abbrev pub functionOf : List ℕ → ℕ
@@ -31,9 +35,6 @@ unfoldable pub isKnown : ℕ → Bool
 isKnown function = listed function (0 ∷ 2 ∷ 3 ∷ 4 ∷ 6 ∷ 64 ∷ [])
 
 -- ---- 10: port outside 1 to 4 (and 15 as allowed), or From equals To
-unfoldable pub isPort : ℕ → ℕ → Bool
-isPort ports port = leb 1 port && leb port ports
-
 -- "To may be 15, all pairs from that port, in functions 2, 3, 4 and 6"
 abbrev pub allPorts : ℕ
 allPorts = 15
@@ -84,15 +85,17 @@ unfoldable pub hasWrongMode : ℕ → List ℕ → Bool
 hasWrongMode function payload = eqb function 6 && ltb 1 (getD payload 2 0)
 
 -- ---- the whole
-unfoldable pub refusalOf : ℕ → ℕ → ℕ → ℕ → ℕ → List ℕ → ℕ
-refusalOf ports port function from to payload =
-    first
-    (check (not (isKnown function)) 9
+abbrev pub payloadChecks : ℕ → ℕ → ℕ → ℕ → ℕ → List ℕ → List Check
+payloadChecks ports port function from to payload =
+    check (not (isKnown function)) 9
     ∷ check (not (namesPorts ports function from to)) 10
     ∷ check (not (mayName port function from to)) 11
     ∷ check (not (hasGoodBody function payload)) 12
     ∷ check (hasWrongMode function payload) 13
-    ∷ [])
+    ∷ []
+
+unfoldable pub refusalOf : ℕ → ℕ → ℕ → ℕ → ℕ → List ℕ → ℕ
+refusalOf ports port function from to payload = first (payloadChecks ports port function from to payload)
 
 unfoldable pub commandOf : ℕ → ℕ → ℕ → List ℕ → Command
 commandOf function from to payload =

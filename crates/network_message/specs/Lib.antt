@@ -1,4 +1,2 @@
-pub mod Checks
 pub mod Decoding
-pub mod Replies
 pub mod Commands

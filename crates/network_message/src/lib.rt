@@ -1,12 +1,6 @@
-// The bytes of the network message: a payload is a command or is refused, and replies and acknowledgments are written. It knows bytes and nothing of the
-// unit: what a command does is another's to say.
-mod checks;
-mod replies;
+// The bytes of the network message: a payload is a command or is refused. It knows bytes and nothing of the unit: what a command does is another's to say.
+mod judging;
 
-pub use replies::acknowledge;
-pub use replies::control;
-pub use replies::reply_addresses;
-pub use replies::reply_list;
 ghost use mathlib.Core.Path.{_≡_};
 ghost use Prim.Native.Nat.{_≤_};
 ghost use lib.ListN.{length};
@@ -85,13 +79,13 @@ fn command_of(function: u8, from: u32, to: u32, payload: &[u8]) -> Command
             from,
             to,
             start: 2,
-            end: checks::entries_end(2, payload),
+            end: judging::entries_end(2, payload),
         },
         DELETE => Command::Delete {
             from,
             to,
             start: 2,
-            end: checks::entries_end(2, payload),
+            end: judging::entries_end(2, payload),
         },
         CLEAR => Command::Clear { from, to },
         CREATE => Command::Create {
@@ -99,7 +93,7 @@ fn command_of(function: u8, from: u32, to: u32, payload: &[u8]) -> Command
             to,
             pass: payload[2] == 1,
             start: 3,
-            end: checks::entries_end(3, payload),
+            end: judging::entries_end(3, payload),
         },
         _ => Command::AddressList { port: to },
     }
@@ -113,7 +107,7 @@ pub fn decode(port: u32, payload: &[u8]) -> Command
     let function = payload[0];
     let from = from_port(payload[1]);
     let to = to_port(payload[1]);
-    let number = checks::refusal(port, function, from, to, payload);
+    let number = judging::refusal(port, function, from, to, payload);
     if number != 0 {
         return Command::Refused(number);
     }

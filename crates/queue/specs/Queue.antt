@@ -1,4 +1,4 @@
--- One port's queue: what a block of 65 words means, and what a join and a take do. The rules themselves are those of the crate `delivery`.
+-- One port's queue: what a block of words means, and what a join and a take do. The rules themselves are those of the crate `delivery`.
 use Prim.Native.Nat.{ℕ, _+_, _*_, _/_, _%_, _^_}
 use mathlib.Core.Path.{_≡_}
 use mathlib.Core.Bool.{Bool, false}

@@ -1,4 +1,4 @@
-// One port's queue of at most 32 frames, in place in a block of 65 words that the caller lends: the count, and for each frame the word of its
+// One port's queue of at most 32 frames, in place in a block of words that the caller lends: the count, and for each frame the word of its
 // identifier and length and the word of its bytes. Join and take by the rules of the crate `delivery`.
 ghost use mathlib.Core.Path.{_≡_};
 ghost use Prim.Native.Nat.{_≤_, _<_, _-_};

@@ -15,94 +15,98 @@ use Rattle.queue.specs.declared.Frame.{Frame}
 use Rattle.queue.specs.declared.Taken.{Taken}
 use Rattle.queue.specs.Queue.{rowOf, Joining, Taking}
 use Rattle.addresses.specs.declared.Place.{Place}
-use Rattle.addresses.specs.declared.Event.{Event}
+use Rattle.address_claims.specs.declared.Event.{Event}
 use Rattle.addresses.specs.Table.{tableOf}
 use Rattle.unit.specs.Model.{modelOf, rowsFrom, tableFrom, recordLength, pairAt, rowAt, withRow, withRest, withPairs, withTable}
-use Rattle.record.specs.Steps.{BlockChanging, PairChanging, PairAsking, RowJoining, RowTaking, TableChanging, TableClaiming}
+use Rattle.filter_commands.specs.Steps.{BlockChanging}
+use Rattle.record.specs.Steps.{PairChanging, PairAsking, RowJoining, RowTaking, TableChanging, TableClaiming}
+use Rattle.filter.specs.Filter.{blockSize as filterLength}
+use Rattle.addresses.specs.Table.{tableLength}
+use Rattle.queue.specs.Queue.{blockLength as queueLength}
 
 -- there is a row for each port
 pub rows-four : (words : List ℕ) → length (modelOf 4 words .rows) ≡ 4
 unfolding modelOf
-rows-four words = length-blocks rowOf 65 412 4 words
+rows-four words = length-blocks rowOf queueLength (rowsFrom 4) 4 words
 
 -- ---- the queue of port q
 module _ (words : List ℕ) (q : ℕ) (full : length words ≡ recordLength 4) (port : q < 4) where
-  row-of : rowAt (modelOf 4 words) q ≡ rowOf (take 65 (drop (rowsFrom 4 + 65 * q) words))
+  row-of : rowAt (modelOf 4 words) q ≡ rowOf (take queueLength (drop (rowsFrom 4 + queueLength * q) words))
   unfolding modelOf blockAt
-  row-of = blocks-at rowOf 65 (rowsFrom 4) 4 words q [] port
+  row-of = blocks-at rowOf queueLength (rowsFrom 4) 4 words q [] port
 
-  module _ (ys : List ℕ) (long : length ys ≡ 65) where
-    row-back : modelOf 4 (back (rowsFrom 4 + 65 * q) 65 words ys) ≡ withRow (modelOf 4 words) q (rowOf ys)
+  module _ (ys : List ℕ) (long : length ys ≡ queueLength) where
+    row-back : modelOf 4 (back (rowsFrom 4 + queueLength * q) queueLength words ys) ≡ withRow (modelOf 4 words) q (rowOf ys)
     unfolding modelOf
     row-back =
         rw (
-          part-before (rowsFrom 4 + 65 * q) 65 words ys long (omega arith) 0 4 (omega arith),
-          blocks-apart (rowsFrom 4 + 65 * q) 65 words ys long (omega arith) filterOf 34 4 12 (inl (omega arith)),
-          blocks-set (rowsFrom 4) 65 words ys q long (omega arith) rowOf 4 port,
-          part-apart (rowsFrom 4 + 65 * q) 65 words ys long (omega arith) (tableFrom 4) 508 (inr (omega arith)),
+          part-before (rowsFrom 4 + queueLength * q) queueLength words ys long (omega arith) 0 4 (omega arith),
+          blocks-apart (rowsFrom 4 + queueLength * q) queueLength words ys long (omega arith) filterOf filterLength 4 12 (inl (omega arith)),
+          blocks-set (rowsFrom 4) queueLength words ys q long (omega arith) rowOf 4 port,
+          part-apart (rowsFrom 4 + queueLength * q) queueLength words ys long (omega arith) (tableFrom 4) tableLength (inr (omega arith)),
         )
 
-    pub row-joined : (f : Frame) (r : Bool) → Joining (take 65 (drop (rowsFrom 4 + 65 * q) words)) ys f r → RowJoining 4 words (back (rowsFrom 4 + 65 * q) 65 words ys) q f r
+    pub row-joined : (f : Frame) (r : Bool) → Joining (take queueLength (drop (rowsFrom 4 + queueLength * q) words)) ys f r → RowJoining 4 words (back (rowsFrom 4 + queueLength * q) queueLength words ys) q f r
     row-joined f r J = record { answer = rw row-of (J .answer); state = rw (row-back, row-of, J .row) }
 
-    pub row-taken : (r : Taken) → Taking (take 65 (drop (rowsFrom 4 + 65 * q) words)) ys r → RowTaking 4 words (back (rowsFrom 4 + 65 * q) 65 words ys) q r
+    pub row-taken : (r : Taken) → Taking (take queueLength (drop (rowsFrom 4 + queueLength * q) words)) ys r → RowTaking 4 words (back (rowsFrom 4 + queueLength * q) queueLength words ys) q r
     row-taken r T = record {
       answer = rw row-of (T .answer);
       state = rw (row-back, row-of, T .row);
-      ahead = part-before (rowsFrom 4 + 65 * q) 65 words ys long (omega arith) 0 (rowsFrom 4 + 65 * q) (omega arith);
-      behind = part-after (rowsFrom 4 + 65 * q) 65 words ys long (omega arith) (rowsFrom 4 + 65 * q + 65) (omega arith);
+      ahead = part-before (rowsFrom 4 + queueLength * q) queueLength words ys long (omega arith) 0 (rowsFrom 4 + queueLength * q) (omega arith);
+      behind = part-after (rowsFrom 4 + queueLength * q) queueLength words ys long (omega arith) (rowsFrom 4 + queueLength * q + queueLength) (omega arith);
     }
 
 -- ---- the filter of a pair
-pair-lent : (words ys : List ℕ) (i : ℕ) → length words ≡ recordLength 4 → i < 12 → length ys ≡ 34
-    → modelOf 4 (back (4 + 34 * i) 34 words ys) ≡ withRest (modelOf 4 words) (withPairs (modelOf 4 words .rest) (set (modelOf 4 words .rest .pairs) i (filterOf ys)))
+pair-lent : (words ys : List ℕ) (i : ℕ) → length words ≡ recordLength 4 → i < 12 → length ys ≡ filterLength
+    → modelOf 4 (back (4 + filterLength * i) filterLength words ys) ≡ withRest (modelOf 4 words) (withPairs (modelOf 4 words .rest) (set (modelOf 4 words .rest .pairs) i (filterOf ys)))
 unfolding modelOf
 pair-lent words ys i full pair long =
     rw (
-      part-before (4 + 34 * i) 34 words ys long (omega arith) 0 4 (omega arith),
-      blocks-set 4 34 words ys i long (omega arith) filterOf 12 pair,
-      blocks-apart (4 + 34 * i) 34 words ys long (omega arith) rowOf 65 412 4 (inr (omega arith)),
-      part-apart (4 + 34 * i) 34 words ys long (omega arith) (tableFrom 4) 508 (inr (omega arith)),
+      part-before (4 + filterLength * i) filterLength words ys long (omega arith) 0 4 (omega arith),
+      blocks-set 4 filterLength words ys i long (omega arith) filterOf 12 pair,
+      blocks-apart (4 + filterLength * i) filterLength words ys long (omega arith) rowOf queueLength (rowsFrom 4) 4 (inr (omega arith)),
+      part-apart (4 + filterLength * i) filterLength words ys long (omega arith) (tableFrom 4) tableLength (inr (omega arith)),
     )
 
-pub pair-asked : (words : List ℕ) (p q pgn i : ℕ) (r : Asked) → i ≡ pairAt 4 p q → i < 12 → Asking (take 34 (drop (4 + 34 * i) words)) pgn r → PairAsking 4 words p q pgn r
+pub pair-asked : (words : List ℕ) (p q pgn i : ℕ) (r : Asked) → i ≡ pairAt 4 p q → i < 12 → Asking (take filterLength (drop (4 + filterLength * i) words)) pgn r → PairAsking 4 words p q pgn r
 unfolding modelOf blockAt
 pair-asked words p q pgn i r e h A = record {
-  answer = rw (← e, blocks-at filterOf 34 4 12 words i clear h) (A .answer);
+  answer = rw (← e, blocks-at filterOf filterLength 4 12 words i clear h) (A .answer);
   small = A .small;
 }
 
 module _ (words : List ℕ) (i : ℕ) (full : length words ≡ recordLength 4) (pair : i < 12) where
-  pub pair-of : getD (modelOf 4 words .rest .pairs) i clear ≡ filterOf (take 34 (drop (4 + 34 * i) words))
+  pub pair-of : getD (modelOf 4 words .rest .pairs) i clear ≡ filterOf (take filterLength (drop (4 + filterLength * i) words))
   unfolding modelOf blockAt
-  pair-of = blocks-at filterOf 34 4 12 words i clear pair
+  pair-of = blocks-at filterOf filterLength 4 12 words i clear pair
 
-  pub pair-changed : (ys : List ℕ) (change : Filter → Filter) → length ys ≡ 34 → BlockChanging (take 34 (drop (4 + 34 * i) words)) ys change → PairChanging 4 words (back (4 + 34 * i) 34 words ys) i change
+  pub pair-changed : (ys : List ℕ) (change : Filter → Filter) → length ys ≡ filterLength → BlockChanging (take filterLength (drop (4 + filterLength * i) words)) ys change → PairChanging 4 words (back (4 + filterLength * i) filterLength words ys) i change
   pair-changed ys change long C = record { state = pair-back ∙ rw (C .state, pair-of) }
     where
-      pair-back : modelOf 4 (back (4 + 34 * i) 34 words ys) ≡ withRest (modelOf 4 words) (withPairs (modelOf 4 words .rest) (set (modelOf 4 words .rest .pairs) i (filterOf ys)))
+      pair-back : modelOf 4 (back (4 + filterLength * i) filterLength words ys) ≡ withRest (modelOf 4 words) (withPairs (modelOf 4 words .rest) (set (modelOf 4 words .rest .pairs) i (filterOf ys)))
       pair-back = pair-lent words ys i full pair long
 
 -- ---- the address table
-module _ (words ys : List ℕ) (full : length words ≡ recordLength 4) (long : length ys ≡ 508) where
-  pub table-back : modelOf 4 (back 672 508 words ys) ≡ withRest (modelOf 4 words) (withTable (modelOf 4 words .rest) (tableOf ys))
+module _ (words ys : List ℕ) (full : length words ≡ recordLength 4) (long : length ys ≡ tableLength) where
+  pub table-back : modelOf 4 (back (tableFrom 4) tableLength words ys) ≡ withRest (modelOf 4 words) (withTable (modelOf 4 words .rest) (tableOf ys))
   unfolding modelOf
   table-back =
       rw (
-        part-before 672 508 words ys long (omega arith) 0 4 (omega arith),
-        blocks-apart 672 508 words ys long (omega arith) filterOf 34 4 12 (inl (omega arith)),
-        blocks-apart 672 508 words ys long (omega arith) rowOf 65 412 4 (inl (omega arith)),
-        part-in 672 508 words ys long (omega arith),
+        part-before (tableFrom 4) tableLength words ys long (omega arith) 0 4 (omega arith),
+        blocks-apart (tableFrom 4) tableLength words ys long (omega arith) filterOf filterLength 4 12 (inl (omega arith)),
+        blocks-apart (tableFrom 4) tableLength words ys long (omega arith) rowOf queueLength (rowsFrom 4) 4 (inl (omega arith)),
+        part-in (tableFrom 4) tableLength words ys long (omega arith),
       )
 
-  module _ (change : List Place → List Place) (e : tableOf ys ≡ change (tableOf (take 508 (drop 672 words)))) where
-    changed : modelOf 4 (back 672 508 words ys) ≡ withRest (modelOf 4 words) (withTable (modelOf 4 words .rest) (change (modelOf 4 words .rest .table)))
+  module _ (change : List Place → List Place) (e : tableOf ys ≡ change (tableOf (take tableLength (drop (tableFrom 4) words)))) where
+    changed : modelOf 4 (back (tableFrom 4) tableLength words ys) ≡ withRest (modelOf 4 words) (withTable (modelOf 4 words .rest) (change (modelOf 4 words .rest .table)))
     unfolding modelOf
     changed = table-back ∙ rw e
 
-    pub table-changed : TableChanging 4 words (back 672 508 words ys) change
+    pub table-changed : TableChanging 4 words (back (tableFrom 4) tableLength words ys) change
     table-changed = record { state = changed }
 
-    pub table-claimed : (came : List Place → Event) (r : Event) → r ≡ came (tableOf (take 508 (drop 672 words))) → TableClaiming 4 words (back 672 508 words ys) change came r
+    pub table-claimed : (came : List Place → Event) (r : Event) → r ≡ came (tableOf (take tableLength (drop (tableFrom 4) words))) → TableClaiming 4 words (back (tableFrom 4) tableLength words ys) change came r
     unfolding modelOf
     table-claimed came r h = record { state = changed; event = h }

@@ -4,15 +4,16 @@ use Prim.Native.Nat.{ℕ, _+_, _*_, _≤_}
 use mathlib.Core.Bool.{Bool}
 use mathlib.Core.Path.{_≡_}
 use mathlib.Core.List.{List}
-use lib.ListN.{length, take, drop, getD, set}
+use lib.ListN.{take, drop, getD, set}
 use Rattle.delivery.specs.Row.{room, join, pull, given, kept}
 use Rattle.filter.specs.declared.Asked.{Asked}
-use Rattle.filter.specs.Filter.{Filter, filterOf, clear, asked, listSize}
+use Rattle.filter.specs.Filter.{Filter, clear, asked}
+use Rattle.pgn_list.specs.PgnList.{listSize}
 use Rattle.queue.specs.declared.Frame.{Frame}
 use Rattle.queue.specs.declared.Taken.{Taken}
 use Rattle.queue.specs.Queue.{size, priority, takenOf, blockLength as queueLength}
 use Rattle.addresses.specs.declared.Place.{Place}
-use Rattle.addresses.specs.declared.Event.{Event}
+use Rattle.address_claims.specs.declared.Event.{Event}
 use Rattle.unit.specs.Model.{rowAt, pairAt, withRest, withPairs, withTable, withRow, rowsFrom, modelOf}
 
 -- the address table was changed, and what came of a claim there
@@ -28,11 +29,7 @@ pub record PairAsking (ports : ℕ) (words : List ℕ) (p q pgn : ℕ) (r : Aske
   pub answer : r ≡ asked (getD (modelOf ports words .rest .pairs) (pairAt ports p q) clear) pgn
   pub small : r .compared ≤ listSize
 
--- a pair's block was changed, and in the record
-pub record BlockChanging (before after : List ℕ) (change : Filter → Filter) : Type 0 where
-  pub state : filterOf after ≡ change (filterOf before)
-  pub long : length after ≡ length before
-
+-- a pair was changed in the record
 pub record PairChanging (ports : ℕ) (before after : List ℕ) (i : ℕ) (change : Filter → Filter) : Type 0 where
   pub state : modelOf ports after
       ≡ withRest (modelOf ports before) (withPairs (modelOf ports before .rest) (set (modelOf ports before .rest .pairs) i (change (getD (modelOf ports before .rest .pairs) i clear))))

@@ -9,11 +9,14 @@ use lib.Dec.{ltb, leb, eqb}
 use Rattle.identifier.specs.Identifier.{saOf, tooWide, wrongSource}
 use Rattle.unit.specs.declared.Unit.{Unit}
 use Rattle.unit.specs.Model.{recordLength, Rest}
-use Rattle.refusals.specs.Refusals.{noPort, frameRefusal, takeRefusal, messageRefusal}
+use Rattle.checks.specs.Ports.{noPort, isPort}
+use Rattle.refusals.specs.Refusals.{frameRefusal, takeRefusal, messageRefusal}
 use Rattle.unit.specs.PowerOn.{notLong}
 use Rattle.unit.specs.Own.{isUnstarted, startChecks, isClaimed}
-use Rattle.network_message.specs.Checks.{first}
-use Rattle.network_message.specs.Replies.{longest}
+use Rattle.checks.specs.Checks.{first}
+use Rattle.checks.proofs.Tests.{both}
+use Rattle.checks.proofs.Ports.{port-bounds}
+use Rattle.network_message.specs.Decoding.{longest}
 
 pub none : (b : Bool) (n : ℕ) {rest : ℕ} → 0 < n → cond b n rest ≡ 0 → (b ≡ false) × (rest ≡ 0)
 none true n h e = absurd (omega arith)
@@ -30,14 +33,8 @@ passed-first true b rest n e z = absurd (omega arith)
 passed-first false true rest n e z = absurd (omega arith)
 passed-first false false rest n e z = refl
 
-pub both : (a b : Bool) → a && b ≡ true → (a ≡ true) × (b ≡ true)
-both true b e = (refl, e)
-both false b e = let z : _≡_ {A = ℕ} 0 1 = cc in absurd (omega arith)
-
 pub port-in : (ports port : ℕ) → noPort ports port ≡ false → (1 ≤ port) × (port ≤ ports)
-port-in ports port h =
-    let e = both (leb 1 port) (leb port ports) (not-false (leb 1 port && leb port ports) h) in
-    (leb-true 1 port (e .0), leb-true port ports (e .1))
+port-in ports port h = port-bounds ports port (not-false (isPort ports port) h)
 
 pub long-in : (lent : ℕ) → notLong 4 lent ≡ false → lent ≡ recordLength 4
 long-in lent h = eqb-true lent (recordLength 4) (not-false (eqb lent (recordLength 4)) h)

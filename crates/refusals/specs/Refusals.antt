@@ -1,22 +1,19 @@
 -- Document 01, "Numbers given back": the checks of each call in order, and the number of the first that applies, 0 where none does.
 -- Assumes nothing.
 use Prim.Native.Nat.{ℕ}
-use mathlib.Core.Bool.{Bool, not, _&&_, _||_}
+use mathlib.Core.Bool.{not, _&&_, _||_}
 use mathlib.Core.List.{List, [], _∷_}
 use lib.Dec.{ltb, leb}
 use Rattle.identifier.specs.Identifier.{tooWide, wrongSource}
-use Rattle.network_message.specs.Checks.{Check, check, first}
-use Rattle.network_message.specs.Replies.{longest}
+use Rattle.checks.specs.Checks.{Check, check, first}
+use Rattle.checks.specs.Ports.{noPort}
+use Rattle.network_message.specs.Decoding.{longest}
 use Rattle.unit.specs.declared.Unit.{Unit}
 use Rattle.unit.specs.PowerOn.{notLong}
 use Rattle.unit.specs.Own.{isClaiming, startChecks, isClaimed}
 use Rattle.unit.specs.Model.{Rest}
 
--- 1: port not 1 to 4
-abbrev pub noPort : ℕ → ℕ → Bool
-noPort ports port = not (leb 1 port && leb port ports)
-
--- 3: identifier 2^29 or more; 4: frame length over 8; 5: the source address
+-- 1: port not 1 to 4; 3: identifier 2^29 or more; 4: frame length over 8; 5: the source address
 unfoldable pub frameRefusal : ℕ → ℕ → ℕ → ℕ → ℕ → ℕ
 frameRefusal ports lent port id len =
     first
@@ -42,10 +39,12 @@ quietRefusal ports lent own = first (check (notLong ports lent) 2 ∷ check (not
 abbrev pub lateChecks : ℕ → ℕ → List Check
 lateChecks requester size = check (not (leb 8 size && leb size longest)) 7 ∷ check (ltb 253 requester) 8 ∷ []
 
-unfoldable pub messageRefusal : ℕ → ℕ → ℕ → Rest → ℕ → ℕ → ℕ → ℕ
-messageRefusal ports lent lentReply rest port requester size =
-    first
-    (check (noPort ports port) 1
+abbrev pub messageChecks : ℕ → ℕ → ℕ → Rest → ℕ → ℕ → ℕ → List Check
+messageChecks ports lent lentReply rest port requester size =
+    check (noPort ports port) 1
     ∷ check (notLong ports lent || ltb lentReply longest) 2
     ∷ check (not (isClaimed (rest .own .claim))) 6
-    ∷ lateChecks requester size)
+    ∷ lateChecks requester size
+
+unfoldable pub messageRefusal : ℕ → ℕ → ℕ → Rest → ℕ → ℕ → ℕ → ℕ
+messageRefusal ports lent lentReply rest port requester size = first (messageChecks ports lent lentReply rest port requester size)

@@ -2,18 +2,18 @@
 use unit::Unit;
 ghost use mathlib.Core.Path.{_≡_};
 ghost use lib.ListN.{length};
-ghost use Rattle.network_message.specs.Checks.{first};
+ghost use Rattle.checks.specs.Checks.{first};
 ghost use Rattle.unit.specs.Model.{modelOf};
 ghost use Rattle.refusals.specs.Refusals.{lateChecks, messageRefusal, frameRefusal, takeRefusal};
+
+// The bytes of the longest message, which a buffer for what is sent back must have room for.
+pub const LONGEST_MESSAGE: usize = 1785;
 
 // The number that a take is refused with, or 0: a frame too is refused with 1 and 2.
 pub fn take_refusal(lent: usize, port: u32) -> u32
     ensures { λ r. ⌜ r ≡ takeRefusal 4 lent port ⌝ }
 {
-    if port < 1 {
-        return 1;
-    }
-    if 4 < port {
+    if !checks::is_port(port) {
         return 1;
     }
     if lent != Unit::RECORD_LENGTH {
@@ -49,7 +49,7 @@ fn late_refusal(payload: usize, requester: u32) -> u32
     if payload < 8 {
         return 7;
     }
-    if 1785 < payload {
+    if LONGEST_MESSAGE < payload {
         return 7;
     }
     if 253 < requester {
@@ -72,7 +72,7 @@ pub fn message_refusal(
     if number != 0 {
         return number;
     }
-    if reply < 1785 {
+    if reply < LONGEST_MESSAGE {
         return 2;
     }
     let unit = unit::read_unit(words);

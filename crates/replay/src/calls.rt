@@ -2,7 +2,7 @@
 use crate::print;
 use crate::script;
 use crate::tally;
-use addresses::Event;
+use address_claims::Event;
 use bridge::FrameAnswer;
 use bridge::MessageAnswer;
 use bridge::TakeAnswer;

@@ -1,13 +1,13 @@
 -- Blocks of a record: which block stands at an index, and what a block that was lent and came back does to its own region and to every other. Assumes nothing.
 use mathlib.Core.Path.{_≡_, refl, sym, ap, _∙_}
 use mathlib.Core.Logic.{_⊎_, inl, inr, ⊎-elim}
-use mathlib.Core.List.{List, _∷_}
+use mathlib.Core.List.{List, [], _∷_}
 use Prim.Native.Nat.{ℕ, zero, suc, _+_, _-_, _*_, _≤_, _<_}
 use native.Mathlib.Nat.{not-suc-le-zero, le-of-suc-le-suc, mul-le-mul-left, mul-suc, zero-add, suc-add}
 use native.Mathlib.Decide.{decLt, ℕ-discrete}
 use native.Mathlib.Omega.{arith}
 use lib.ListN.{length, getD, set, take, drop, length-set, replicate}
-use lib.Seq.{ext-getD, getD-set-same, getD-set-other}
+use lib.Seq.{ext-getD, getD-set-same, getD-set-other, take-take, drop-drop, take-nil}
 use Rattle.storage.specs.Blocks.{blockAt, blocksOf}
 use Rattle.storage.proofs.Parts.{back, part-in, part-apart}
 
@@ -98,3 +98,17 @@ module _ (n c : ℕ) where
   blocks-filled meaning size start zero h = refl
   blocks-filled meaning size start (suc k) h =
       rw (part-filled start size (omega (arith, mul-suc size k)), blocks-filled meaning size (start + size) k (omega (arith, mul-suc size k)))
+
+-- ---- blocks that lie within a part are those of the part
+within : (a size k : ℕ) (xs : List ℕ) → a + size ≤ k → take size (drop a (take k xs)) ≡ take size (drop a xs)
+within zero size k xs h = take-take size k xs (omega arith)
+within (suc a) size k [] h = rw (take-nil k)
+within (suc a) size zero (x ∷ xs) h = absurd (omega arith)
+within (suc a) size (suc k) (x ∷ xs) h = within a size k xs (omega arith)
+
+pub blocks-within : {M : Type 0} (meaning : List ℕ → M) (size start k a count : ℕ) (words : List ℕ) → a + size * count ≤ k → blocksOf (start + a) size count meaning words ≡ blocksOf a size count meaning (take k (drop start words))
+unfolding blocksOf
+blocks-within meaning size start k a zero words h = refl
+blocks-within meaning size start k a (suc n) words h =
+    let e : start + a + size ≡ start + (a + size) = omega arith in
+    rw (within a size k (drop start words) (omega (arith, mul-suc size n)), drop-drop a start words, e, blocks-within meaning size start k (a + size) n words (omega (arith, mul-suc size n)))

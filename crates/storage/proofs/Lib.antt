@@ -1,3 +1,5 @@
 pub mod Parts
 pub mod Blocks
 pub mod Bytes
+pub mod Walk
+pub mod Copy

@@ -20,6 +20,11 @@ use Rattle.unit.specs.Model.{recordLength, claimFrom, unitOf, modelOf, w
 use Rattle.unit.specs.Own.{claimWord, freshUnit}
 use borrow.Author.Tests.{eq-eqb, ne-eqb}
 use Rattle.unit.specs.PowerOn.{powerOnRefusal, PoweringOn}
+use Rattle.filter.specs.Filter.{blockSize as filterLength}
+use Rattle.unit.specs.Model.{rowsFrom}
+use Rattle.queue.specs.Queue.{blockLength as queueLength}
+use Rattle.addresses.specs.Table.{tableLength}
+use Rattle.unit.specs.Model.{tableFrom}
 
 -- ---- reading
 pub lost-from : (word : ℕ) → (word ≡ 0 → ⊥) → (word ≡ 1 → ⊥) → (word ≡ 2 → ⊥) → Lost ≡ claimFrom word
@@ -74,17 +79,17 @@ own-stored words u w full a p e =
       four-stores words (claimWord (u .claim)) (u .address) (u .preferred) (u .name) (omega arith),
       part-in 0 4 words ys refl (omega arith),
       unit-of-four u a p,
-      blocks-apart 0 4 words ys refl (omega arith) filterOf 34 4 12 (inr (omega arith)),
-      blocks-apart 0 4 words ys refl (omega arith) rowOf 65 412 4 (inr (omega arith)),
-      part-apart 0 4 words ys refl (omega arith) 672 508 (inr (omega arith)),
+      blocks-apart 0 4 words ys refl (omega arith) filterOf filterLength 4 12 (inr (omega arith)),
+      blocks-apart 0 4 words ys refl (omega arith) rowOf queueLength (rowsFrom 4) 4 (inr (omega arith)),
+      part-apart 0 4 words ys refl (omega arith) (tableFrom 4) tableLength (inr (omega arith)),
     )
 
 -- ---- power-on: a record of zeros, with the fresh unit
-no-filter : filterOf (replicate 34 0) ≡ clear
+no-filter : filterOf (replicate filterLength 0) ≡ clear
 unfolding filterOf meant
 no-filter = refl
 
-no-row : rowOf (replicate 65 0) ≡ []
+no-row : rowOf (replicate queueLength 0) ≡ []
 unfolding rowOf
 no-row = refl
 
@@ -92,21 +97,22 @@ no-place : placeOf (replicate 2 0) ≡ Free
 unfolding placeOf placeFrom
 no-place = refl
 
-no-table : (n : ℕ) → n ≡ 508 → tableOf (replicate n 0) ≡ replicate places Free
+no-table : (n : ℕ) → n ≡ tableLength → tableOf (replicate n 0) ≡ replicate places Free
 unfolding tableOf
 no-table n e = rw (blocks-filled n 0 placeOf 2 0 254 (omega arith), no-place)
 
 pub wiped : (n : ℕ) (u : Unit) → n ≡ recordLength 4 → withRest (modelOf 4 (replicate n 0)) (withOwn (modelOf 4 (replicate n 0) .rest) u) ≡ record {
   rest = record { own = u; pairs = replicate 12 clear; table = replicate places Free };
   rows = replicate 4 [];
+  seen = record {};
 }
 unfolding modelOf
 wiped n u e =
     rw (
-      blocks-filled n 0 filterOf 34 4 12 (omega arith),
-      blocks-filled n 0 rowOf 65 412 4 (omega arith),
-      part-filled n 0 672 508 (omega arith),
-      no-table 508 refl,
+      blocks-filled n 0 filterOf filterLength 4 12 (omega arith),
+      blocks-filled n 0 rowOf queueLength (rowsFrom 4) 4 (omega arith),
+      part-filled n 0 (tableFrom 4) tableLength (omega arith),
+      no-table tableLength refl,
       no-filter,
       no-row,
     )

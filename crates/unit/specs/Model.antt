@@ -25,9 +25,13 @@ pub record Rest : Type 0 where
   pub pairs : List Filter
   pub table : List Place
 
+-- what is only looked at, by a reply or by a call that reads it: it moves neither the rest nor a row, and no number depends on it. Nothing is kept so yet
+pub record Seen : Type 0 where
+
 pub record Model : Type 0 where
   pub rest : Rest
   pub rows : List (List Frame)
+  pub seen : Seen
 
 -- port q's row
 abbrev pub rowAt : Model → ℕ → List Frame
@@ -48,10 +52,10 @@ abbrev pub withTable : Rest → List Place → Rest
 withTable rest table = record { own = rest .own; pairs = rest .pairs; table = table }
 
 abbrev pub withRest : Model → Rest → Model
-withRest m rest = record { rest = rest; rows = m .rows }
+withRest m rest = record { rest = rest; rows = m .rows; seen = m .seen }
 
 abbrev pub withRows : Model → List (List Frame) → Model
-withRows m rows = record { rest = m .rest; rows = rows }
+withRows m rows = record { rest = m .rest; rows = rows; seen = m .seen }
 
 abbrev pub withRow : Model → ℕ → List Frame → Model
 withRow m q row = withRows m (set (m .rows) q row)
@@ -96,4 +100,5 @@ modelOf ports words = record {
     table = tableOf (take tableLength (drop (tableFrom ports) words));
   };
   rows = blocksOf (rowsFrom ports) queueLength ports rowOf words;
+  seen = record {};
 }

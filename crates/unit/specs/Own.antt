@@ -6,7 +6,7 @@ use mathlib.Core.List.{List, [], _∷_}
 use lib.Dec.{ltb, eqb}
 use Rattle.identifier.specs.Identifier.{psOf, hasDestination}
 use Rattle.queue.specs.declared.Frame.{Frame}
-use Rattle.network_message.specs.Checks.{Check, check}
+use Rattle.checks.specs.Checks.{Check, check}
 use Rattle.unit.specs.declared.Claim.{Claim}
 use Rattle.unit.specs.declared.Claim.the-variants.{Unstarted, Claiming, Claimed, Lost}
 use Rattle.unit.specs.declared.Unit.{Unit}

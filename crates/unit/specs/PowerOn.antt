@@ -9,7 +9,7 @@ use lib.ListN.{length, replicate}
 use Rattle.filter.specs.Filter.{clear}
 use Rattle.addresses.specs.declared.Place.the-variants.{Free}
 use Rattle.addresses.specs.Table.{places}
-use Rattle.network_message.specs.Checks.{check, first}
+use Rattle.checks.specs.Checks.{check, first}
 use Rattle.unit.specs.Model.{recordLength, Model, modelOf}
 use Rattle.unit.specs.Own.{freshUnit}
 
@@ -25,6 +25,7 @@ abbrev pub fresh : ℕ → ℕ → ℕ → Model
 fresh ports name preferred = record {
   rest = record { own = freshUnit name preferred; pairs = replicate (ports * (ports - 1)) clear; table = replicate places Free };
   rows = replicate ports [];
+  seen = record {};
 }
 
 pub record PoweringOn (ports : ℕ) (before after : List ℕ) (name preferred r : ℕ) : Type 0 where

@@ -7,7 +7,7 @@ pub use words::store_unit;
 ghost use mathlib.Core.Path.{_≡_};
 ghost use Rattle.unit.specs.Model.{claimFrom};
 ghost use Rattle.unit.specs.Own.{isUnstarted, isClaiming, startChecks, holdsAddress, isOwn, consumes, freshUnit, moved, claimFrame, cannotClaimFrame, requestAnswer, isClaimed, claimWord};
-ghost use Rattle.network_message.specs.Checks.{first};
+ghost use Rattle.checks.specs.Checks.{first};
 ghost use Rattle.unit.specs.PowerOn.{PoweringOn};
 
 // The address of a unit that has none.
@@ -112,11 +112,21 @@ impl Claim {
 impl Unit {
     pub const PORTS: usize = 4;
 
-    pub const LIST_SIZE: usize = 32;
+    pub const LIST_SIZE: usize = pgn_list::LIST_SIZE;
 
-    pub const QUEUE_SIZE: usize = 32;
+    pub const QUEUE_SIZE: usize = queue::SIZE;
 
-    pub const RECORD_LENGTH: usize = 1180;
+    // The directed pairs, in order of From, then To.
+    pub const PAIRS: usize = Self::PORTS * (Self::PORTS - 1);
+
+    // Where the record's regions begin: the unit's own words, a filter for each pair, a queue for each port, the address table.
+    pub const FILTERS_AT: usize = 4;
+
+    pub const QUEUES_AT: usize = Self::FILTERS_AT + filter::BLOCK_SIZE * Self::PAIRS;
+
+    pub const TABLE_AT: usize = Self::QUEUES_AT + queue::BLOCK_LENGTH * Self::PORTS;
+
+    pub const RECORD_LENGTH: usize = Self::TABLE_AT + addresses::TABLE_LENGTH;
 
     // The unit as power-on makes it.
     pub fn fresh(name: u64, preferred: u32) -> Unit

@@ -11,14 +11,13 @@ use Rattle.storage.specs.Blocks.{blockAt, blocksOf}
 use Rattle.storage.proofs.Blocks.{length-blocks}
 use Rattle.storage.proofs.Parts.{back}
 use Rattle.delivery.specs.Calls.{afterCalls, answersOf}
-use Rattle.delivery.proofs.Calls.{after-append, answers-append}
+use Rattle.delivery.proofs.Calls.{after-append, answers-append, length-answers}
 use Rattle.queue.specs.declared.Taken.the-variants.{Given, Nothing}
 use Rattle.bridge.specs.declared.TakeAnswer.the-variants.{Refused, Took}
 use Rattle.unit.specs.Model.{modelOf, recordLength}
 use Rattle.unit.specs.PowerOn.{PoweringOn}
-use Rattle.assurance.specs.Demand3.{Answer, ToFrame, ToTake, ToMessage, ToStart, ToQuiet, next, answer}
-use Rattle.assurance.proofs.OneCall.{length-answers}
-use Rattle.assurance.proofs.Demand3.{power-on-goes}
+use Rattle.demand_3.specs.Demand3.{Answer, ToFrame, ToTake, ToMessage, ToStart, ToQuiet, next, answer}
+use Rattle.demand_3.proofs.Demand3.{power-on-goes}
 use Rattle.witness.specs.Encoding.{callWords, answerWords, callOf, code, codes}
 use Rattle.witness.specs.Replay.{Stepping, callsOf, Running, count, Replaying}
 
@@ -83,7 +82,7 @@ module _ {words₀ calls bytes : List ℕ} {lentReply : ℕ} {lent : List ℕ} w
       let ks = callsOf calls bytes lentReply i in
       let k = callOf bytes lentReply (take callWords (drop (callWords * i) calls)) in
       let long : length (codes (answersOf next answer m ks)) ≡ answerWords * i =
-      codes-long (answersOf next answer m ks) ∙ rw (length-answers m ks, length-blocks (callOf bytes lentReply) callWords 0 i calls) in
+      codes-long (answersOf next answer m ks) ∙ rw (length-answers next answer m ks, length-blocks (callOf bytes lentReply) callWords 0 i calls) in
       let told : out ≡ code (answer (afterCalls next m ks) k) = rw (r .state) at (s .answer) in
       record {
         state = s .state ∙ rw (r .state, more calls bytes lentReply i) (sym (after-append next m ks (k ∷ [])));

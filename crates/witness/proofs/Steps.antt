@@ -12,7 +12,7 @@ use Rattle.message_answers.specs.declared.MessageAnswer.{MessageAnswer}
 use Rattle.bridge.specs.declared.StartAnswer.{StartAnswer}
 use Rattle.unit.specs.Model.{recordLength}
 use Rattle.bridge.specs.Calls.{FrameIn, TakeOut, Message, Start, Quiet, Framing, TakingOut, Messaging, Starting, Quieting}
-use Rattle.assurance.specs.Demand3.{ToFrame, ToTake, answer}
+use Rattle.demand_3.specs.Demand3.{ToFrame, ToTake, answer}
 use Rattle.witness.specs.Encoding.{answerWords, partOf, code}
 use Rattle.witness.specs.Replay.{Stepping}
 

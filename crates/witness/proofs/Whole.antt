@@ -1,11 +1,11 @@
--- What `replay` did obeys demand 3: its contract gives the whole claim of `assurance` for the list of calls that its words say. Assumes nothing.
+-- What `replay` did obeys demand 3: its contract gives the whole claim for the list of calls that its words say. Assumes nothing.
 use mathlib.Core.Path.{refl}
 use mathlib.Core.List.{List}
 use Prim.Native.Nat.{ℕ}
 use Rattle.delivery.specs.Calls.{answersOf}
 use Rattle.unit.specs.PowerOn.{fresh}
-use Rattle.assurance.specs.Demand3.{next, answer, Demand3}
-use Rattle.assurance.proofs.Demand3.{from-book}
+use Rattle.demand_3.specs.Demand3.{next, answer, Demand3}
+use Rattle.demand_3.proofs.Demand3.{from-book}
 use Rattle.witness.specs.Replay.{callsOf, count, Replaying}
 
 pub replay-obeys : {before after calls bytes lent back : List ℕ} {name preferred lentReply : ℕ} → Replaying before after name preferred calls bytes lentReply lent back 0

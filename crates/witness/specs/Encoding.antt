@@ -6,10 +6,10 @@ use mathlib.Core.List.{List, [], _∷_, _++_}
 use lib.Dec.{eqb}
 use lib.ListN.{take, drop, getD}
 use Rattle.queue.specs.declared.Taken.the-variants.{Given, Nothing}
-use Rattle.addresses.specs.Events.{eventNumber, oldName}
+use Rattle.address_claims.specs.Events.{eventNumber, oldName}
 use Rattle.bridge.specs.declared.TakeAnswer.the-variants.{Refused, Took}
 use Rattle.bridge.specs.Calls.{Call, FrameIn, TakeOut, Message, Start, Quiet}
-use Rattle.assurance.specs.Demand3.{Answer, ToFrame, ToTake, ToMessage, ToStart, ToQuiet}
+use Rattle.demand_3.specs.Demand3.{Answer, ToFrame, ToTake, ToMessage, ToStart, ToQuiet}
 
 abbrev pub callWords : ℕ
 callWords = 5

@@ -9,7 +9,7 @@ use Rattle.unit.specs.Model.{modelOf}
 use Rattle.unit.specs.PowerOn.{powerOnRefusal}
 use Rattle.bridge.specs.Calls.{Call}
 use Rattle.unit.specs.PowerOn.{fresh}
-use Rattle.assurance.specs.Demand3.{next, answer}
+use Rattle.demand_3.specs.Demand3.{next, answer}
 use Rattle.witness.specs.Encoding.{callWords, answerWords, callOf, code, codes}
 
 -- one call

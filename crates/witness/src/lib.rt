@@ -1,5 +1,5 @@
 // A second witness of demand 3, by running code: `replay` makes any list of calls on one record, from power-on on, and writes down the answers. Its
-// contract says of the whole list what the theorem of `assurance` says: the answers are the book's.
+// contract says of the whole list what demand 3 says: the answers are the book's.
 use bridge::FrameAnswer;
 use bridge::TakeAnswer;
 use queue::Taken;
@@ -11,7 +11,7 @@ ghost use Prim.Native.Nat.{_*_, _≤_, min};
 ghost use lib.ListN.{length};
 ghost use Rattle.unit.specs.Model.{recordLength};
 ghost use Rattle.bridge.specs.Calls.{FrameIn, TakeOut, Message, Start, Quiet};
-ghost use Rattle.assurance.specs.Demand3.{ToFrame, ToTake};
+ghost use Rattle.demand_3.specs.Demand3.{ToFrame, ToTake};
 ghost use Rattle.witness.specs.Encoding.{callWords, answerWords, callFrom, callOf, code};
 ghost use Rattle.witness.specs.Replay.{Stepping, Running, Replaying};
 

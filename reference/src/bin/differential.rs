@@ -153,7 +153,7 @@ impl Both {
         let record = self.record.contents();
         let (words, bytes) = (told.words.contents(), told.bytes.contents());
         told.number = if by_queue {
-            let queue = (&mut record[queue_range(port)]).try_into().expect("65 words");
+            let queue = (&mut record[queue_range(port)]).try_into().expect("a queue's words");
             take_queue(queue, words, bytes)
         } else {
             Record(record).take(port, words, bytes)

@@ -4,11 +4,12 @@ use Prim.Native.Nat.{_-_}
 use native.Mathlib.Omega.{arith}
 use borrow.Author.Needs.{needs}
 use lib.ListN.{length}
+use Rattle.addresses.specs.Table.{tableLength}
 use Rattle.addresses_examples.proofs.main.Statement.{statement}
 use Rattle.addresses_examples.proofs.main.Tie as tie
 
 abbrev Inv-loop : tie.InvT-loop
-Inv-loop table₀ i₀ table i = length table ≡ 508
+Inv-loop table₀ i₀ table i = length table ≡ tableLength
 
 abbrev μ-loop : tie.MeasureT-loop
 μ-loop table₀ i₀ table i = 12 - i

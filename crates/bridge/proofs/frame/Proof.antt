@@ -3,7 +3,8 @@ use mathlib.Core.Path.{refl, sym, _∙_}
 use native.Mathlib.Omega.{arith}
 use lib.ListN.{length}
 use Rattle.refusals.proofs.Checks.{frame-goes}
-use Rattle.bridge.proofs.Passes.{frame-is, frame-refused, frame-passed}
+use Rattle.claims.proofs.Frames.{frame-is}
+use Rattle.bridge.proofs.Passes.{frame-refused, frame-passed}
 use borrow.Author.Needs.{needs}
 use Rattle.bridge.proofs.frame.Statement.{statement}
 use Rattle.bridge.proofs.frame.Tie as tie

@@ -1,16 +1,17 @@
 -- `load` meets its contract: the record keeps its length. Assumes nothing.
 use mathlib.Core.Path.{_≡_}
-use Prim.Native.Nat.{_≤_, _-_}
+use Prim.Native.Nat.{_+_, _≤_, _-_}
 use native.Mathlib.Omega.{arith}
 use lib.ListN.{length}
+use Rattle.queue.specs.Queue.{size}
 use Rattle.bridge_examples.proofs.load.Statement.{statement}
 use Rattle.bridge_examples.proofs.load.Tie as tie
 
 abbrev Inv-loop : tie.InvT-loop
-Inv-loop words₀ i₀ words i = (i ≤ 34) × (length words ≡ length words₀)
+Inv-loop words₀ i₀ words i = (i ≤ size + 2) × (length words ≡ length words₀)
 
 abbrev μ-loop : tie.MeasureT-loop
-μ-loop words₀ i₀ words i = 34 - i
+μ-loop words₀ i₀ words i = size + 2 - i
 
 loop-holds : tie.Need-loop-holds Inv-loop μ-loop
 loop-holds c = omega arith

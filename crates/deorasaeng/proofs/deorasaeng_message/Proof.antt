@@ -2,7 +2,7 @@
 use mathlib.Core.List.{[], _∷_}
 use native.Mathlib.Omega.{arith}
 use lib.ListN.{length-set}
-use Rattle.deorasaeng.proofs.Words.{stored}
+use Rattle.flat_answers.proofs.Words.{stored}
 use Rattle.deorasaeng.proofs.Calls.{message-wrong, message-done}
 use borrow.Author.Needs.{needs}
 use Rattle.deorasaeng.proofs.deorasaeng_message.Statement.{statement}

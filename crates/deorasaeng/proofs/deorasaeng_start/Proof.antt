@@ -1,6 +1,6 @@
 -- `deorasaeng_start` meets its contract, by what `bridge::start` ensures. Assumes nothing.
 use mathlib.Core.List.{[], _∷_}
-use Rattle.deorasaeng.proofs.Words.{stored}
+use Rattle.flat_answers.proofs.Words.{stored}
 use Rattle.deorasaeng.proofs.Calls.{start-wrong, start-refused, start-done}
 use borrow.Author.Needs.{needs}
 use Rattle.deorasaeng.proofs.deorasaeng_start.Statement.{statement}

@@ -1,6 +1,5 @@
 -- `filter::ask` meets its contract: a cleared pair permits all; else the search stopped inside the list or at its end. Assumes nothing.
-use Rattle.filter.proofs.Meaning.{part}
-use Rattle.filter.proofs.Search.{ask-cleared, ask-found, ask-absent}
+use Rattle.filter.proofs.Asking.{ask-cleared, ask-found, ask-absent}
 use borrow.Author.Needs.{needs}
 use Rattle.filter.proofs.ask.Statement.{statement}
 use Rattle.filter.proofs.ask.Tie as tie
@@ -34,16 +33,14 @@ add-t15 c = search needs
 
 returns-2 : tie.Need-returns-2
 returns-2 c =
-    let start = c .before .before .before .before .before .before .before in
-    ask-found (c .before .before .before .before .if1 .left) (c .before .before .before .count .ensures) (rw (part (start .args .block .now) (start .pre)) at (c .before .find .ensures)) (c .if2 .taken)
+    ask-found (c .before .before .before .before .if1 .left) (c .before .before .before .count .ensures) (c .before .find .ensures) (c .if2 .taken)
 
 cast-t16 : tie.Need-cast-t16
 cast-t16 c = search needs
 
 returns-3 : tie.Need-returns-3
 returns-3 c =
-    let start = c .before .before .before .before .before .before .before in
-    ask-absent (c .before .before .before .before .if1 .left) (c .before .before .before .count .ensures) (rw (part (start .args .block .now) (start .pre)) at (c .before .find .ensures)) (c .if2 .left)
+    ask-absent (c .before .before .before .before .if1 .left) (c .before .before .before .count .ensures) (c .before .find .ensures) (c .if2 .left)
 
 pub ask-spec : {M : Type 1} → statement M
 ask-spec =

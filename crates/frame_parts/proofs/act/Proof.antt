@@ -2,26 +2,30 @@
 use mathlib.Core.Path.{sym, _∙_}
 use native.Mathlib.Omega.{arith}
 use lib.ListN.{length}
-use Rattle.frame_parts.proofs.Laws.{act-goes, act-refused, acted}
+use Rattle.refusals.proofs.Checks.{frame-goes}
+use Rattle.frame_parts.proofs.Laws.{act-refused, acted}
 use borrow.Author.Needs.{needs}
 use Rattle.frame_parts.proofs.act.Statement.{statement}
 use Rattle.frame_parts.proofs.act.Tie as tie
 
-act-refusal-requires : tie.Need-act-refusal-requires
-act-refusal-requires c κs = search needs
+cast-frame-refusal : tie.Need-cast-frame-refusal
+cast-frame-refusal c = search needs
+
+frame-refusal-requires : tie.Need-frame-refusal-requires
+frame-refusal-requires c κs = search needs
 
 returns : tie.Need-returns
 returns c =
     let at = c .before in
-    let args = at .before .before .args in
-    act-refused (args .port) (args .consumed) (args .f) (at .act-refusal .ensures) (c .if1 .taken)
+    let args = at .before .before .before .args in
+    act-refused (args .port) (args .consumed) (args .f) (at .frame-refusal .ensures) (c .if1 .taken)
 
 act-requires : tie.Need-act-requires
 act-requires c κs =
     let at = c .before .before in
-    let args = at .before .before .args in
-    let G = act-goes (length (args .words .now)) (args .port) (args .f .id) (sym (at .act-refusal .ensures) ∙ c .before .if1 .left) in
-    (G .0, G .1)
+    let args = at .before .before .before .args in
+    let G = frame-goes (length (args .words .now)) (args .port) (args .f .id) (args .f .len) (sym (at .frame-refusal .ensures) ∙ c .before .if1 .left) in
+    (G .0, G .4)
 
 same-length : tie.Need-same-length
 same-length c = search needs
@@ -30,8 +34,10 @@ returns-2 : tie.Need-returns-2
 returns-2 c =
     let at-act = c .before .before in
     let at = at-act .before .before .before in
-    let args = at .before .before .args in
-    acted (args .port) (args .consumed) (args .f) (at .act-refusal .ensures) (at-act .before .before .if1 .left) (omega arith) (at-act .act .ensures)
+    let args = at .before .before .before .args in
+    acted (args .port) (args .consumed) (args .f) (at .frame-refusal .ensures) (at-act .before .before .if1 .left) (omega arith) (at-act .act .ensures)
 
 pub act-spec : {M : Type 1} → statement M
-act-spec = tie.close (tie.spec act-refusal-requires returns act-requires same-length returns-2)
+act-spec =
+    tie.close
+    (tie.spec cast-frame-refusal frame-refusal-requires returns act-requires same-length returns-2)

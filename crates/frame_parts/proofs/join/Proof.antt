@@ -2,46 +2,64 @@
 use mathlib.Core.Path.{sym, _∙_}
 use native.Mathlib.Omega.{arith}
 use lib.ListN.{length}
-use Rattle.refusals.proofs.Checks.{take-goes}
-use Rattle.frame_parts.proofs.Laws.{join-refused, joined}
+use Rattle.frame_parts.proofs.Laws.{pair-goes, join-refused, join-self, joined}
 use borrow.Author.Needs.{needs}
 use Rattle.frame_parts.proofs.join.Statement.{statement}
 use Rattle.frame_parts.proofs.join.Tie as tie
 
-take-refusal-requires : tie.Need-take-refusal-requires
-take-refusal-requires c κs = search needs
+cast-pair-refusal : tie.Need-cast-pair-refusal
+cast-pair-refusal c = search needs
+
+pair-refusal-requires : tie.Need-pair-refusal-requires
+pair-refusal-requires c κs = search needs
 
 returns : tie.Need-returns
 returns c =
     let at = c .before in
-    let args = at .before .before .args in
-    join-refused (args .port) (args .f) (at .take-refusal .ensures) (c .if1 .taken)
+    let args = at .before .before .before .args in
+    join-refused (args .from) (args .to) (args .f) (at .pair-refusal .ensures) (c .if1 .taken)
+
+returns-2 : tie.Need-returns-2
+returns-2 c =
+    let at = c .before .before in
+    let args = at .before .before .before .args in
+    join-self (args .from) (args .to) (args .f) (at .pair-refusal .ensures) (c .before .if1 .left) (c .if2 .taken)
 
 sub-q : tie.Need-sub-q
 sub-q c =
-    let at = c .before in
-    let args = at .before .before .args in
-    let G = take-goes (length (args .words .now)) (args .port) (sym (at .take-refusal .ensures) ∙ c .if1 .left) in
-    G .1
+    let at = c .before .before in
+    let args = at .before .before .before .args in
+    let G = pair-goes (length (args .words .now)) (args .from) (args .to) (args .f .id) (args .f .len) (sym (at .pair-refusal .ensures) ∙ c .before .if1 .left) in
+    G .3
 
 join-row-requires : tie.Need-join-row-requires
 join-row-requires c κs =
-    let at = c .before .before in
-    let args = at .before .before .args in
-    let G = take-goes (length (args .words .now)) (args .port) (sym (at .take-refusal .ensures) ∙ c .before .if1 .left) in
-    (G .0, omega (arith, G .2))
+    let at-else = c .before in
+    let at = at-else .before .before in
+    let args = at .before .before .before .args in
+    let G = pair-goes (length (args .words .now)) (args .from) (args .to) (args .f .id) (args .f .len) (sym (at .pair-refusal .ensures) ∙ at-else .before .if1 .left) in
+    (G .0, omega (arith, G .3, G .4))
 
 same-length : tie.Need-same-length
 same-length c = search needs
 
-returns-2 : tie.Need-returns-2
-returns-2 c =
+returns-3 : tie.Need-returns-3
+returns-3 c =
     let at-join = c .before .before in
-    let at = at-join .before .before .before in
-    let args = at .before .before .args in
-    joined (args .port) (args .f) (at .take-refusal .ensures) (at-join .before .before .if1 .left) (omega arith) (at-join .join-row .ensures)
+    let at-else = at-join .before .before in
+    let at = at-else .before .before in
+    let args = at .before .before .before .args in
+    joined (args .from) (args .to) (args .f) (at .pair-refusal .ensures) (at-else .before .if1 .left) (at-else .if2 .left) (omega arith) (at-join .join-row .ensures)
 
 pub join-spec : {M : Type 1} → statement M
 join-spec =
     tie.close
-    (tie.spec take-refusal-requires returns sub-q join-row-requires same-length returns-2)
+    (tie.spec
+    cast-pair-refusal
+    pair-refusal-requires
+    returns
+    returns-2
+    sub-q
+    join-row-requires
+    same-length
+    returns-3)

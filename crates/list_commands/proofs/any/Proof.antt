@@ -3,10 +3,10 @@ use mathlib.Core.Path.{_≡_, sym, _∙_}
 use mathlib.Core.Bool.{false}
 use Prim.Native.Nat.{_≤_, _-_}
 use native.Mathlib.Omega.{arith}
-use Rattle.filter.specs.Entries.{entriesOf}
+use Rattle.entries.specs.Entries.{entriesOf}
 use Rattle.unit.specs.Model.{modelOf}
 use Rattle.list_commands.specs.Commands.{holdsAt, anyBelow, anyNamed}
-use Rattle.record.specs.Pairs.{holdsOf}
+use Rattle.filter_commands.specs.Pairs.{holdsOf}
 use Rattle.list_commands.proofs.PairLoop.{any-none, any-found, any-more}
 use Rattle.list_commands.proofs.any.Statement.{statement}
 use Rattle.list_commands.proofs.any.Tie as tie

@@ -1,8 +1,8 @@
 -- `list_commands::change_each` meets its contract: the loop over the pairs from a port. Assumes nothing.
 use Prim.Native.Nat.{_-_}
 use native.Mathlib.Omega.{arith}
-use Rattle.filter.specs.Entries.{entriesOf}
-use Rattle.record.specs.Pairs.{changeOf}
+use Rattle.entries.specs.Entries.{entriesOf}
+use Rattle.filter_commands.specs.Pairs.{changeOf}
 use Rattle.list_commands.proofs.PairLoop.{Walking, walk-start, walk-more, walk-done}
 use Rattle.list_commands.proofs.change_each.Statement.{statement}
 use Rattle.list_commands.proofs.change_each.Tie as tie

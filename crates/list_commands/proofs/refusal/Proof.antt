@@ -1,5 +1,5 @@
 -- `list_commands::refusal` meets its contract: by cases of the change, and what each question ensures. Assumes nothing.
-use Rattle.list_commands.specs.Commands.{listRefusal}
+use Rattle.list_commands.specs.Commands.{listRefusal, listChecks}
 use borrow.Author.Needs.{needs}
 use Rattle.list_commands.proofs.refusal.Statement.{statement}
 use Rattle.list_commands.proofs.refusal.Tie as tie
@@ -11,14 +11,14 @@ any-requires : tie.Need-any-requires
 any-requires c κs = search needs
 
 returns : tie.Need-returns
-unfolding listRefusal
+unfolding listRefusal listChecks
 returns c = rw (c .before .before .enum-told .given .1, ← (c .before .any .ensures), c .if1 .taken)
 
 any-requires-2 : tie.Need-any-requires-2
 any-requires-2 c κs = search needs
 
 returns-2 : tie.Need-returns-2
-unfolding listRefusal
+unfolding listRefusal listChecks
 returns-2 c = let at = c .before in let first = at .before .before in rw (first .before .enum-told .given .1, ← (first .any .ensures), at .before .if1 .left, ← (at .any2 .ensures), c .if2 .taken)
 
 enum-told-2 : tie.Need-enum-told-2
@@ -28,14 +28,14 @@ any-requires-3 : tie.Need-any-requires-3
 any-requires-3 c κs = search needs
 
 returns-3 : tie.Need-returns-3
-unfolding listRefusal
+unfolding listRefusal listChecks
 returns-3 c = rw (c .before .before .enum-told2 .given .1, ← (c .before .any3 .ensures), c .if3 .taken)
 
 any-requires-4 : tie.Need-any-requires-4
 any-requires-4 c κs = search needs
 
 returns-4 : tie.Need-returns-4
-unfolding listRefusal
+unfolding listRefusal listChecks
 returns-4 c = let at = c .before in let first = at .before .before in rw (first .before .enum-told2 .given .1, ← (first .any3 .ensures), at .before .if3 .left, ← (at .any4 .ensures), c .if4 .taken)
 
 enum-told-3 : tie.Need-enum-told-3
@@ -48,30 +48,30 @@ any-requires-5 : tie.Need-any-requires-5
 any-requires-5 c κs = search needs
 
 returns-5 : tie.Need-returns-5
-unfolding listRefusal
+unfolding listRefusal listChecks
 returns-5 c = rw (c .before .before .enum-told4 .given .1, ← (c .before .any5 .ensures), c .if5 .taken)
 
 any-requires-6 : tie.Need-any-requires-6
 any-requires-6 c κs = search needs
 
 returns-6 : tie.Need-returns-6
-unfolding listRefusal
+unfolding listRefusal listChecks
 returns-6 c = let at = c .before in let first = at .before .before in rw (first .before .enum-told4 .given .1, ← (first .any5 .ensures), at .before .if5 .left, ← (at .any6 .ensures), c .if6 .taken)
 
 returns-7 : tie.Need-returns-7
-unfolding listRefusal
+unfolding listRefusal listChecks
 returns-7 c = let at = c .before in let first = at .before .before in rw (first .before .enum-told .given .1, ← (first .any .ensures), at .before .if1 .left, ← (at .any2 .ensures), c .if2 .left)
 
 returns-8 : tie.Need-returns-8
-unfolding listRefusal
+unfolding listRefusal listChecks
 returns-8 c = let at = c .before in let first = at .before .before in rw (first .before .enum-told2 .given .1, ← (first .any3 .ensures), at .before .if3 .left, ← (at .any4 .ensures), c .if4 .left)
 
 returns-9 : tie.Need-returns-9
-unfolding listRefusal
+unfolding listRefusal listChecks
 returns-9 c = rw (c .enum-told3 .given .1)
 
 returns-10 : tie.Need-returns-10
-unfolding listRefusal
+unfolding listRefusal listChecks
 returns-10 c = let at = c .before in let first = at .before .before in rw (first .before .enum-told4 .given .1, ← (first .any5 .ensures), at .before .if5 .left, ← (at .any6 .ensures), c .if6 .left)
 
 pub refusal-spec : {M : Type 1} → statement M

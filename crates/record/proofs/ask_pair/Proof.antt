@@ -5,6 +5,7 @@ use Rattle.record.proofs.Regions.{pair-asked}
 use borrow.Author.Needs.{needs}
 use Rattle.record.proofs.ask_pair.Statement.{statement}
 use Rattle.record.proofs.ask_pair.Tie as tie
+use Rattle.filter.specs.Filter.{blockSize as filterLength}
 
 pair-at-requires : tie.Need-pair-at-requires
 pair-at-requires c κs = search needs
@@ -39,7 +40,7 @@ returns c =
     let args = at-i .before .before .args in
     let i = at-i .pair-at .result in
     pair-asked (args .words .now) (args .from) (args .to) (args .pgn) i (c .ask .result) (at-i .pair-at .ensures .0) (at-i .pair-at .ensures .1)
-    (rw (range-size (4 + 34 * i) 34) at (c .ask .ensures))
+    (rw (range-size (4 + filterLength * i) filterLength) at (c .ask .ensures))
 
 pub ask-pair-spec : {M : Type 1} → statement M
 ask-pair-spec =

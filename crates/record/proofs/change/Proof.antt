@@ -6,6 +6,7 @@ use Rattle.record.proofs.Regions.{pair-changed}
 use borrow.Author.Needs.{needs}
 use Rattle.record.proofs.change.Statement.{statement}
 use Rattle.record.proofs.change.Tie as tie
+use Rattle.filter.specs.Filter.{blockSize as filterLength}
 
 mul-a : tie.Need-mul-a
 mul-a c = search needs
@@ -38,9 +39,9 @@ returns : tie.Need-returns
 returns c =
     let at = c .before .before in
     let args = at .before .before .before .before .args in
-    rw (range-size (4 + 34 * args .i) 34)
+    rw (range-size (4 + filterLength * args .i) filterLength)
     (pair-changed (args .words .now) (args .i) (search needs) (search needs) (at .apply .last .0) _ (omega arith)
-    (rw (range-size (4 + 34 * args .i) 34) at (at .apply .ensures)))
+    (rw (range-size (4 + filterLength * args .i) filterLength) at (at .apply .ensures)))
 
 pub change-spec : {M : Type 1} → statement M
 change-spec =

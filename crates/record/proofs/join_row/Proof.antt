@@ -6,6 +6,8 @@ use Rattle.record.proofs.Regions.{row-joined}
 use borrow.Author.Needs.{needs}
 use Rattle.record.proofs.join_row.Statement.{statement}
 use Rattle.record.proofs.join_row.Tie as tie
+use Rattle.unit.specs.Model.{rowsFrom}
+use Rattle.queue.specs.Queue.{blockLength as queueLength}
 
 mul-a : tie.Need-mul-a
 mul-a c = search needs
@@ -38,9 +40,9 @@ returns : tie.Need-returns
 returns c =
     let at-join = c .before .before in
     let args = at-join .before .before .before .args in
-    rw (range-size (412 + 65 * args .q) 65)
+    rw (range-size (rowsFrom 4 + queueLength * args .q) queueLength)
     (row-joined (args .words .now) (args .q) (search needs) (search needs) (at-join .join .last .0) (omega arith) (args .f) (at-join .join .result)
-    (rw (range-size (412 + 65 * args .q) 65) at (at-join .join .ensures)))
+    (rw (range-size (rowsFrom 4 + queueLength * args .q) queueLength) at (at-join .join .ensures)))
 
 pub join-row-spec : {M : Type 1} → statement M
 join-row-spec =

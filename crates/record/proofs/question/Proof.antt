@@ -5,6 +5,7 @@ use Rattle.record.proofs.Regions.{pair-of}
 use borrow.Author.Needs.{needs}
 use Rattle.record.proofs.question.Statement.{statement}
 use Rattle.record.proofs.question.Tie as tie
+use Rattle.filter.specs.Filter.{blockSize as filterLength}
 
 mul-a : tie.Need-mul-a
 mul-a c = search needs
@@ -34,7 +35,7 @@ returns : tie.Need-returns
 returns c =
     let args = c .before .before .before .before .args in
     rw (pair-of (args .words .now) (args .i) (search needs) (search needs))
-    (rw (range-size (4 + 34 * args .i) 34) at (c .answer .ensures))
+    (rw (range-size (4 + filterLength * args .i) filterLength) at (c .answer .ensures))
 
 pub question-spec : {M : Type 1} → statement M
 question-spec =

@@ -5,6 +5,7 @@ use Rattle.record.proofs.Regions.{pair-of}
 use borrow.Author.Needs.{needs}
 use Rattle.record.proofs.reply_list.Statement.{statement}
 use Rattle.record.proofs.reply_list.Tie as tie
+use Rattle.filter.specs.Filter.{blockSize as filterLength}
 
 pair-at-requires : tie.Need-pair-at-requires
 pair-at-requires c κs = search needs
@@ -43,7 +44,7 @@ returns c =
     let args = at-i .before .before .before .args in
     let i = at-i .pair-at .result in
     rw (← (at-i .pair-at .ensures .0), pair-of (args .words .now) i (at-i .before .before .before .pre .0) (at-i .pair-at .ensures .1))
-    (rw (range-size (4 + 34 * i) 34) at (at .reply-list .ensures))
+    (rw (range-size (4 + filterLength * i) filterLength) at (at .reply-list .ensures))
 
 pub reply-list-spec : {M : Type 1} → statement M
 reply-list-spec =

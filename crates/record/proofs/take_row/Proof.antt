@@ -6,6 +6,8 @@ use Rattle.record.proofs.Regions.{row-taken}
 use borrow.Author.Needs.{needs}
 use Rattle.record.proofs.take_row.Statement.{statement}
 use Rattle.record.proofs.take_row.Tie as tie
+use Rattle.unit.specs.Model.{rowsFrom}
+use Rattle.queue.specs.Queue.{blockLength as queueLength}
 
 mul-a : tie.Need-mul-a
 mul-a c = search needs
@@ -38,9 +40,9 @@ returns : tie.Need-returns
 returns c =
     let at-take = c .before .before in
     let args = at-take .before .before .before .args in
-    rw (range-size (412 + 65 * args .q) 65)
+    rw (range-size (rowsFrom 4 + queueLength * args .q) queueLength)
     (row-taken (args .words .now) (args .q) (search needs) (search needs) (at-take .take .last .0) (omega arith) (at-take .take .result)
-    (rw (range-size (412 + 65 * args .q) 65) at (at-take .take .ensures)))
+    (rw (range-size (rowsFrom 4 + queueLength * args .q) queueLength) at (at-take .take .ensures)))
 
 pub take-row-spec : {M : Type 1} → statement M
 take-row-spec =

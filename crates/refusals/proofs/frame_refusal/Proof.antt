@@ -1,7 +1,8 @@
 -- `refusals::frame_refusal` meets its contract: the checks of a take first, then by the tests on the way. Assumes nothing.
 use borrow.Author.Needs.{needs}
 use borrow.Author.Tests.{lt-ltb, le-ltb}
-use Rattle.refusals.specs.Refusals.{frameRefusal, takeRefusal, noPort}
+use Rattle.refusals.specs.Refusals.{frameRefusal, takeRefusal}
+use Rattle.checks.specs.Ports.{noPort}
 use Rattle.unit.specs.PowerOn.{notLong}
 use Rattle.refusals.proofs.Checks.{refused-first, passed-first}
 use Rattle.refusals.proofs.frame_refusal.Statement.{statement}

@@ -3,7 +3,8 @@ use mathlib.Core.Path.{sym, _∙_}
 use borrow.Author.Tests.{lt-ltb, le-ltb}
 use lib.ListN.{length}
 use lib.Dec.{ltb}
-use Rattle.refusals.specs.Refusals.{takeRefusal, noPort, messageRefusal}
+use Rattle.refusals.specs.Refusals.{takeRefusal, messageRefusal}
+use Rattle.checks.specs.Ports.{noPort}
 use Rattle.unit.specs.PowerOn.{notLong}
 use Rattle.refusals.proofs.Checks.{take-goes, refused-early, passed-early}
 use borrow.Author.Needs.{needs}

@@ -1,0 +1,3 @@
+pub mod Tests
+pub mod Ports
+pub mod FirstNumber

@@ -1,0 +1,150 @@
+-- Demand 1 about any record and any input, by the contracts alone: "Any frame, message, port number or buffer gets a defined answer. Bad input is refused by a
+-- number of document 01; a refusal changes no list, queue or table, and writes the acknowledgment or nothing." Proved in proofs/Demand1.antt.
+use mathlib.Core.Path.{_≡_}
+use mathlib.Core.Logic.{_↔_}
+use mathlib.Core.Bool.{Bool, true, false, not, _&&_, _||_}
+use mathlib.Core.List.{List, [], _∷_, _++_}
+use Prim.Native.Nat.{ℕ}
+use contract.Lifetimes.{Lfts}
+use denote.Ref.{RefT}
+use lib.ListN.{length, drop}
+use lib.Dec.{ltb, leb, eqb}
+use Rattle.identifier.specs.Identifier.{tooWide, wrongSource}
+use Rattle.filter.specs.Filter.{Filter, isCleared}
+use Rattle.entries.specs.Entries.{listed, entriesOf}
+use Rattle.filter_commands.specs.Changes.{wouldPass, lacks}
+use Rattle.checks.specs.Checks.{Check, check, acknowledges}
+use Rattle.network_message.specs.Decoding.{functionOf, pairOf, fromOf, toOf, isKnown, namesPorts, mayName, hasGoodBody, hasWrongMode, entriesStart, entriesEnd, between, longest}
+use Rattle.replies.specs.Replies.{controlOf, acknowledgment}
+use Rattle.bridge.specs.declared.FrameAnswer.{FrameAnswer}
+use Rattle.bridge.specs.declared.TakeAnswer.{TakeAnswer}
+use Rattle.bridge.specs.declared.TakeAnswer.the-variants.{Refused, Took}
+use Rattle.message_answers.specs.declared.MessageAnswer.{MessageAnswer}
+use Rattle.bridge.specs.declared.StartAnswer.{StartAnswer}
+use Rattle.unit.specs.Model.{Rest, modelOf}
+use Rattle.checks.specs.Ports.{noPort}
+use Rattle.unit.specs.PowerOn.{notLong}
+use Rattle.unit.specs.Own.{isUnstarted, isClaiming}
+use Rattle.unit.specs.Own.{isClaimed}
+use Rattle.list_commands.specs.Commands.{anyNamed}
+use Rattle.bridge.specs.Calls.{frameRefused}
+use Rattle.unit.proofs.Unit.power_on.Reads as power-on
+use Rattle.bridge.proofs.frame.Reads as frame
+use Rattle.bridge.proofs.take.Reads as take
+use Rattle.bridge.proofs.message.Reads as message
+use Rattle.bridge.proofs.start.Reads as start
+use Rattle.bridge.proofs.quiet.Reads as quiet
+use Rattle.made.specs.Made as made
+
+-- ---- the table "Numbers given back": the numbers of each call with their conditions, in the order in which they are given
+abbrev pub powerOnNumbers : ℕ → List Check
+powerOnNumbers lent = check (notLong 4 lent) 2 ∷ []
+
+abbrev pub frameNumbers : ℕ → ℕ → ℕ → ℕ → List Check
+frameNumbers lent port id len =
+    check (noPort 4 port) 1
+    ∷ check (notLong 4 lent) 2
+    ∷ check (tooWide id) 3
+    ∷ check (ltb 8 len) 4
+    ∷ check (wrongSource id) 5
+    ∷ []
+
+abbrev pub takeNumbers : ℕ → ℕ → List Check
+takeNumbers lent port = check (noPort 4 port) 1 ∷ check (notLong 4 lent) 2 ∷ []
+
+-- "at Start 18 comes before 8"
+abbrev pub startNumbers : ℕ → Rest → List Check
+startNumbers lent rest =
+    check (notLong 4 lent) 2 ∷ check (not (isUnstarted (rest .own .claim))) 18 ∷ check (ltb 253 (rest .own .preferred)) 8 ∷ []
+
+abbrev pub quietNumbers : ℕ → Rest → List Check
+quietNumbers lent rest = check (notLong 4 lent) 2 ∷ check (not (isClaiming (rest .own .claim))) 18 ∷ []
+
+-- what a payload says, bad or not: its function, From and To, its entries
+abbrev pub function : List ℕ → ℕ
+function payload = functionOf payload
+
+abbrev pub from : List ℕ → ℕ
+from payload = fromOf (pairOf payload)
+
+abbrev pub to : List ℕ → ℕ
+to payload = toOf (pairOf payload)
+
+abbrev pub entries : List ℕ → List ℕ
+entries payload = entriesOf (between (entriesStart (function payload)) (entriesEnd (entriesStart (function payload)) payload) payload)
+
+-- whether a test holds of a pair that it names
+abbrev pub aNamedPair : Rest → List ℕ → (Filter → Bool) → Bool
+aNamedPair rest payload test = anyNamed 4 3 test (from payload) (to payload) (rest .pairs)
+
+abbrev pub messageNumbers : ℕ → ℕ → Rest → ℕ → ℕ → List ℕ → List Check
+messageNumbers lent lentReply rest port requester payload =
+    check (noPort 4 port) 1
+    ∷ check (notLong 4 lent || ltb lentReply longest) 2
+    ∷ check (not (isClaimed (rest .own .claim))) 6
+    ∷ check (not (leb 8 (length payload) && leb (length payload) longest)) 7
+    ∷ check (ltb 253 requester) 8
+    ∷ check (not (isKnown (function payload))) 9
+    ∷ check (not (namesPorts 4 (function payload) (from payload) (to payload))) 10
+    ∷ check (not (mayName port (function payload) (from payload) (to payload))) 11
+    ∷ check (not (hasGoodBody (function payload) payload)) 12
+    ∷ check (hasWrongMode (function payload) payload) 13
+    ∷ check (eqb (function payload) 6 && aNamedPair rest payload (λ f. not (isCleared (f .mode)))) 14
+    ∷ check (listed (function payload) (2 ∷ 3 ∷ []) && aNamedPair rest payload (λ f. isCleared (f .mode))) 15
+    ∷ check (listed (function payload) (2 ∷ 6 ∷ []) && aNamedPair rest payload (λ f. wouldPass f (entries payload))) 16
+    ∷ check (eqb (function payload) 3 && aNamedPair rest payload (λ f. lacks f (entries payload))) 17
+    ∷ []
+
+-- ---- "each is given exactly then": where it applies and nothing that stands before it in the table does
+abbrev pub noneApplies : List Check → Bool
+noneApplies [] = true
+noneApplies (c ∷ cs) = not (c .applies) && noneApplies cs
+
+pub record Given (table : List Check) (n : ℕ) : Type 0 where
+  pub before : List Check
+  pub behind : List Check
+  pub place : table ≡ before ++ check true n ∷ behind
+  pub first : noneApplies before ≡ true
+
+pub record Exact (table : List Check) (r : ℕ) : Type 0 where
+  pub given : (n : ℕ) → (n ≡ 0 → ⊥) → (r ≡ n) ↔ Given table n
+  pub done : (r ≡ 0) ↔ (noneApplies table ≡ true)
+
+-- ---- "a refusal changes no list, queue or table": not a word of the record
+abbrev pub Unchanged : ℕ → List ℕ → List ℕ → Type 0
+Unchanged r words after = (r ≡ 0 → ⊥) → after ≡ words
+
+-- "and writes the acknowledgment or nothing": eight bytes for the numbers that write one, nothing for the others, and the answer says which
+pub record Writes (lent back payload : List ℕ) (requester : ℕ) (r : MessageAnswer) : Type 0 where
+  pub nothing : (r .refusal ≡ 0 → ⊥) → acknowledges (r .refusal) ≡ false → (back ≡ lent) × (r .pgn ≡ 0) × (r .length ≡ 0)
+  pub acknowledged : acknowledges (r .refusal) ≡ true
+      → (back ≡ acknowledgment (controlOf (r .refusal)) (functionOf payload) requester ++ drop 8 lent) × (r .pgn ≡ 59392) × (r .length ≡ 8)
+
+-- the number in a take's answer
+abbrev pub takeNumber : TakeAnswer → ℕ
+takeNumber (Refused n) = n
+takeNumber (Took taken) = 0
+
+-- ---- the whole
+pub record Demand1 : Type 0 where
+  -- "Any frame, message, port number or buffer gets a defined answer": no call requires anything.
+  pub defined : ((κs : Lfts 1) (w : RefT (List ℕ)) (name preferred : ℕ) → power-on.Pre κs (w, (name, (preferred, tt))))
+      × ((κs : Lfts 2) (w b : RefT (List ℕ)) (port id : ℕ) → frame.Pre κs (w, (port, (id, (b, tt)))))
+      × ((κs : Lfts 1) (w : RefT (List ℕ)) (port : ℕ) → take.Pre κs (w, (port, tt)))
+      × ((κs : Lfts 3) (w p b : RefT (List ℕ)) (port requester : ℕ) → message.Pre κs (w, (port, (requester, (p, (b, tt))))))
+      × ((κs : Lfts 1) (w : RefT (List ℕ)) → start.Pre κs (w, tt))
+      × ((κs : Lfts 1) (w : RefT (List ℕ)) → quiet.Pre κs (w, tt))
+  pub power-on : {words after : List ℕ} {name preferred r : ℕ} → made.Powered words name preferred r after
+      → Exact (powerOnNumbers (length words)) r × Unchanged r words after
+  -- "A refused frame has no ports, no event, is not consumed and compares 0"
+  pub frame : {words bytes after : List ℕ} {port id : ℕ} {r : FrameAnswer} → made.Arrived words port id bytes r after
+      → Exact (frameNumbers (length words) port id (length bytes)) (r .refusal) × Unchanged (r .refusal) words after
+      × ((r .refusal ≡ 0 → ⊥) → r ≡ frameRefused (r .refusal))
+  pub take : {words after : List ℕ} {port : ℕ} {r : TakeAnswer} → made.Took words port r after
+      → Exact (takeNumbers (length words) port) (takeNumber r) × Unchanged (takeNumber r) words after
+  pub message : {words payload lent after back : List ℕ} {port requester : ℕ} {r : MessageAnswer} → made.Handed words port requester payload lent r after back
+      → Exact (messageNumbers (length words) (length lent) (modelOf 4 words .rest) port requester payload) (r .refusal)
+      × Unchanged (r .refusal) words after × Writes lent back payload requester r
+  pub start : {words after : List ℕ} {r : StartAnswer} → made.Started words r after
+      → Exact (startNumbers (length words) (modelOf 4 words .rest)) (r .refusal) × Unchanged (r .refusal) words after × ((r .refusal ≡ 0 → ⊥) → r .unsent ≡ 0)
+  pub quiet : {words after : List ℕ} {r : ℕ} → made.Quieted words r after → Exact (quietNumbers (length words) (modelOf 4 words .rest)) r × Unchanged r words after

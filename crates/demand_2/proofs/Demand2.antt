@@ -1,0 +1,174 @@
+-- Demand 2 from the contracts of `frame` and `message` and the laws of the model. Assumes nothing.
+use mathlib.Core.Path.{_≡_, refl, sym, ap, _∙_}
+use mathlib.Core.Logic.{_⊎_, inl, inr}
+use mathlib.Core.Bool.{Bool, true, false, cond}
+use mathlib.Core.List.{List, [], _∷_, _++_}
+use Prim.Native.Nat.{ℕ, _-_, _^_, _<_, _≤_}
+use native.Mathlib.Nat.{zero-div}
+use native.Mathlib.Omega.{arith}
+use borrow.Author.Tests.{eqb-true, eqb-false, eq-eqb}
+use lib.ListN.{length, take, drop, getD}
+use lib.Seq.{take-at}
+use lib.Dec.{eqb}
+use Rattle.filter.specs.Filter.{clear}
+use Rattle.entries.specs.Entries.{every}
+use Rattle.delivery.specs.Unit.{joinAll, rowNext}
+use Rattle.queue.specs.Queue.{size, priority}
+use Rattle.network_message.specs.Decoding.{functionOf, pairOf, fromOf, toOf, mayName, longest}
+use Rattle.checks.specs.Ports.{isPort}
+use Rattle.replies.specs.SentBack.{asCreate}
+use Rattle.replies.specs.Replies.{listReply}
+use Rattle.bridge.specs.declared.FrameAnswer.{FrameAnswer}
+use Rattle.message_answers.specs.declared.MessageAnswer.{MessageAnswer}
+use Rattle.unit.specs.declared.Claim.the-variants.{Claimed}
+use Rattle.unit.specs.Ports.{each, bitAt}
+use Rattle.unit.specs.Model.{Model, Rest, Seen, rowAt, pairAt, withPairs, modelOf, recordLength}
+use Rattle.bridge.specs.Calls.{offered, frameOf}
+use Rattle.forwarding.specs.Forwarding.{silent}
+use Rattle.refusals.specs.Refusals.{frameRefusal}
+use Rattle.message_answers.specs.Messages.{Replied}
+use Rattle.bridge.specs.Calls.{messaged}
+use Rattle.unit.specs.Own.{framesSent}
+use Rattle.bridge.specs.Calls.{Call, FrameIn, Message, refusal, restAfter, asks, sends, performed, next, frameDone, framePassed, frameRefused, frameAnswer, Framing, Messaging}
+use Rattle.message_answers.specs.Messages.{messageAnswer}
+use Rattle.refusals.proofs.Checks.{frame-goes}
+use Rattle.unit.proofs.Ports.{each-at, each-none}
+use Rattle.record.proofs.Regions.{rows-four}
+use Rattle.list_commands.proofs.PairLoop.{pairs-twelve}
+use Rattle.bridge.proofs.Laws.{not-offered-back, not-sent-back, not-accepted-back, lost-at}
+use Rattle.demand_2.specs.Demand2.{restOf, pairOn, IsPair, NotBack, OnlyNamed, SameTo, Kept, Demand2}
+use Rattle.made.proofs.Made.{framing, messaging}
+use Rattle.demand_2.proofs.Commands.{messaged-other}
+use Rattle.demand_2.proofs.Privacy.{messaged-told}
+use Rattle.demand_2.proofs.RoundTrip.{request-reported, sent-back}
+use Rattle.demand_2.proofs.Kept.{always-kept}
+
+-- ---- no frame goes back
+no-bit : (q : ℕ) → bitAt 0 q ≡ false
+unfolding bitAt
+no-bit q = rw (zero-div (2 ^ q))
+
+module _ {words bytes after : List ℕ} {port id : ℕ} {r : FrameAnswer} (F : Framing 4 words after port id bytes r) where
+  frame-back : NotBack words port id bytes r after
+  unfolding refusal next frameAnswer performed asks sends
+  frame-back = go (eqb (frameRefusal 4 (length words) port id (length bytes)) 0) refl
+    where
+      m : Model
+      m = modelOf 4 words
+
+      done : frameRefusal 4 (length words) port id (length bytes) ≡ 0 → r ≡ framePassed 4 m port (frameOf id bytes) → modelOf 4 after ≡ performed 4 (length words) m (FrameIn port id bytes) → NotBack words port id bytes r after
+      done z a s =
+          let g = frame-goes (length words) port id (length bytes) z in
+          let q : port - 1 < 4 = omega (arith, g .1, g .2) in
+          record {
+            row = inr (ap (λ w. rowAt w (port - 1)) s ∙ row-then q);
+            accepted = rw a (not-accepted-back 4 m port (frameOf id bytes) q);
+            lost = rw a (lost-at 4 m port (frameOf id bytes) (port - 1) q ∙ rw (not-offered-back 4 (m .rest) (port - 1) id));
+          }
+        where
+          row-then : port - 1 < 4 → rowAt (performed 4 (length words) m (FrameIn port id bytes)) (port - 1) ≡ joinAll size (rowAt m (port - 1)) (framesSent (frameDone (m .rest) port (frameOf id bytes) .sent))
+          row-then q =
+              each-at (λ p row. rowNext priority size (asks (FrameIn port id bytes)) p row (sends 4 (m .rest) (FrameIn port id bytes) p)) 4 (m .rows) (port - 1) [] q (omega (arith, rows-four words))
+              ∙ rw (not-sent-back 4 (m .rest) port (frameOf id bytes))
+
+      go : (t : Bool) → eqb (frameRefusal 4 (length words) port id (length bytes)) 0 ≡ t → NotBack words port id bytes r after
+      go true e = done (eqb-true _ 0 e) (rw e at (F .answer)) (rw e at (F .call .state))
+      go false e =
+          let a : r ≡ frameRefused (frameRefusal 4 (length words) port id (length bytes)) = rw e at (F .answer) in
+          record {
+            row = inl (ap (λ w. rowAt w (port - 1)) (rw e at (F .call .state)));
+            accepted = rw a (no-bit (port - 1));
+            lost = rw a (no-bit (port - 1));
+          }
+
+-- ---- what a message changes
+module _ {words payload lent after back : List ℕ} {port requester : ℕ} {r : MessageAnswer} (M : Messaging 4 words after port requester payload lent back r) where
+  abbrev outcome : Replied
+  outcome = messaged 4 (length words) (length lent) (modelOf 4 words .rest) port requester payload
+
+  message-named : OnlyNamed words port payload after
+  unfolding refusal next performed restAfter asks sends
+  message-named = go (eqb (outcome .number) 0) refl
+    where
+      still : modelOf 4 after ≡ modelOf 4 words → OnlyNamed words port payload after
+      still s = record {
+        pairs = λ a b P e. ap (λ (w : Model). pairOn (w .rest) a b) s;
+        own = ap (λ (w : Model). w .rest .own) s;
+        table = ap (λ (w : Model). w .rest .table) s;
+        rows = ap (λ (w : Model). w .rows) s;
+      }
+
+      changed : modelOf 4 after ≡ performed 4 (length words) (modelOf 4 words) (Message port requester payload (length lent)) → OnlyNamed words port payload after
+      changed s = record {
+        pairs = λ a b P e.
+            ap (λ (w : Model). pairOn (w .rest) a b) s
+            ∙ messaged-other (restOf words) (pairs-twelve words) a b P (length words) (length lent) port requester payload e;
+        own = ap (λ (w : Model). w .rest .own) s;
+        table = ap (λ (w : Model). w .rest .table) s;
+        rows = ap (λ (w : Model). w .rows) s ∙ each-none 4 (modelOf 4 words .rows);
+      }
+
+      go : (t : Bool) → eqb (outcome .number) 0 ≡ t → OnlyNamed words port payload after
+      go true e = changed (rw e at (M .call .state))
+      go false e = still (rw e at (M .call .state))
+
+-- ---- what a tool is told
+module _ {words other payload lent after back after₂ back₂ : List ℕ} {p requester : ℕ} {r r₂ : MessageAnswer}
+    (least : 2 ≤ p) (most : p ≤ 4) (long : length words ≡ length other) (S : SameTo p (restOf words) (restOf other))
+    (M : Messaging 4 words after p requester payload lent back r) (N : Messaging 4 other after₂ p requester payload lent back₂ r₂) where
+  same-told : (r ≡ r₂) × (back ≡ back₂)
+  same-told =
+      let t = messaged-told p (restOf words) (restOf other) S requester payload least most (length words) (length lent) in
+      (M .answer ∙ rw (t .0, t .1, t .2 (modelOf 4 words .seen), long) (sym (N .answer)), M .written ∙ rw (t .2 (modelOf 4 words .seen), long) (sym (N .written)))
+
+-- ---- the round trip
+module _ {words payload lent after back other lent₂ after₂ back₂ : List ℕ} {port requester port₂ requester₂ : ℕ} {r r₂ : MessageAnswer}
+    (K : Kept (restOf words)) (request : functionOf payload ≡ 0)
+    (M : Messaging 4 words after port requester payload lent back r) (answered : r .refusal ≡ 0)
+    (some : 1 ≤ length (pairOn (restOf words) (fromOf (pairOf payload)) (toOf (pairOf payload)) .entries))
+    (long : length other ≡ recordLength 4) (claimed : restOf other .own .claim ≡ Claimed)
+    (empty : pairOn (restOf other) (fromOf (pairOf payload)) (toOf (pairOf payload)) ≡ clear)
+    (port-is : isPort 4 port₂ ≡ true) (may : mayName port₂ 6 (fromOf (pairOf payload)) (toOf (pairOf payload)) ≡ true) (tool : requester₂ < 254) (room : longest ≤ length lent₂)
+    (N : Messaging 4 other after₂ port₂ requester₂ (asCreate (take (r .length) back)) lent₂ back₂ r₂) where
+  abbrev from : ℕ
+  from = fromOf (pairOf payload)
+
+  abbrev to : ℕ
+  to = toOf (pairOf payload)
+
+  abbrev first-outcome : Replied
+  first-outcome = messaged 4 (length words) (length lent) (restOf words) port requester payload
+
+  answered-by : (o : Replied) (seen : Seen) → r ≡ messageAnswer o seen → back ≡ o .written seen ++ drop (length (o .written seen)) lent → take (r .length) back ≡ o .written seen
+  answered-by o seen a b = rw (a, b) (take-at (o .written seen) (drop (length (o .written seen)) lent) (length (o .written seen)) refl)
+
+  restored-pair : (r₂ .refusal ≡ 0) × (pairOn (restOf after₂) from to ≡ pairOn (restOf words) from to)
+  unfolding refusal next performed restAfter
+  restored-pair =
+      let z : first-outcome .number ≡ 0 = sym (ap (λ (a : MessageAnswer). a .refusal) (M .answer)) ∙ answered in
+      let R = request-reported (restOf words) requester payload (length words) (length lent) port request z in
+      let f = pairOn (restOf words) from to in
+      let i = pairAt 4 (from - 1) (to - 1) in
+      let e : take (r .length) back ≡ listReply (pairOf payload) f = answered-by first-outcome (modelOf 4 words .seen) (M .answer) (M .written) ∙ R .written (modelOf 4 words .seen) in
+      let B = sent-back (restOf other) (pairs-twelve other) f (K .sound i) (K .pgns i) some (pairOf payload) (R .ports) (R .one) empty (length other) (length lent₂) port₂ requester₂ long room port-is claimed tool may in
+      finish (asCreate (listReply (pairOf payload) f)) (rw e at N) (B .0) (B .1)
+    where
+      finish : (payload₂ : List ℕ) → Messaging 4 other after₂ port₂ requester₂ payload₂ lent₂ back₂ r₂
+          → messaged 4 (length other) (length lent₂) (restOf other) port₂ requester₂ payload₂ .number ≡ 0
+          → getD (messaged 4 (length other) (length lent₂) (restOf other) port₂ requester₂ payload₂ .pairs) (pairAt 4 (from - 1) (to - 1)) clear ≡ pairOn (restOf words) from to
+          → (r₂ .refusal ≡ 0) × (pairOn (restOf after₂) from to ≡ pairOn (restOf words) from to)
+      finish payload₂ N′ z p = (
+        ap (λ (a : MessageAnswer). a .refusal) (N′ .answer) ∙ z,
+        ap (λ (w : Model). pairOn (w .rest) from to) (rw z at (N′ .call .state)) ∙ p,
+      )
+
+-- ---- the whole
+pub demand-2 : Demand2
+demand-2 = record {
+  not-back = λ h. frame-back (framing h);
+  only-named = λ h. message-named (messaging h);
+  private = λ least most long S h g. same-told least most long S (messaging h) (messaging g);
+  kept = always-kept (recordLength 4);
+  again = λ K request h answered some long claimed empty port-is may tool room g.
+      restored-pair K request (messaging h) answered some long claimed empty port-is may tool room (messaging g);
+}

@@ -1,0 +1,190 @@
+-- Every list of calls from power-on keeps the pairs sound: no call but a command of a message changes a pair, and each command keeps it. Assumes nothing.
+use mathlib.Core.Path.{_≡_, refl, sym, ap, _∙_}
+use mathlib.Core.Bool.{Bool, true, false, cond}
+use mathlib.Core.List.{List, [], _∷_}
+use Prim.Native.Nat.{ℕ, zero, suc, _+_, _-_, _%_, _≤_, _<_}
+use native.Mathlib.Decide.{decLt}
+use native.Mathlib.Omega.{arith}
+use borrow.Author.Tests.{eqb-true}
+use lib.ListN.{length, getD, take, drop, replicate, length-append, length-drop}
+use lib.Seq.{length-take-le}
+use lib.Dec.{eqb, ltb}
+use Rattle.identifier.specs.Identifier.{isPgn, saOf}
+use Rattle.delivery.specs.Calls.{afterCalls}
+use Rattle.filter.specs.Filter.{Filter, clear}
+use Rattle.entries.specs.Entries.{entriesOf, every, wellFormed}
+use Rattle.filter_commands.specs.Changes.{Sound}
+use Rattle.checks.proofs.Tests.{both}
+use Rattle.filter_commands.proofs.Laws.{clear-sound, added-sound, deleted-sound, created-sound, added-pgns, deleted-pgns, created-pgns}
+use Rattle.queue.specs.declared.Frame.{Frame}
+use Rattle.addresses.specs.declared.Place.the-variants.{Free}
+use Rattle.network_message.specs.declared.Command.{Command}
+use Rattle.network_message.specs.declared.Command.the-variants.{Refused, Request, Add, Delete, Clear, Create, AddressList}
+use Rattle.network_message.specs.Decoding.{between, decoded}
+use Rattle.network_message.specs.Commands.{Ports, Holding, Good}
+use Rattle.network_message.proofs.Decoding.{decoded-good}
+use Rattle.filter_commands.specs.declared.pairs.Change.{Change}
+use Rattle.filter_commands.specs.declared.pairs.Change.the-variants.{Adds, Deletes, Clears, Creates}
+use Rattle.unit.specs.Ports.{each}
+use Rattle.unit.specs.Model.{Rest, Model}
+use Rattle.unit.specs.Own.{isOwn, consumes}
+use Rattle.bridge.specs.Calls.{frameOf}
+use Rattle.claims.specs.Claims.{heldUnder, Acted, isClaim, isRequestToUnit, contested, claimActed, frameActed, started}
+use Rattle.list_commands.specs.Commands.{firstPair, changeAt, changeNamed, names, listRefusal, commanded}
+use Rattle.filter_commands.specs.Pairs.{changeOf}
+use Rattle.message_answers.specs.Messages.{Replied, performedBy}
+use Rattle.bridge.specs.Calls.{silentReply, messaged}
+use Rattle.refusals.specs.Refusals.{messageRefusal}
+use Rattle.bridge.specs.Calls.{Call, FrameIn, TakeOut, Message, Start, Quiet, refusal, restAfter, performed, next}
+use Rattle.unit.specs.PowerOn.{fresh}
+use Rattle.unit.proofs.Ports.{length-each}
+use Rattle.refusals.proofs.Checks.{message-goes}
+use Rattle.demand_2.specs.Demand2.{Kept}
+use Rattle.demand_2.proofs.Pairs.{changed-at, else-still}
+
+-- ---- what is kept of one pair
+pub record Good-pair (f : Filter) : Type 0 where
+  pub sound : Sound f
+  pub pgns : every isPgn (f .entries) ≡ true
+
+clear-good : Good-pair clear
+unfolding every
+clear-good = record { sound = clear-sound; pgns = refl }
+
+changed-good : (change : Change) (xs : List ℕ) → every isPgn xs ≡ true → (f : Filter) → Good-pair f → Good-pair (changeOf change xs f)
+unfolding changeOf
+changed-good Adds xs h f G = record { sound = added-sound (G .sound) xs; pgns = added-pgns f xs (G .pgns) h }
+changed-good Deletes xs h f G = record { sound = deleted-sound (G .sound) xs; pgns = deleted-pgns f xs (G .pgns) }
+changed-good Clears xs h f G = clear-good
+changed-good (Creates passing) xs h f G = record { sound = created-sound (G .sound) passing xs; pgns = created-pgns f xs (G .pgns) passing h }
+
+-- ---- of all pairs, and that there are twelve
+pub record All (pairs : List Filter) : Type 0 where
+  pub twelve : length pairs ≡ 12
+  pub each-good : (i : ℕ) → Good-pair (getD pairs i clear)
+
+fresh-good : (n i : ℕ) → Good-pair (getD (replicate n clear) i clear)
+fresh-good zero i = clear-good
+fresh-good (suc n) zero = clear-good
+fresh-good (suc n) (suc i) = fresh-good n i
+
+pub fresh-all : All (replicate 12 clear)
+fresh-all = record { twelve = refl; each-good = fresh-good 12 }
+
+module _ (pairs : List Filter) (all : All pairs) where
+  named-length : (change : Filter → Filter) (from to : ℕ) → 1 ≤ from → from ≤ 4 → length (changeNamed 4 3 change from to pairs) ≡ 12
+  unfolding changeNamed
+  named-length change from to low high =
+      let n = firstPair 4 from in
+      omega (
+        arith,
+        length-append (take n pairs) (each (changeAt change from to) 3 (drop n pairs)),
+        length-take-le n pairs (omega (arith, all .twelve)),
+        length-each (changeAt change from to) 3 (drop n pairs),
+        length-drop n pairs,
+        all .twelve,
+      )
+
+  named-good : (change : Filter → Filter) → ((f : Filter) → Good-pair f → Good-pair (change f)) → (from to : ℕ) → 1 ≤ from → from ≤ 4 → (i : ℕ) → Good-pair (getD (changeNamed 4 3 change from to pairs) i clear)
+  named-good change keeps from to low high i =
+      elim (decLt i (firstPair 4 from)) [
+        | yes l ↦ rw (else-still from to change pairs (all .twelve) low high i (λ k s e. omega arith)) (all .each-good i)
+        | no l ↦ near (i - firstPair 4 from) (omega arith)
+      ]
+    where
+      here : (k : ℕ) → Good-pair (getD pairs (firstPair 4 from + k) clear) → (t : Bool) → Good-pair (cond t (change (getD pairs (firstPair 4 from + k) clear)) (getD pairs (firstPair 4 from + k) clear))
+      here k G true = keeps (getD pairs (firstPair 4 from + k) clear) G
+      here k G false = G
+
+      near : (k : ℕ) → i ≡ firstPair 4 from + k → Good-pair (getD (changeNamed 4 3 change from to pairs) i clear)
+      near k e =
+          elim (decLt k 3) [
+            | yes s ↦ rw (e, changed-at from to change pairs (all .twelve) low high k s) (here k (all .each-good (firstPair 4 from + k)) (names from to k))
+            | no s ↦ rw (else-still from to change pairs (all .twelve) low high i (λ j t h. omega arith)) (all .each-good i)
+          ]
+
+  commanded-all : (change : Change) (xs : List ℕ) → every isPgn xs ≡ true → (from to : ℕ) → Ports 4 from to → All (commanded 4 change xs from to pairs)
+  unfolding commanded
+  commanded-all change xs h from to ps = go (eqb (listRefusal 4 change xs from to pairs) 0)
+    where
+      go : (t : Bool) → All (cond t (changeNamed 4 3 (changeOf change xs) from to pairs) pairs)
+      go true = record {
+        twelve = named-length (changeOf change xs) from to (ps .least) (ps .most);
+        each-good = named-good (changeOf change xs) (changed-good change xs h) from to (ps .least) (ps .most);
+      }
+      go false = all
+
+-- ---- of a message
+entries-pgns : {start end : ℕ} {payload : List ℕ} → Holding start end payload → every isPgn (entriesOf (between start end payload)) ≡ true
+unfolding wellFormed
+entries-pgns {start} {end} {payload} H =
+    both (eqb (length (between start end payload) % 3) 0) (every isPgn (entriesOf (between start end payload))) (H .formed) .1
+
+module _ (rest : Rest) (all : All (rest .pairs)) where
+  performed-all : (requester : ℕ) (payload : List ℕ) (c : Command) → Good 4 payload c → All (performedBy 4 rest requester payload c .pairs)
+  unfolding performedBy every entriesOf
+  performed-all requester payload (Refused number) g = all
+  performed-all requester payload (Request from to) g = all
+  performed-all requester payload (Add from to start end) g = commanded-all (rest .pairs) all Adds (entriesOf (between start end payload)) (entries-pgns (g .1)) from to (g .0)
+  performed-all requester payload (Delete from to start end) g = commanded-all (rest .pairs) all Deletes (entriesOf (between start end payload)) (entries-pgns (g .1)) from to (g .0)
+  performed-all requester payload (Clear from to) g = commanded-all (rest .pairs) all Clears (entriesOf (between 2 2 payload)) refl from to g
+  performed-all requester payload (Create from to passing start end) g = commanded-all (rest .pairs) all (Creates passing) (entriesOf (between start end payload)) (entries-pgns (g .1)) from to (g .0)
+  performed-all requester payload (AddressList port) g = all
+
+  messaged-all : (lent lentReply port requester : ℕ) (payload : List ℕ) → All (messaged 4 lent lentReply rest port requester payload .pairs)
+  unfolding messaged
+  messaged-all lent lentReply port requester payload = go (eqb n 0) refl
+    where
+      n : ℕ
+      n = messageRefusal 4 lent lentReply rest port requester (length payload)
+
+      go : (t : Bool) → eqb n 0 ≡ t → All (cond t (performedBy 4 rest requester payload (decoded 4 port payload)) (silentReply n (rest .pairs)) .pairs)
+      go true z = performed-all requester payload (decoded 4 port payload) (decoded-good 4 port payload (message-goes lent lentReply rest port requester (length payload) (eqb-true n 0 z) .2))
+      go false z = all
+
+-- ---- of every call
+-- no claim, request or Start changes a pair
+acted-pairs : (rest : Rest) (b : Bool) (x y : Acted) → x .rest .pairs ≡ rest .pairs → y .rest .pairs ≡ rest .pairs → cond b x y .rest .pairs ≡ rest .pairs
+acted-pairs rest true x y p q = p
+acted-pairs rest false x y p q = q
+
+claimed-pairs : (rest : Rest) (port : ℕ) (f : Frame) → claimActed rest port f .rest .pairs ≡ rest .pairs
+unfolding claimActed contested
+claimed-pairs rest port f =
+    acted-pairs rest (eqb (f .bytes) (rest .own .name)) _ _ refl
+    (acted-pairs rest (eqb (saOf (f .id)) 254) _ _ refl
+    (acted-pairs rest (isOwn (rest .own) (saOf (f .id))) _ _ (acted-pairs rest (ltb (rest .own .name) (f .bytes)) _ _ refl refl) refl))
+
+frame-pairs : (rest : Rest) (port : ℕ) (consumed : Bool) (f : Frame) → frameActed rest port consumed f .rest .pairs ≡ rest .pairs
+unfolding frameActed
+frame-pairs rest port consumed f =
+    acted-pairs rest (isClaim f) _ _ (claimed-pairs rest port f) (acted-pairs rest (isRequestToUnit f consumed) _ _ refl refl)
+
+started-pairs : (rest : Rest) → started rest .rest .pairs ≡ rest .pairs
+unfolding started
+started-pairs rest = acted-pairs rest (heldUnder (rest .own .name) (getD (rest .table) (rest .own .preferred) Free)) _ _ refl refl
+
+rest-all : (lent : ℕ) (rest : Rest) (k : Call) → All (rest .pairs) → All (restAfter 4 lent rest k .pairs)
+unfolding restAfter
+rest-all lent rest (FrameIn port id bytes) A = rw (frame-pairs rest port (consumes (rest .own) id) (frameOf id bytes)) A
+rest-all lent rest (TakeOut port) A = A
+rest-all lent rest (Message port requester payload lentReply) A = messaged-all rest A lent lentReply port requester payload
+rest-all lent rest Start A = rw (started-pairs rest) A
+rest-all lent rest Quiet A = A
+
+next-all : (lent : ℕ) (m : Model) (k : Call) → All (m .rest .pairs) → All (next 4 lent m k .rest .pairs)
+unfolding next performed
+next-all lent m k A = go (eqb (refusal 4 lent (m .rest) k) 0)
+  where
+    go : (t : Bool) → All (cond t (performed 4 lent m k) m .rest .pairs)
+    go true = rest-all lent (m .rest) k A
+    go false = A
+
+calls-all : (lent : ℕ) (m : Model) (ks : List Call) → All (m .rest .pairs) → All (afterCalls (next 4 lent) m ks .rest .pairs)
+calls-all lent m [] A = A
+calls-all lent m (k ∷ ks) A = calls-all lent (next 4 lent m k) ks (next-all lent m k A)
+
+pub always-kept : (lent name preferred : ℕ) (ks : List Call) → Kept (afterCalls (next 4 lent) (fresh 4 name preferred) ks .rest)
+always-kept lent name preferred ks =
+    let A = calls-all lent (fresh 4 name preferred) ks fresh-all in
+    record { sound = λ i. A .each-good i .sound; pgns = λ i. A .each-good i .pgns }

@@ -1,0 +1,5 @@
+pub mod Moves
+pub mod OneCall
+pub mod Named
+pub mod AtPort
+pub mod Demand3

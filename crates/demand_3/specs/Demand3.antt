@@ -1,0 +1,211 @@
+-- Demand 3: ONE claim about every list of calls on one unit, from a power-on on. `demand-3` of proofs/Demand3.antt proves `EveryList`.
+-- Words in quotes are the customer's demand 3; those marked 01 are document 01's, "How much each contract says".
+-- In this file ports are counted from 0: port q is the customer's port q + 1. Assumes nothing.
+--
+-- The parts, in order:
+--   1. the calls, as the real functions make them: of each only its contract is known (Made.antt)
+--   2. the book of document 01, here `Model`, fed the calls' arguments alone
+--   3. what a call sends and asks, read on the book: the bridge as a product
+--   4. the claim
+-- What demand 3 says of any product is `Obeys` of the crate `delivery` (specs/Product.antt): when a frame leaves, once, unchanged, what a take gives.
+use mathlib.Core.Path.{_≡_}
+use mathlib.Core.Bool.{Bool, true, cond}
+use mathlib.Core.Logic.{_↔_}
+use mathlib.Core.List.{List, [], _∷_, _++_}
+use mathlib.Core.Option.{Option, none}
+use Prim.Native.Nat.{ℕ, suc, _-_, _≤_, _<_}
+use lib.Dec.{eqb}
+use lib.ListN.{length, take}
+use Rattle.delivery.specs.Calls.{Run, afterCalls, answersOf}
+use Rattle.delivery.specs.Unit.{joinAll}
+use Rattle.delivery.specs.Product.{Product, Answered, Obeys}
+use Rattle.queue.specs.declared.Frame.{Frame}
+use Rattle.queue.specs.Queue.{size, priority, takenOf}
+use Rattle.bridge.specs.declared.FrameAnswer.{FrameAnswer}
+use Rattle.bridge.specs.declared.TakeAnswer.{TakeAnswer}
+use Rattle.bridge.specs.declared.TakeAnswer.the-variants.{Refused, Took}
+use Rattle.message_answers.specs.declared.MessageAnswer.{MessageAnswer}
+use Rattle.bridge.specs.declared.StartAnswer.{StartAnswer}
+use Rattle.unit.specs.Ports.{bitAt}
+use Rattle.unit.specs.Model.{Rest, Model, rowAt, recordLength, modelOf}
+use Rattle.refusals.specs.Refusals.{quietRefusal}
+use Rattle.bridge.specs.Calls.{frameOf, offered}
+use Rattle.forwarding.specs.Forwarding.{sentIf}
+use Rattle.bridge.specs.Calls.{messaged}
+use Rattle.unit.specs.Own.{framesSent}
+use Rattle.claims.specs.Claims.{started}
+use Rattle.bridge.specs.Calls.{Call, FrameIn, TakeOut, Message, Start, Quiet, refusal, restAfter, frameDone, frameAnswer, takeAnswer, startAnswer}
+use Rattle.message_answers.specs.Messages.{messageAnswer}
+use Rattle.unit.specs.PowerOn.{fresh}
+use Rattle.bridge.specs.Calls.{next as nextOf, asks as asksOf}
+use Rattle.made.specs.Made as made
+
+-- ---- 1. the calls
+-- `Call` of the bridge is a call by its arguments: FrameIn, TakeOut, Message, Start, Quiet. This is what it was answered; of a message also the reply,
+-- the bytes that were written to the buffer. (That those behind it are untouched is in the contract of `message`.)
+pub data Answer : Type 0 where
+  ToFrame : FrameAnswer → Answer
+  ToTake : TakeAnswer → Answer
+  ToMessage : MessageAnswer → (reply : List ℕ) → Answer
+  ToStart : StartAnswer → Answer
+  ToQuiet : ℕ → Answer
+
+-- A call was made on the record w by the real function, of which the contract alone is known (Made.antt), and left the record as w′.
+pub data Made : List ℕ → Call → Answer → List ℕ → Type 0 where
+  frame-made : {w bytes w′ : List ℕ} {port id : ℕ} {r : FrameAnswer} → made.Arrived w port id bytes r w′ → Made w (FrameIn port id bytes) (ToFrame r) w′
+  take-made : {w w′ : List ℕ} {port : ℕ} {r : TakeAnswer} → made.Took w port r w′ → Made w (TakeOut port) (ToTake r) w′
+  message-made : {w payload lent w′ back : List ℕ} {port requester : ℕ} {r : MessageAnswer} → made.Handed w port requester payload lent r w′ back
+      → Made w (Message port requester payload (length lent)) (ToMessage r (take (r .length) back)) w′
+  start-made : {w w′ : List ℕ} {r : StartAnswer} → made.Started w r w′ → Made w Start (ToStart r) w′
+  quiet-made : {w w′ : List ℕ} {r : ℕ} → made.Quieted w r w′ → Made w Quiet (ToQuiet r) w′
+
+-- ---- 2. the book
+abbrev pub ports : ℕ
+ports = 4
+
+-- the words of a record
+abbrev pub words : ℕ
+words = recordLength ports
+
+-- What a call does to the book, by its arguments alone. A call that `refusal` gives a number changes nothing (`nextOf`).
+abbrev pub next : Model → Call → Model
+next m k = nextOf ports words m k
+
+-- What it answers.
+unfoldable pub answer : Model → Call → Answer
+answer m (FrameIn port id bytes) = ToFrame (frameAnswer ports words m port id bytes)
+answer m (TakeOut port) = ToTake (takeAnswer ports words m port)
+answer m (Message port requester payload lentReply) =
+    ToMessage (messageAnswer (messaged ports words lentReply (m .rest) port requester payload) (m .seen))
+    (messaged ports words lentReply (m .rest) port requester payload .written (m .seen))
+answer m Start = ToStart (startAnswer ports words m)
+answer m Quiet = ToQuiet (quietRefusal ports words (m .rest .own))
+
+-- ---- 3. what a call sends and asks
+-- What the book keeps besides the rows has all the say; a refused call asks nothing, sends nothing and changes nothing.
+abbrev pub goes : Rest → Call → Bool
+goes rest k = eqb (refusal ports words rest k) 0
+
+unfoldable pub restNext : Rest → Call → Rest
+restNext rest k = cond (goes rest k) (restAfter ports words rest k) rest
+
+-- "Takes on that port alone are counted, refused ones not": the port of a take that isn't refused.
+unfoldable pub asks : Rest → Call → Option ℕ
+asks rest k = cond (goes rest k) (asksOf k) none
+
+-- Rules 1 and 2: the frame, as it was handed in, that is sent to port q.
+abbrev pub forwarded : Rest → Call → ℕ → List Frame
+forwarded rest (FrameIn port id bytes) q = sentIf (offered ports rest (port - 1) id q) (frameOf id bytes)
+forwarded rest (TakeOut port) q = []
+forwarded rest (Message port requester payload lentReply) q = []
+forwarded rest Start q = []
+forwarded rest Quiet q = []
+
+unfoldable pub forwards : Rest → Call → ℕ → List Frame
+forwards rest k q = cond (goes rest k) (forwarded rest k q) []
+
+-- "The unit's own too": the frame that the unit sends to every port, because of a claim or a request, or at Start.
+abbrev pub announced : Rest → Call → List Frame
+announced rest (FrameIn port id bytes) = framesSent (frameDone rest port (frameOf id bytes) .sent)
+announced rest (TakeOut port) = []
+announced rest (Message port requester payload lentReply) = []
+announced rest Start = framesSent (started rest .sent)
+announced rest Quiet = []
+
+unfoldable pub announces : Rest → Call → List Frame
+announces rest k = cond (goes rest k) (announced rest k) []
+
+abbrev pub sends : Rest → Call → ℕ → List Frame
+sends rest k q = forwards rest k q ++ announces rest k
+
+-- The bridge as a product: its book, and a take with what it gave.
+abbrev pub bridge : Product Frame Rest Model Call Answer
+bridge = record {
+  priority = priority;
+  size = size;
+  ports = ports;
+  rest = λ m. m .rest;
+  row = rowAt;
+  next = next;
+  answer = answer;
+  restNext = restNext;
+  asks = asks;
+  sends = sends;
+  takeOn = λ q. TakeOut (suc q);
+  took = λ o. ToTake (Took (takenOf o));
+}
+
+-- ---- 4. the claim
+-- The number in an answer, 0 where the call isn't refused.
+abbrev pub numberIn : Answer → ℕ
+numberIn (ToFrame r) = r .refusal
+numberIn (ToTake (Refused number)) = number
+numberIn (ToTake (Took taken)) = 0
+numberIn (ToMessage r reply) = r .refusal
+numberIn (ToStart r) = r .refusal
+numberIn (ToQuiet number) = number
+
+-- The ports that an answer names, as bits: bit q for port q.
+abbrev pub acceptedPorts : Answer → ℕ
+acceptedPorts (ToFrame r) = r .accepted
+acceptedPorts (ToTake r) = 0
+acceptedPorts (ToMessage r reply) = 0
+acceptedPorts (ToStart r) = 0
+acceptedPorts (ToQuiet number) = 0
+
+abbrev pub lostPorts : Answer → ℕ
+lostPorts (ToFrame r) = r .lost
+lostPorts (ToTake r) = 0
+lostPorts (ToMessage r reply) = 0
+lostPorts (ToStart r) = 0
+lostPorts (ToQuiet number) = 0
+
+abbrev pub ownLostPorts : Answer → ℕ
+ownLostPorts (ToFrame r) = r .unsent
+ownLostPorts (ToTake r) = 0
+ownLostPorts (ToMessage r reply) = 0
+ownLostPorts (ToStart r) = r .unsent
+ownLostPorts (ToQuiet number) = 0
+
+-- Something was sent.
+abbrev pub Sent : List Frame → Type 0
+Sent fs = fs ≡ [] → ⊥
+
+-- 01: "Accepted ports, lost ports and the ports where the unit's own frame was lost are those rule 3 names in the book." The call k found the book m
+-- and was answered x; q is any number.
+pub record Rule3 (m : Model) (k : Call) (x : Answer) (q : ℕ) : Type 0 where
+  -- accepted exactly if q is a port, a frame was sent there and fewer than 32 waited
+  pub accepted : (bitAt (acceptedPorts x) q ≡ true) ↔ ((q < ports) × (Sent (forwards (m .rest) k q) × (length (rowAt m q) < size)))
+  -- lost exactly if q is a port, a frame was sent there and 32 waited
+  pub lost : (bitAt (lostPorts x) q ≡ true) ↔ ((q < ports) × (Sent (forwards (m .rest) k q) × (size ≤ length (rowAt m q))))
+  -- the unit's own lost exactly if q is a port, the unit sent one and 32 waited once the forwarded frame had joined
+  pub ownLost : (bitAt (ownLostPorts x) q ≡ true)
+      ↔ ((q < ports) × (Sent (announces (m .rest) k) × (size ≤ length (joinAll size (rowAt m q) (forwards (m .rest) k q)))))
+
+module _ (name preferred : ℕ) where
+  -- 01: "Power-on, with any NAME and preferred address, makes it fresh." "The book is fed the calls' arguments alone, no answer and nothing of the
+  -- unit's record."
+  abbrev pub modelAfter : List Call → Model
+  modelAfter ks = afterCalls next (fresh ports name preferred) ks
+
+  -- The calls ks were made from power-on on, were answered xs and left the record v.
+  pub record Demand3 (ks : List Call) (xs : List Answer) (v : List ℕ) : Type 0 where
+    -- Every answer, and what the record means, is the book's.
+    pub answers : xs ≡ answersOf next answer (fresh ports name preferred) ks
+    pub state : modelOf ports v ≡ modelAfter ks
+    -- 01: "A call refused under ‘Numbers given back’, read on the book, changes nothing, and the unit refuses just these."
+    pub refuses : (js : List Call) (k : Call) (x : Answer) → Answered ks xs js k x → numberIn x ≡ refusal ports words (modelAfter js .rest) k
+    pub unmoved : (js : List Call) (k : Call) → (refusal ports words (modelAfter js .rest) k ≡ 0 → ⊥) → modelAfter (js ++ (k ∷ [])) ≡ modelAfter js
+    -- "The ports that answers name as accepted or lost are those of document 01's book."
+    pub named : (js : List Call) (k : Call) (x : Answer) → Answered ks xs js k x → (q : ℕ) → Rule3 (modelAfter js) k x q
+    -- When and where every accepted frame leaves, and what every take gives. What is accepted is what a call sent, `frameOf` of its arguments or the unit's
+    -- own (`forwarded`, `announced`).
+    pub obeys : Obeys bridge (fresh ports name preferred) ks xs
+
+-- The whole claim: power-on was called on the words w, whatever they held, with any NAME and any preferred address, was answered r and left u.
+pub record EveryList (w u : List ℕ) (name preferred r : ℕ) : Type 0 where
+  -- "For every list of calls on one unit from one power-on to the next (frames, takes, messages, Start and Quiet, refused ones too)", each given the record
+  -- as the last call left it (`Run`).
+  pub every : r ≡ 0 → (ks : List Call) (xs : List Answer) (v : List ℕ) → Run Made u ks xs v → Demand3 name preferred ks xs v
+  -- 01: "A power-on refused with 2 counts as none": it has no other number, and leaves every word as it was.
+  pub none : (r ≡ 0 → ⊥) → (r ≡ 2) × (u ≡ w)

@@ -1,0 +1,3 @@
+pub mod Listed
+mod ThreeBytes
+pub mod Reported

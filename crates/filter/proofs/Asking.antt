@@ -1,0 +1,67 @@
+-- Asking a pair: a cleared one permits all, and another answers by where the search stopped. Assumes nothing.
+use mathlib.Core.Path.{_≡_, refl, sym, ap, _∙_}
+use mathlib.Core.Bool.{Bool, true, false, cond}
+use mathlib.Core.List.{List, [], _∷_}
+use Prim.Native.Nat.{ℕ, suc, _+_, _≤_, _<_, zero-le}
+use native.Mathlib.Nat.{not-suc-le-zero, le-of-suc-le-suc}
+use native.Mathlib.Omega.{arith}
+use lib.Dec.{eqb, ltb}
+use lib.ListN.{length, getD, take}
+use Rattle.entries.specs.Entries.{listed}
+use Rattle.pgn_list.specs.Steps.{indexOf, Finding}
+use Rattle.pgn_list.proofs.Search.{index-listed, index-absent}
+use Rattle.filter.specs.declared.Asked.{Asked}
+use Rattle.filter.specs.Filter.{modePlace, countPlace, listOf, filterOf, meant, place, permits, asked, Asking, Counting}
+use Rattle.filter.proofs.Meaning.{front, permits-test}
+
+-- ---- the place, by the index at which a search stopped
+index-place : (x : ℕ) (es : List ℕ) → indexOf x es < length es → place x es ≡ indexOf x es + 1
+unfolding indexOf place
+index-place x [] h = absurd (not-suc-le-zero h)
+index-place x (y ∷ ys) h = go (eqb y x) h (index-place x ys)
+  where
+    go : (b : Bool) → cond b 0 (suc (indexOf x ys)) < suc (length ys) → (indexOf x ys < length ys → place x ys ≡ indexOf x ys + 1) → cond b 1 (suc (place x ys)) ≡ cond b 0 (suc (indexOf x ys)) + 1
+    go true h ih = refl
+    go false h ih = omega (arith, ih (le-of-suc-le-suc h))
+
+index-end : (x : ℕ) (es : List ℕ) → length es ≤ indexOf x es → place x es ≡ length es
+unfolding indexOf place
+index-end x [] h = refl
+index-end x (y ∷ ys) h = go (eqb y x) h (index-end x ys)
+  where
+    go : (b : Bool) → suc (length ys) ≤ cond b 0 (suc (indexOf x ys)) → (length ys ≤ indexOf x ys → place x ys ≡ length ys) → cond b 1 (suc (place x ys)) ≡ suc (length ys)
+    go true h ih = absurd (not-suc-le-zero h)
+    go false h ih = ap suc (ih (le-of-suc-le-suc h))
+
+-- ---- asking
+abbrev answer : Bool → ℕ → Asked
+answer p n = record { permitted = p; compared = n }
+
+pub ask-cleared : {words : List ℕ} {pgn : ℕ} → getD words modePlace 0 ≡ 0 → Asking words pgn (answer true 0)
+unfolding asked filterOf meant permits place
+ask-cleared h = record { answer = rw h refl; small = zero-le }
+
+-- a pair that is not cleared answers by its list
+by-list : (words : List ℕ) (pgn p : ℕ) (here : Bool) → (getD words modePlace 0 ≡ 0 → ⊥) → listed pgn (filterOf words .entries) ≡ here → place pgn (filterOf words .entries) ≡ p → answer (cond here (ltb 1 (getD words modePlace 0)) (eqb (getD words modePlace 0) 1)) p ≡ asked (filterOf words) pgn
+unfolding asked filterOf
+by-list words pgn p here h l q = rw (l, q, permits-test (getD words modePlace 0) (take (getD words countPlace 0) (listOf words)) here h)
+
+module _ {words : List ℕ} {pgn n i : ℕ} (listing : getD words modePlace 0 ≡ 0 → ⊥) (C : Counting words n) (F : Finding (listOf words) n pgn i) where
+  index : i ≡ indexOf pgn (filterOf words .entries)
+  index = F .index ∙ rw (front C)
+
+  pub ask-found : i < n → Asking words pgn (answer (ltb 1 (getD words modePlace 0)) (i + 1))
+  ask-found h =
+      let inside : indexOf pgn (filterOf words .entries) < length (filterOf words .entries) = omega (arith, index, C .number) in
+      record {
+        answer = by-list words pgn (i + 1) true listing (index-listed pgn (filterOf words .entries) inside) (omega (arith, index-place pgn (filterOf words .entries) inside, index));
+        small = omega (arith, C .small);
+      }
+
+  pub ask-absent : n ≤ i → Asking words pgn (answer (eqb (getD words modePlace 0) 1) n)
+  ask-absent h =
+      let past : length (filterOf words .entries) ≤ indexOf pgn (filterOf words .entries) = omega (arith, index, C .number) in
+      record {
+        answer = by-list words pgn n false listing (index-absent pgn (filterOf words .entries) past) (index-end pgn (filterOf words .entries) past ∙ sym (C .number));
+        small = C .small;
+      }

@@ -1,0 +1,156 @@
+-- What the rules make of every filter: commands keep it sound, a PGN keeps or changes its place as the rules say, and a list that is created from the
+-- bytes that report it is that list again. From the laws of the lists, by whether the command may be done. Assumes nothing.
+use mathlib.Core.Path.{_≡_, refl, sym, ap, _∙_}
+use mathlib.Core.Bool.{Bool, true, false, cond, not, _&&_, true≢false, and-false}
+use mathlib.Core.List.{List, [], _∷_, _++_}
+use Prim.Native.Nat.{ℕ, _^_, _≤_, zero-le}
+use native.Mathlib.Nat.{le-trans}
+use native.Mathlib.Omega.{arith}
+use borrow.Author.Tests.{eq-eqb, ltb-false, le-ltb, not-true}
+use lib.Dec.{ltb, eqb}
+use lib.ListN.{length, replicate, length-append}
+use Rattle.identifier.specs.Identifier.{isPgn}
+use Rattle.entries.proofs.Reported.{pgns-small, reported-back}
+use Rattle.filter.specs.Filter.{blockSize, Mode, cleared, block, pass, Filter, clear, meant, filterOf, permits, place, asked, reportedMode, isCleared}
+use Rattle.pgn_list.specs.PgnList.{listSize, addOne, addAll, deleteAll, once}
+use Rattle.entries.specs.Entries.{listed, entriesOf, every, reported}
+use Rattle.filter_commands.specs.Changes.{wouldPass, lacks, mayAdd, mayDelete, mayCreate, added, deleted, modeFor, created, Sound}
+use Rattle.filter.proofs.Meaning.{counting, cleared-none}
+use Rattle.pgn_list.proofs.Changes.{one-listed, one-new}
+use Rattle.checks.proofs.Tests.{both}
+use Rattle.pgn_list.proofs.Lists.{deleted-listed, add-once, delete-once, delete-shorter, delete-less, add-different, add-every, delete-every}
+
+-- ---- a cleared pair
+pub fresh-cleared : filterOf (replicate blockSize 0) ≡ clear
+unfolding filterOf meant
+fresh-cleared = refl
+
+pub cleared-permits : (pgn : ℕ) → asked clear pgn ≡ record { permitted = true; compared = 0 }
+unfolding asked permits place
+cleared-permits pgn = refl
+
+-- "cleared" is not "block with no entries"
+pub cleared-not-block : (es : List ℕ) → clear ≡ record { mode = block; entries = es } → ⊥
+cleared-not-block es e =
+    let m : cleared ≡ block = ap {B = Mode} (λ (f : Filter). f .mode) e in
+    let z : _≡_ {A = ℕ} 0 1 = cc in
+    omega arith
+
+-- a pass pair with no entries permits nothing
+pub emptied-pass : (pgn : ℕ) → asked (record { mode = pass; entries = [] }) pgn ≡ record { permitted = false; compared = 0 }
+unfolding asked permits listed place
+emptied-pass pgn = refl
+
+-- ---- sound: a cleared pair has no entries, no PGN twice, no more than a list holds
+-- what holds of a filter, and of what a command makes of it if it may be done, holds after the command
+either : (P : Filter → Type 0) {f g : Filter} (b : Bool) → P f → (b ≡ true → P g) → P (cond b g f)
+either P true old new = new refl
+either P false old new = old
+
+not-both : {A : Type 0} (b : Bool) → not b ≡ true → b ≡ true → A
+not-both true h e = absurd (true≢false (sym h))
+not-both false h e = absurd (true≢false (sym e))
+
+few-enough : (f : Filter) (xs : List ℕ) → not (wouldPass f xs) ≡ true → length (addAll (f .entries) xs) ≤ listSize
+unfolding wouldPass
+few-enough f xs e = let n = length (addAll (f .entries) xs) in ltb-false listSize n (not-true (ltb listSize n) e)
+
+-- of a block, only that no PGN stands twice is to be shown
+pub block-sound : (words : List ℕ) → length words ≡ blockSize → once (filterOf words .entries) ≡ true → Sound (filterOf words)
+block-sound words long h = record { none = cleared-none words; different = h; few = counting words long .small }
+
+pub clear-sound : Sound clear
+unfolding once
+clear-sound = record { none = λ _. refl; different = refl; few = zero-le }
+
+pub added-sound : {f : Filter} → Sound f → (xs : List ℕ) → Sound (added f xs)
+unfolding added mayAdd
+added-sound {f} S xs =
+    either Sound (not (isCleared (f .mode)) && not (wouldPass f xs)) S
+    (λ e.
+    let p = both (not (isCleared (f .mode))) (not (wouldPass f xs)) e in
+    record { none = not-both (isCleared (f .mode)) (p .0); different = add-once (f .entries) xs (S .different); few = few-enough f xs (p .1) })
+
+pub deleted-sound : {f : Filter} → Sound f → (xs : List ℕ) → Sound (deleted f xs)
+unfolding deleted mayDelete
+deleted-sound {f} S xs =
+    either Sound (not (isCleared (f .mode)) && not (lacks f xs)) S
+    (λ e.
+    let p = both (not (isCleared (f .mode))) (not (lacks f xs)) e in
+    record { none = not-both (isCleared (f .mode)) (p .0); different = delete-once (f .entries) xs (S .different); few = le-trans (delete-shorter (f .entries) xs) (S .few) })
+
+mode-for : (passing : Bool) → isCleared (modeFor passing) ≡ false
+unfolding isCleared modeFor
+mode-for true = refl
+mode-for false = refl
+
+pub created-sound : {f : Filter} → Sound f → (passing : Bool) (xs : List ℕ) → Sound (created passing f xs)
+unfolding created mayCreate once
+created-sound {f} S passing xs =
+    either Sound (isCleared (f .mode) && not (wouldPass f xs)) S
+    (λ e.
+    let p = both (isCleared (f .mode)) (not (wouldPass f xs)) e in
+    record { none = λ c. absurd (true≢false (sym c ∙ mode-for passing)); different = add-once [] xs refl; few = rw (S .none (p .0)) at (few-enough f xs (p .1)) })
+
+-- ---- entries that are PGNs: they stay so
+abbrev Pgns : Filter → Type 0
+Pgns f = every isPgn (f .entries) ≡ true
+
+module _ (f : Filter) (xs : List ℕ) (pgns : every isPgn (f .entries) ≡ true) where
+  pub added-pgns : every isPgn xs ≡ true → every isPgn (added f xs .entries) ≡ true
+  unfolding added
+  added-pgns h = either Pgns (mayAdd f xs) pgns (λ _. add-every isPgn (f .entries) xs pgns h)
+
+  pub deleted-pgns : every isPgn (deleted f xs .entries) ≡ true
+  unfolding deleted
+  deleted-pgns = either Pgns (mayDelete f xs) pgns (λ _. delete-every isPgn (f .entries) xs pgns)
+
+  pub created-pgns : (passing : Bool) → every isPgn xs ≡ true → every isPgn (created passing f xs .entries) ≡ true
+  unfolding created every
+  created-pgns passing h = either Pgns (mayCreate f xs) pgns (λ _. add-every isPgn [] xs refl h)
+
+-- ---- the place of a PGN
+-- adding a listed PGN changes nothing
+pub add-listed : (f : Filter) (x : ℕ) → listed x (f .entries) ≡ true → added f (x ∷ []) ≡ f
+unfolding added addAll
+add-listed f x l = go (mayAdd f (x ∷ []))
+  where
+    go : (b : Bool) → cond b (record { mode = f .mode; entries = addOne (f .entries) x }) f ≡ f
+    go true = rw (one-listed (f .entries) x l)
+    go false = refl
+
+-- deleted and added again, a PGN stands last
+module _ (f : Filter) (x : ℕ) (S : Sound f) (e : isCleared (f .mode) ≡ false) (l : listed x (f .entries) ≡ true) where
+  gone : deleted f (x ∷ []) ≡ record { mode = f .mode; entries = deleteAll (f .entries) (x ∷ []) }
+  unfolding deleted mayDelete lacks every
+  gone = rw (e, l)
+
+  last : addAll (deleteAll (f .entries) (x ∷ [])) (x ∷ []) ≡ deleteAll (f .entries) (x ∷ []) ++ (x ∷ [])
+  unfolding addAll listed
+  last = one-new (deleteAll (f .entries) (x ∷ [])) x (deleted-listed x (f .entries) (x ∷ []) ∙ rw (eq-eqb x x refl) (and-false (listed x (f .entries))))
+
+  pub delete-add : added (deleted f (x ∷ [])) (x ∷ []) ≡ record { mode = f .mode; entries = deleteAll (f .entries) (x ∷ []) ++ (x ∷ []) }
+  unfolding added mayAdd wouldPass
+  delete-add =
+      let n : length (deleteAll (f .entries) (x ∷ []) ++ (x ∷ [])) ≤ listSize = omega (arith, length-append (deleteAll (f .entries) (x ∷ [])) (x ∷ []), delete-less (f .entries) x l, S .few) in
+      rw (gone, last, e, le-ltb listSize (length (deleteAll (f .entries) (x ∷ []) ++ (x ∷ []))) n)
+
+-- ---- the round trip
+-- a list with a mode, created on a cleared pair from the bytes that report it, is that list again
+pub round-trip : (passing : Bool) (es : List ℕ) → once es ≡ true → every (λ x. ltb x (2 ^ 24)) es ≡ true → length es ≤ listSize → created passing clear (entriesOf (reported es)) ≡ record { mode = modeFor passing; entries = es }
+unfolding created mayCreate wouldPass isCleared
+round-trip passing es h small few =
+    rw (reported-back es small, add-different [] es h, le-ltb listSize (length es) few)
+
+-- the mode that is reported, given to Create, is the mode again
+mode-back : (m : Mode) → isCleared m ≡ false → modeFor (eqb (reportedMode m) 1) ≡ m
+unfolding isCleared reportedMode modeFor
+mode-back cleared e = absurd (true≢false e)
+mode-back block e = refl
+mode-back pass e = refl
+
+-- so what function 0 reports of a pair that is not cleared, created on a cleared pair, is the pair's filter again
+pub restored : (f : Filter) → Sound f → every isPgn (f .entries) ≡ true → isCleared (f .mode) ≡ false → created (eqb (reportedMode (f .mode)) 1) clear (entriesOf (reported (f .entries))) ≡ f
+restored f S pgns e =
+    round-trip (eqb (reportedMode (f .mode)) 1) (f .entries) (S .different) (pgns-small (f .entries) pgns) (S .few)
+    ∙ rw (mode-back (f .mode) e)

@@ -1,0 +1,3 @@
+mod Lacking
+mod Commands
+pub mod Laws

@@ -1,0 +1,153 @@
+// The commands on one pair's filter: Add, Delete, Create and Clear, and the questions that refuse them with 14 to 17.
+pub mod pairs;
+
+use filter::BLOCK;
+use filter::CLEARED;
+use filter::COUNT;
+use filter::LIST;
+use filter::LIST_END;
+use filter::MODE;
+use filter::PASS;
+use pgn_list::LIST_SIZE;
+ghost use mathlib.Core.Path.{_≡_};
+ghost use Prim.Native.Nat.{_≤_};
+ghost use lib.ListN.{length};
+ghost use Rattle.entries.specs.Entries.{entriesOf};
+ghost use Rattle.pgn_list.specs.PgnList.{listSize};
+ghost use Rattle.filter.specs.Filter.{listOf, blockSize, filterOf};
+ghost use Rattle.filter_commands.specs.Changes.{wouldPass, lacks, Adding, Deleting, Creating, Clearing};
+ghost use Rattle.filter_commands.specs.Steps.{Growing};
+
+// Whether an entry is absent from the list: refusal 17.
+pub fn lacks(block: &[u64], bytes: &[u8]) -> bool
+    requires { ⌜ length (now block) ≡ blockSize ⌝ }
+    ensures { λ r. ⌜ r ≡ lacks (filterOf (now (block .entry))) (entriesOf (now (bytes .entry))) ⌝ }
+{
+    let n = filter::count(block);
+    let end = entries::count(bytes);
+    let mut i = 0;
+    while i < end {
+        let x = entries::entry_at(bytes, i);
+        if pgn_list::find(&block[LIST..LIST_END], n, x) == n {
+            return true;
+        }
+        i += 1;
+    }
+    false
+}
+
+// The block's PGNs, its free part too.
+fn copied(block: &[u64]) -> [u64; LIST_SIZE]
+    requires { ⌜ length (now block) ≡ blockSize ⌝ }
+    ensures { λ r. ⌜ r ≡ listOf (now (block .entry)) ⌝ }
+{
+    let mut list = [0u64; LIST_SIZE];
+    let mut i = 0;
+    while i < LIST_SIZE {
+        list[i] = block[LIST + i];
+        i += 1;
+    }
+    list
+}
+
+// Whether list and entries together are more different PGNs than a list holds: refusal 16. Few entries can't be; others are tried on a copy.
+pub fn would_pass(block: &[u64], bytes: &[u8]) -> bool
+    requires { ⌜ length (now block) ≡ blockSize ⌝ }
+    ensures { λ r. ⌜ r ≡ wouldPass (filterOf (now (block .entry))) (entriesOf (now (bytes .entry))) ⌝ }
+{
+    let n = filter::count(block);
+    if entries::count(bytes) <= LIST_SIZE - n {
+        return false;
+    }
+    let mut list = copied(block);
+    LIST_SIZE < pgn_list::extend(&mut list, n, bytes)
+}
+
+// Writes a list over another.
+fn put(over: &mut [u64], list: &[u64])
+    requires { ⌜ (length (now over) ≡ listSize) × (length (now list) ≡ listSize) ⌝ }
+    ensures { λ _. ⌜ now (over .exit) ≡ now (list .entry) ⌝ }
+{
+    let mut i = 0;
+    while i < LIST_SIZE {
+        over[i] = list[i];
+        i += 1;
+    }
+}
+
+// Adds the entries to the first n of a block's list, in place where they are few, else by a copy. Tells whether it was done: not where they
+// would pass LIST_SIZE.
+fn grow(block: &mut [u64], n: usize, bytes: &[u8]) -> bool
+    requires { ⌜ (length (now block) ≡ blockSize) × (n ≤ listSize) ⌝ }
+    ensures { λ r. ⌜ Growing (now (block .entry)) (now (block .exit)) n (entriesOf (now (bytes .entry))) r ⌝ }
+{
+    if entries::count(bytes) <= LIST_SIZE - n {
+        let held = pgn_list::extend(&mut block[LIST..LIST_END], n, bytes);
+        block[COUNT] = held as u64;
+        return true;
+    }
+    let mut list = copied(block);
+    let held = pgn_list::extend(&mut list, n, bytes);
+    if LIST_SIZE < held {
+        return false;
+    }
+    put(&mut block[LIST..LIST_END], &list);
+    block[COUNT] = held as u64;
+    true
+}
+
+// Add: the entries join the list's end, a listed one stays where it is. Tells whether it was done.
+pub fn add(block: &mut [u64], bytes: &[u8]) -> bool
+    requires { ⌜ length (now block) ≡ blockSize ⌝ }
+    ensures { λ r. ⌜ Adding (now (block .entry)) (now (block .exit)) (entriesOf (now (bytes .entry))) r ⌝ }
+{
+    if filter::is_cleared(block) {
+        return false;
+    }
+    let n = filter::count(block);
+    grow(block, n, bytes)
+}
+
+// Delete: the entries leave the list, the others keep their order. Tells whether it was done.
+pub fn delete(block: &mut [u64], bytes: &[u8]) -> bool
+    requires { ⌜ length (now block) ≡ blockSize ⌝ }
+    ensures { λ r. ⌜ Deleting (now (block .entry)) (now (block .exit)) (entriesOf (now (bytes .entry))) r ⌝ }
+{
+    if filter::is_cleared(block) {
+        return false;
+    }
+    if lacks(block, bytes) {
+        return false;
+    }
+    let n = filter::count(block);
+    let kept = pgn_list::keep_others(&mut block[LIST..LIST_END], n, bytes);
+    block[COUNT] = kept as u64;
+    true
+}
+
+// Create: a cleared pair gets a mode and a list. Tells whether it was done.
+pub fn create(block: &mut [u64], pass: bool, bytes: &[u8]) -> bool
+    requires { ⌜ length (now block) ≡ blockSize ⌝ }
+    ensures { λ r. ⌜ Creating pass (now (block .entry)) (now (block .exit)) (entriesOf (now (bytes .entry))) r ⌝ }
+{
+    if !filter::is_cleared(block) {
+        return false;
+    }
+    if !grow(block, 0, bytes) {
+        return false;
+    }
+    if pass {
+        block[MODE] = PASS;
+    } else {
+        block[MODE] = BLOCK;
+    }
+    true
+}
+
+// Clear: the pair is cleared.
+pub fn clear(block: &mut [u64])
+    requires { ⌜ length (now block) ≡ blockSize ⌝ }
+    ensures { λ _. ⌜ Clearing (now (block .entry)) (now (block .exit)) ⌝ }
+{
+    block[MODE] = CLEARED;
+}

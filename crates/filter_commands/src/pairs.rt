@@ -1,0 +1,57 @@
+// What is asked of a pair before a command and what a command does to it, on the pair's block.
+ghost use mathlib.Core.Path.{_≡_};
+ghost use lib.ListN.{length};
+ghost use Rattle.filter.specs.Filter.{blockSize, filterOf};
+ghost use Rattle.entries.specs.Entries.{entriesOf};
+ghost use Rattle.filter_commands.specs.Pairs.{holdsOf, changeOf};
+ghost use Rattle.filter_commands.specs.Steps.{BlockChanging};
+
+// What is asked of a pair before a command.
+pub enum Question {
+    IsCleared,
+    IsNotCleared,
+    WouldPass,
+    Lacks,
+}
+
+// What a command does to a pair.
+pub enum Change {
+    Adds,
+    Deletes,
+    Clears,
+    Creates(bool),
+}
+
+// A question to a pair, before a command with these entries.
+pub fn answer(block: &[u64], question: Question, entries: &[u8]) -> bool
+    requires { ⌜ length (now block) ≡ blockSize ⌝ }
+    ensures { λ r. ⌜ r ≡ holdsOf question (entriesOf (now (entries .entry))) (filterOf (now (block .entry))) ⌝ }
+{
+    match question {
+        Question::IsCleared => filter::is_cleared(block),
+        Question::IsNotCleared => !filter::is_cleared(block),
+        Question::WouldPass => crate::would_pass(block, entries),
+        Question::Lacks => crate::lacks(block, entries),
+    }
+}
+
+// A command changes a pair.
+pub fn apply(block: &mut [u64], change: Change, entries: &[u8])
+    requires { ⌜ length (now block) ≡ blockSize ⌝ }
+    ensures { λ _. ⌜ BlockChanging (now (block .entry)) (now (block .exit)) (changeOf change (entriesOf (now (entries .entry)))) ⌝ }
+{
+    match change {
+        Change::Adds => {
+            crate::add(block, entries);
+        }
+        Change::Deletes => {
+            crate::delete(block, entries);
+        }
+        Change::Clears => {
+            crate::clear(block);
+        }
+        Change::Creates(passing) => {
+            crate::create(block, passing, entries);
+        }
+    }
+}

@@ -1,0 +1,501 @@
+// A frame's call put together from its parts, beside the call itself: the same frames go to two units, to one whole and to the other part by part, and after
+// each the answers and every word of the two records are compared.
+use address_claims::Event;
+use bridge::FrameAnswer;
+use bridge::Unit;
+use libc::STDOUT_FILENO;
+use queue::Frame;
+use unit::Sent;
+ghost use Prim.Native.Nat.{_≤_};
+ghost use Rattle.pgn_list.specs.PgnList.{listSize};
+
+const NAME: u64 = 0xA000000000000050;
+
+const ADDRESS: u32 = 0x50;
+
+// How many frames are sent by number.
+const FRAMES: u64 = 3000;
+
+// What came of a frame at one port.
+struct Crossing {
+    accepted: bool,
+    lost: bool,
+    compared: u32,
+}
+
+fn text(word: &[u8]) {
+    io::write_all(STDOUT_FILENO, word);
+}
+
+fn number(word: &[u8], n: u32) {
+    text(word);
+    io::print_decimal(STDOUT_FILENO, n as u64);
+}
+
+fn none() -> Crossing
+    ensures { λ r. ⌜ r .compared ≤ listSize ⌝ }
+{
+    Crossing {
+        accepted: false,
+        lost: false,
+        compared: 0,
+    }
+}
+
+// A frame from one port at another: the pair is asked, and the frame joins where it is permitted.
+fn cross(words: &mut [u64], from: u32, to: u32, f: Frame) -> Crossing
+    ensures { λ r. ⌜ r .compared ≤ listSize ⌝ }
+{
+    let v = frame_parts::ask(words, from, to, f.id);
+    let compared = v.compared;
+    if v.permitted {
+        let j = frame_parts::join(words, from, to, f);
+        return Crossing {
+            accepted: j.accepted,
+            lost: !j.accepted,
+            compared,
+        };
+    }
+    Crossing {
+        accepted: false,
+        lost: false,
+        compared,
+    }
+}
+
+// A consumed frame crosses to no port.
+fn cross_unless(consumed: bool, words: &mut [u64], from: u32, to: u32, f: Frame) -> Crossing
+    ensures { λ r. ⌜ r .compared ≤ listSize ⌝ }
+{
+    if consumed {
+        return none();
+    }
+    cross(words, from, to, f)
+}
+
+// The bit of a port in a set of ports.
+fn bit(on: bool, weight: u32) -> u32
+    ensures { λ r. ⌜ r ≤ weight ⌝ }
+{
+    if on {
+        return weight;
+    }
+    0
+}
+
+// A set of ports.
+fn set_of(port1: bool, port2: bool, port3: bool, port4: bool) -> u32 {
+    bit(port1, 1) + bit(port2, 2) + bit(port3, 4) + bit(port4, 8)
+}
+
+fn refused(refusal: u32) -> FrameAnswer {
+    FrameAnswer {
+        refusal,
+        consumed: false,
+        accepted: 0,
+        lost: 0,
+        event: Event::Nothing,
+        unsent: 0,
+        compared: 0,
+    }
+}
+
+// What came of a frame at all ports.
+struct Crossings {
+    accepted: u32,
+    lost: u32,
+    compared: u32,
+}
+
+// A frame from one port at every port, the sets of ports as bits.
+fn cross_all(consumed: bool, words: &mut [u64], from: u32, f: Frame) -> Crossings {
+    let c1 = cross_unless(consumed, words, from, 1, f);
+    let c2 = cross_unless(consumed, words, from, 2, f);
+    let c3 = cross_unless(consumed, words, from, 3, f);
+    let c4 = cross_unless(consumed, words, from, 4, f);
+    let compared = c1.compared + c2.compared + c3.compared + c4.compared;
+    Crossings {
+        accepted: set_of(c1.accepted, c2.accepted, c3.accepted, c4.accepted),
+        lost: set_of(c1.lost, c2.lost, c3.lost, c4.lost),
+        compared,
+    }
+}
+
+// The call of a frame, from its parts.
+fn frame_by_parts(words: &mut [u64], port: u32, id: u32, bytes: &[u8]) -> FrameAnswer {
+    let a = frame_parts::arrive(words, port, id, bytes);
+    if a.refusal != 0 {
+        return refused(a.refusal);
+    }
+    let f = a.frame;
+    let c = cross_all(a.consumed, words, port, f);
+    let done = frame_parts::act(words, port, a.consumed, f);
+    let event = done.event;
+    let sent = done.sent;
+    let own = frame_parts::announce(words, sent);
+    FrameAnswer {
+        refusal: 0,
+        consumed: a.consumed,
+        accepted: c.accepted,
+        lost: c.lost,
+        event,
+        unsent: own.unsent,
+        compared: c.compared,
+    }
+}
+
+// Whether two answers are the same.
+fn same_answer(a: FrameAnswer, b: FrameAnswer) -> bool {
+    let e = a.event;
+    let g = b.event;
+    if a.refusal != b.refusal || a.consumed != b.consumed {
+        return false;
+    }
+    if a.accepted != b.accepted || a.lost != b.lost || a.unsent != b.unsent {
+        return false;
+    }
+    a.compared == b.compared && e.number() == g.number() && e.old_name() == g.old_name()
+}
+
+// Whether two records are the same, word for word.
+fn same_words(a: &[u64], b: &[u64]) -> bool {
+    if a.len() != b.len() {
+        return false;
+    }
+    let mut i: usize = 0;
+    while i < a.len() {
+        if a[i] != b[i] {
+            return false;
+        }
+        i += 1;
+    }
+    true
+}
+
+fn print_answer(a: FrameAnswer) {
+    number(b" refusal ", a.refusal);
+    if a.consumed {
+        text(b" consumed");
+    }
+    number(b" accepted ", a.accepted);
+    number(b" lost ", a.lost);
+    let e = a.event;
+    number(b" event ", e.number());
+    number(b" own lost ", a.unsent);
+    number(b" compared ", a.compared);
+}
+
+// A frame on both units, and its line.
+fn frame(whole: &mut [u64], parts: &mut [u64], port: u32, id: u32, bytes: &[u8]) {
+    let a = bridge::frame(whole, port, id, bytes);
+    let b = frame_by_parts(parts, port, id, bytes);
+    text(b"frame ");
+    io::print_hex(STDOUT_FILENO, id as u64, 8);
+    number(b" from ", port);
+    text(b":");
+    print_answer(a);
+    if same_answer(a, b) {
+        text(b"; the parts answer the same");
+    } else {
+        text(b"; the parts answer");
+        print_answer(b);
+    }
+    if same_words(whole, parts) {
+        text(b", the records are the same\n");
+    } else {
+        text(b", the records DIFFER\n");
+    }
+}
+
+// ---- frames by number
+// What came of them.
+struct Tally {
+    refused: u64,
+    consumed: u64,
+    accepted: u64,
+    lost: u64,
+    events: u64,
+    own_lost: u64,
+    differ: u64,
+}
+
+// One more where it is so.
+fn counted(n: u64, so: bool) -> u64 {
+    if so {
+        return std::num::wrapping_add_u64(n, 1);
+    }
+    n
+}
+
+fn tallied(t: Tally, a: FrameAnswer, same: bool) -> Tally {
+    let e = a.event;
+    Tally {
+        refused: counted(t.refused, a.refusal != 0),
+        consumed: counted(t.consumed, a.consumed),
+        accepted: counted(t.accepted, a.accepted != 0),
+        lost: counted(t.lost, a.lost != 0),
+        events: counted(t.events, e.number() != 0),
+        own_lost: counted(t.own_lost, a.unsent != 0),
+        differ: counted(t.differ, !same),
+    }
+}
+
+fn print_tally(t: Tally) {
+    text(b"refused ");
+    io::print_decimal(STDOUT_FILENO, t.refused);
+    text(b", consumed ");
+    io::print_decimal(STDOUT_FILENO, t.consumed);
+    text(b", accepted ");
+    io::print_decimal(STDOUT_FILENO, t.accepted);
+    text(b", lost ");
+    io::print_decimal(STDOUT_FILENO, t.lost);
+    text(b", with an event ");
+    io::print_decimal(STDOUT_FILENO, t.events);
+    text(b", own frame lost ");
+    io::print_decimal(STDOUT_FILENO, t.own_lost);
+    text(b"; DIFFERENT BY PARTS: ");
+    io::print_decimal(STDOUT_FILENO, t.differ);
+    text(b"\n");
+}
+
+// A frame on both units, tallied.
+fn play(whole: &mut [u64], parts: &mut [u64], port: u32, id: u32, bytes: &[u8], t: Tally) -> Tally {
+    let a = bridge::frame(whole, port, id, bytes);
+    let b = frame_by_parts(parts, port, id, bytes);
+    let same = same_answer(a, b) && same_words(whole, parts);
+    tallied(t, a, same)
+}
+
+// A port takes on both units.
+fn take(whole: &mut [u64], parts: &mut [u64], port: u32) {
+    bridge::take(whole, port);
+    bridge::take(parts, port);
+}
+
+// The next number: a product modulo 2^31 - 1.
+fn next(seed: u64) -> u64 {
+    seed % 2147483647 * 48271 % 2147483647
+}
+
+// The identifier of a kind of frame: a claim, a request to all or to the unit, a frame to the unit, two that lists name, one too wide, any.
+fn id_of(kind: u64, source: u32) -> u32 {
+    if kind == 0 {
+        return 0x18EEFF00 + source % 256;
+    }
+    if kind == 1 {
+        return 0x18EAFF00 + source % 256;
+    }
+    if kind == 2 {
+        return 0x18EA5000 + source % 256;
+    }
+    if kind == 3 {
+        return 0x18EF5000 + source % 256;
+    }
+    if kind == 4 {
+        return 0x18FEF100 + source % 256;
+    }
+    if kind == 5 {
+        return 0x0CF00400 + source % 256;
+    }
+    if kind == 6 {
+        return 0x20000000 + source % 256;
+    }
+    0x1CFF0000 + source % 65536
+}
+
+// A source address: the unit's, none, the global one, or one of four.
+fn source_of(n: u64) -> u32 {
+    if n % 16 == 0 {
+        return ADDRESS;
+    }
+    if n % 16 == 1 {
+        return 254;
+    }
+    if n % 16 == 2 {
+        return 255;
+    }
+    (0x20 + n % 4) as u32
+}
+
+// A frame's length: that of a claim, of a request, or 0 to 9.
+fn length_of(kind: u64, n: u64) -> usize
+    ensures { λ r. ⌜ r ≤ 9 ⌝ }
+{
+    if kind == 0 {
+        return 8;
+    }
+    if kind == 1 || kind == 2 {
+        return 3;
+    }
+    (n % 10) as usize
+}
+
+// A frame's bytes: those of a request, or a NAME, lower or higher than the unit's.
+fn bytes_of(kind: u64, n: u64) -> [u8; 9] {
+    if kind == 1 || kind == 2 {
+        return [0x00, 0xEE, 0x00, 0, 0, 0, 0, 0, 0];
+    }
+    [(n % 4) as u8, 0, 0, 0, 0, 0, 0, (0x90 + n % 32) as u8, 0]
+}
+
+// The frame of a number, from a port, and a take.
+fn step(whole: &mut [u64], parts: &mut [u64], seed: u64, t: Tally) -> Tally {
+    let kind = seed / 7 % 8;
+    let n = seed / 64;
+    let port = (seed / 1024 % 16) as u32 / 3;
+    let source = source_of(seed / 4096);
+    let len = length_of(kind, n);
+    let bytes = bytes_of(kind, n);
+    let after = play(whole, parts, port, id_of(kind, source), &bytes[0..len], t);
+    take(whole, parts, port);
+    after
+}
+
+fn run(whole: &mut [u64], parts: &mut [u64]) -> Tally {
+    let mut t = Tally {
+        refused: 0,
+        consumed: 0,
+        accepted: 0,
+        lost: 0,
+        events: 0,
+        own_lost: 0,
+        differ: 0,
+    };
+    let mut seed: u64 = 1;
+    let mut left = FRAMES;
+    while 0 < left {
+        seed = next(seed);
+        t = step(whole, parts, seed, t);
+        left -= 1;
+    }
+    t
+}
+
+// ---- what is refused
+// What the parts that read give for these arguments.
+fn read_numbers(words: &[u64], from: u32, to: u32, id: u32, bytes: &[u8]) {
+    let arrived = frame_parts::arrive(words, from, id, bytes);
+    number(b": arrive ", arrived.refusal);
+    let asked = frame_parts::ask(words, from, to, id);
+    number(b", ask ", asked.refusal);
+}
+
+// What those give that change the record.
+fn change_numbers(words: &mut [u64], from: u32, to: u32, f: Frame) {
+    let joined = frame_parts::join(words, from, to, f);
+    let acted = frame_parts::act(words, from, false, f);
+    let own = frame_parts::announce(words, Sent::Nothing);
+    number(b", join ", joined.refusal);
+    number(b", act ", acted.refusal);
+    number(b", announce ", own.refusal);
+}
+
+// And what the whole call gives.
+fn numbers(words: &mut [u64], from: u32, to: u32, id: u32, bytes: &[u8], len: u32) {
+    number(b"from ", from);
+    number(b" to ", to);
+    text(b" id ");
+    io::print_hex(STDOUT_FILENO, id as u64, 8);
+    number(b" length ", len);
+    read_numbers(words, from, to, id, bytes);
+    change_numbers(words, from, to, Frame { id, len, bytes: 0 });
+    let whole = bridge::frame(words, from, id, bytes);
+    number(b"; the whole call ", whole.refusal);
+    text(b"\n");
+}
+
+fn wrong_ports(words: &mut [u64]) {
+    let eight = [0u8; 8];
+    let nine = [0u8; 9];
+    numbers(words, 1, 2, 0x0CF00427, &eight, 8);
+    numbers(words, 2, 2, 0x0CF00427, &eight, 8);
+    numbers(words, 0, 2, 0x20F004FF, &nine, 9);
+    numbers(words, 1, 5, 0x20F004FF, &nine, 9);
+}
+
+fn wrong_frames(words: &mut [u64]) {
+    let eight = [0u8; 8];
+    let nine = [0u8; 9];
+    numbers(words, 1, 2, 0x20F004FF, &nine, 9);
+    numbers(words, 1, 2, 0x0CF004FF, &nine, 9);
+    numbers(words, 1, 2, 0x0CF004FF, &eight, 8);
+    numbers(words, 1, 2, 0x0CF004FE, &eight, 8);
+}
+
+// ---- a unit with lists
+fn command(words: &mut [u64], payload: &[u8]) {
+    let mut reply = [0u8; 1785];
+    let a = bridge::message(words, 1, 0x21, payload, &mut reply);
+    number(b" ", a.refusal);
+}
+
+// Power-on, Start, Quiet; pair 1 to 2 passes 65265 alone, 1 to 3 blocks 61444, 2 to 1 blocks 65265.
+fn key_on(words: &mut [u64]) {
+    number(b"key on: ", Unit::power_on(words, NAME, ADDRESS));
+    let a = bridge::start(words);
+    number(b" ", a.refusal);
+    number(b" ", bridge::quiet(words));
+    command(words, b"\x06\x12\x01\xF1\xFE\x00\xFF\xFF");
+    command(words, b"\x06\x13\x00\x04\xF0\x00\xFF\xFF");
+    command(words, b"\x06\x21\x00\xF1\xFE\x00\xFF\xFF");
+    text(b"\n");
+}
+
+// Frames that lists stop or pass.
+fn listed(whole: &mut [u64], parts: &mut [u64]) {
+    frame(whole, parts, 1, 0x18FEF126, b"\x01");
+    frame(whole, parts, 1, 0x0CF00426, b"\x01\x02");
+    frame(whole, parts, 2, 0x18FEF126, b"\x01");
+}
+
+// A frame for the unit, a claim of another's address and one of the unit's.
+fn acted_on(whole: &mut [u64], parts: &mut [u64]) {
+    frame(whole, parts, 2, 0x18EF5026, b"\x01\x02");
+    frame(
+        whole,
+        parts,
+        3,
+        0x18EEFF26,
+        b"\x21\x00\x00\x00\x00\x00\x00\x80",
+    );
+    frame(
+        whole,
+        parts,
+        4,
+        0x18EEFF50,
+        b"\x00\x00\x00\x00\x00\x00\x00\xB0",
+    );
+}
+
+// A request to all, and two frames that are refused.
+fn others(whole: &mut [u64], parts: &mut [u64]) {
+    frame(whole, parts, 3, 0x18EAFFFE, b"\x00\xEE\x00");
+    frame(whole, parts, 5, 0x18FEF126, b"\x01");
+    frame(
+        whole,
+        parts,
+        1,
+        0x18FEF1FF,
+        b"\x01\x02\x03\x04\x05\x06\x07\x08\x09",
+    );
+}
+
+fn main() {
+    let mut record = [0u64; Unit::RECORD_LENGTH];
+    let mut other = [0u64; Unit::RECORD_LENGTH];
+    let mut short = [0u64; Unit::RECORD_LENGTH - 1];
+    let whole: &mut [u64] = &mut record;
+    let parts: &mut [u64] = &mut other;
+    key_on(whole);
+    key_on(parts);
+    listed(whole, parts);
+    acted_on(whole, parts);
+    others(whole, parts);
+    text(b"frames by number: ");
+    print_tally(run(whole, parts));
+    text(b"refused with, on the record:\n");
+    wrong_ports(parts);
+    wrong_frames(parts);
+    text(b"on a record that is a word short:\n");
+    wrong_ports(&mut short);
+}

@@ -1,0 +1,110 @@
+/* The C interface of the bridge: one unit of four ports, on a record of words that the caller lends.
+
+   Link libdeorasaeng.a. Each function gives back 0 for done, or the number that refuses the call; a refusal changes no word of the record.
+   Nothing is required of arguments and lengths: what is wrong is refused by its number. Of pointers, what C itself asks: each is not null, aligned, and good for
+   as many elements as the length behind it says; no two overlap; and nobody else uses them during the call.
+
+   An answer is lent storage of the length given below, in words; another length is number 2. On a refusal it is left as it was (deorasaeng_message says
+   where not). Where several numbers apply the lowest is given, so 1 stands before 2 and 2 before every other; at deorasaeng_start 18 stands before 8.
+   Ports are 1 to 4. Ports in an answer are a mask: bit p - 1 for port p. Later versions add functions, and words at the end of an answer, and change none.
+
+   Numbers: 1 port not 1 to 4; 2 lent storage not of its published length, or a reply buffer under 1,785 bytes; 3 identifier 2^29 or more; 4 frame length over 8;
+   5 source address 255, or 254 in a frame that may not have it; 6 unit not Claimed; 7 payload not 8 to 1,785 bytes; 8 requester, or at Start the preferred
+   address, not 0 to 253; 9 function not listed; 10 port outside 1 to 4, or From equals To; 11 pair or port not this tool's; 12 body wrong; 13 Create mode not
+   0 or 1; 14 Create: a named pair not cleared; 15 Add, Delete: a named pair cleared; 16 a named pair would pass 32; 17 Delete: a PGN absent from a named pair;
+   18 Start not in Unstarted, Quiet not in Claiming. */
+#ifndef DEORASAENG_H
+#define DEORASAENG_H
+
+#include <stddef.h>
+#include <stdint.h>
+
+#ifdef __cplusplus
+extern "C" {
+#endif
+
+/* Published lengths: of the record and of one port's queue in it, in words; of a reply buffer at least, and of a frame's bytes, in bytes. */
+#define DEORASAENG_RECORD_WORDS 1180
+#define DEORASAENG_QUEUE_WORDS 65
+#define DEORASAENG_REPLY_BYTES 1785
+#define DEORASAENG_FRAME_BYTES 8
+
+/* The word of the record where the queues begin, and where that of port 1 to 4 does. */
+#define DEORASAENG_QUEUES_AT 412
+#define DEORASAENG_QUEUE_AT(port) (DEORASAENG_QUEUES_AT + DEORASAENG_QUEUE_WORDS * ((port) - 1))
+
+/* Lengths of the answers, in words. */
+#define DEORASAENG_FRAME_ANSWER 7
+#define DEORASAENG_TAKE_ANSWER 3
+#define DEORASAENG_MESSAGE_ANSWER 2
+#define DEORASAENG_START_ANSWER 1
+
+/* The words of a frame's answer. */
+enum deorasaeng_frame_word {
+    DEORASAENG_CONSUMED = 0,  /* 1 for a frame to the unit, which is not forwarded, else 0 */
+    DEORASAENG_ACCEPTED = 1,  /* ports whose queue the frame joined */
+    DEORASAENG_LOST = 2,      /* ports where it was permitted and 32 waited */
+    DEORASAENG_EVENT = 3,     /* the claim event */
+    DEORASAENG_OLD_NAME = 4,  /* the NAME that was taken over from, 0 unless TookOver */
+    DEORASAENG_OWN_LOST = 5,  /* ports where the unit's own frame was lost */
+    DEORASAENG_COMPARED = 6   /* entries compared */
+};
+
+/* The words of a take's answer. */
+enum deorasaeng_take_word {
+    DEORASAENG_GIVEN = 0,     /* 1 for a frame, 0 for nothing waiting */
+    DEORASAENG_ID = 1,        /* its identifier, else 0 */
+    DEORASAENG_LENGTH = 2     /* its length, else 0 */
+};
+
+/* The words of a message's answer. */
+enum deorasaeng_message_word {
+    DEORASAENG_PGN = 0,       /* 60672 for a reply, 59392 for an acknowledgment, 0 for nothing written */
+    DEORASAENG_WRITTEN = 1    /* how many bytes were written */
+};
+
+/* Claim events. */
+enum deorasaeng_event {
+    DEORASAENG_NO_EVENT = 0,
+    DEORASAENG_WITHDREW = 1,
+    DEORASAENG_DEFENDED = 2,
+    DEORASAENG_DISPLACED = 3,
+    DEORASAENG_RECORDED = 4,
+    DEORASAENG_REFRESHED = 5,
+    DEORASAENG_TOOK_OVER = 6,
+    DEORASAENG_BEATEN = 7
+};
+
+/* Power-on: every pair cleared, every queue and the address table empty, the unit Unstarted. Whatever the record held. Number 2. */
+uint32_t deorasaeng_power_on(uint64_t *record, size_t record_len, uint64_t name, uint32_t preferred);
+
+/* A frame arrived at a port. Numbers 1 to 5. */
+uint32_t deorasaeng_frame(uint64_t *record, size_t record_len, uint32_t port, uint32_t id, const uint8_t *bytes, size_t len,
+                          uint64_t *answer, size_t answer_len);
+
+/* A port is ready to send: its frame of highest rank, the earliest of those. `bytes` is 8 long and gets the frame's bytes, 0 past its length; it is untouched
+   where nothing waits. Numbers 1 and 2. */
+uint32_t deorasaeng_take(uint64_t *record, size_t record_len, uint32_t port, uint64_t *answer, size_t answer_len, uint8_t *bytes,
+                         size_t bytes_len);
+
+/* A network message to the unit, handed in whole. What is to be sent back is written to `reply`, and no byte past it is touched. Numbers 1, 2, 6 to 17: 9 to
+   17 write the acknowledgment, and the answer is 59392 and 8; the others write nothing, and the answer is 0 and 0 (untouched if it is not 2 long itself). */
+uint32_t deorasaeng_message(uint64_t *record, size_t record_len, uint32_t port, uint32_t requester, const uint8_t *payload,
+                            size_t payload_len, uint8_t *reply, size_t reply_len, uint64_t *answer, size_t answer_len);
+
+/* The unit claims its preferred address. The answer is the ports where its own frame was lost. Numbers 2, 18, 8. */
+uint32_t deorasaeng_start(uint64_t *record, size_t record_len, uint64_t *answer, size_t answer_len);
+
+/* The 250 ms after the unit's claim are over: Claiming becomes Claimed. Numbers 2, 18. */
+uint32_t deorasaeng_quiet(uint64_t *record, size_t record_len);
+
+/* The take on one port's queue by itself, for a transmit routine that is to touch nothing else: `queue` is record + DEORASAENG_QUEUE_AT(port), or a copy of those
+   words. Answer and bytes as deorasaeng_take's. Number 2. It copies the queue (1.1 KB of stack); deorasaeng_take works in place. */
+uint32_t deorasaeng_take_queue(uint64_t queue[DEORASAENG_QUEUE_WORDS], uint64_t *answer, size_t answer_len, uint8_t *bytes,
+                               size_t bytes_len);
+
+#ifdef __cplusplus
+}
+#endif
+
+#endif

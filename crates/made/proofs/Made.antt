@@ -1,0 +1,28 @@
+-- No function of the unit requires anything, so of a call that was made what the function ensures holds. Assumes nothing.
+use mathlib.Core.List.{List}
+use Prim.Native.Nat.{ℕ}
+use Rattle.bridge.specs.declared.FrameAnswer.{FrameAnswer}
+use Rattle.bridge.specs.declared.TakeAnswer.{TakeAnswer}
+use Rattle.message_answers.specs.declared.MessageAnswer.{MessageAnswer}
+use Rattle.bridge.specs.declared.StartAnswer.{StartAnswer}
+use Rattle.unit.specs.PowerOn.{PoweringOn}
+use Rattle.bridge.specs.Calls.{Framing, TakingOut, Messaging, Starting, Quieting}
+use Rattle.made.specs.Made.{Powered, powered, Arrived, arrived, Took, took, Handed, handed, Started, started, Quieted, quieted}
+
+pub powering : {words after : List ℕ} {name preferred r : ℕ} → Powered words name preferred r after → PoweringOn 4 words after name preferred r
+powering (powered κs w w′ name preferred r c) = c tt
+
+pub framing : {words bytes after : List ℕ} {port id : ℕ} {r : FrameAnswer} → Arrived words port id bytes r after → Framing 4 words after port id bytes r
+framing (arrived κs w w′ b b′ port id r c) = c tt
+
+pub taking : {words after : List ℕ} {port : ℕ} {r : TakeAnswer} → Took words port r after → TakingOut 4 words after port r
+taking (took κs w w′ port r c) = c tt
+
+pub messaging : {words payload lent after back : List ℕ} {port requester : ℕ} {r : MessageAnswer} → Handed words port requester payload lent r after back → Messaging 4 words after port requester payload lent back r
+messaging (handed κs w w′ p p′ b b′ port requester r c) = c tt
+
+pub starting : {words after : List ℕ} {r : StartAnswer} → Started words r after → Starting 4 words after r
+starting (started κs w w′ r c) = c tt
+
+pub quieting : {words after : List ℕ} {r : ℕ} → Quieted words r after → Quieting 4 words after r
+quieting (quieted κs w w′ r c) = c tt

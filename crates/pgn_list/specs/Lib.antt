@@ -1,0 +1,2 @@
+pub mod PgnList
+pub mod Steps

@@ -1,0 +1,102 @@
+// A list of PGNs in lent words, its first n in use: a search in it, and what Add and Delete do to it, in place.
+ghost use mathlib.Core.Path.{_≡_};
+ghost use mathlib.Core.Bool.{true};
+ghost use Prim.Native.Nat.{_≤_};
+ghost use lib.ListN.{length};
+ghost use Rattle.entries.specs.Entries.{entriesOf};
+ghost use Rattle.pgn_list.specs.PgnList.{listSize};
+ghost use Rattle.pgn_list.specs.Steps.{Others, FindingFrom, Finding, Extending, Keeping};
+
+// The most PGNs that a list holds.
+pub const LIST_SIZE: usize = 32;
+
+// Whether four more of the first n stand from i on, none of which is x.
+fn four_others(list: &[u64], i: usize, n: usize, x: u64) -> bool
+    requires { ⌜ (n ≤ length (now list)) × (i ≤ n) ⌝ }
+    ensures { λ r. ⌜ (r ≡ true → Others (now (list .entry)) i n x) ⌝ }
+{
+    if n - i < 4 {
+        return false;
+    }
+    if list[i] == x {
+        return false;
+    }
+    if list[i + 1] == x {
+        return false;
+    }
+    if list[i + 2] == x {
+        return false;
+    }
+    if list[i + 3] == x {
+        return false;
+    }
+    true
+}
+
+// The index at which x first stands from `start` on among the first n of a list, or n.
+fn find_from(list: &[u64], start: usize, n: usize, x: u64) -> usize
+    requires { ⌜ (n ≤ length (now list)) × (start ≤ n) ⌝ }
+    ensures { λ r. ⌜ FindingFrom (now (list .entry)) start n x r ⌝ }
+{
+    let mut i = start;
+    while i < n {
+        if list[i] == x {
+            return i;
+        }
+        i += 1;
+    }
+    n
+}
+
+// The index at which x first stands among the first n of a list, or n. Four at a time are passed over.
+pub fn find(list: &[u64], n: usize, x: u64) -> usize
+    requires { ⌜ n ≤ length (now list) ⌝ }
+    ensures { λ r. ⌜ Finding (now (list .entry)) n x r ⌝ }
+{
+    let mut i = 0;
+    while four_others(list, i, n, x) {
+        i += 4;
+    }
+    find_from(list, i, n, x)
+}
+
+// Adds the entries to the first n of a list: one that is not listed goes to the end. Tells how many they are then; LIST_SIZE + 1 stands for
+// more than the list holds.
+pub fn extend(list: &mut [u64], n: usize, bytes: &[u8]) -> usize
+    requires { ⌜ (length (now list) ≡ listSize) × (n ≤ listSize) ⌝ }
+    ensures { λ r. ⌜ Extending (now (list .entry)) (now (list .exit)) n (entriesOf (now (bytes .entry))) r ⌝ }
+{
+    let mut held = n;
+    let end = entries::count(bytes);
+    let mut i = 0;
+    while i < end {
+        let x = entries::entry_at(bytes, i);
+        if find(list, held, x) == held {
+            if held == LIST_SIZE {
+                return LIST_SIZE + 1;
+            }
+            list[held] = x;
+            held += 1;
+        }
+        i += 1;
+    }
+    held
+}
+
+// Moves the PGNs that no entry names to the front, in their order, and tells how many they are.
+pub fn keep_others(list: &mut [u64], n: usize, bytes: &[u8]) -> usize
+    requires { ⌜ n ≤ length (now list) ⌝ }
+    ensures { λ r. ⌜ Keeping (now (list .entry)) (now (list .exit)) n (entriesOf (now (bytes .entry))) r ⌝ }
+{
+    let mut kept = 0;
+    let mut i = 0;
+    while i < n {
+        let x = list[i];
+        if !entries::names(bytes, x) {
+            list[kept] = x;
+            kept += 1;
+        }
+        i += 1;
+    }
+    kept
+}

@@ -1,0 +1,4 @@
+mod Laying
+mod Writing
+mod Examples
+pub mod RoundTrip
