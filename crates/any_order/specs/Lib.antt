@@ -1,0 +1,4 @@
+pub mod Claimants
+pub mod Mornings
+pub mod AnyOrder
+pub mod Needed
