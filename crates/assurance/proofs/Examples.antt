@@ -14,25 +14,26 @@ use Rattle.forwarding.specs.Forwarding.{verdict}
 use Rattle.bridge.specs.Calls.{offered}
 use Rattle.list_commands.specs.Commands.{names, anyBelow, anyNamed, changeNamed, listRefusal, listChecks, commanded}
 use Rattle.filter_commands.specs.Pairs.{holdsOf, changeOf}
-use Rattle.refusals.specs.Refusals.{messageRefusal}
+use Rattle.refusals.specs.Refusals.{frameRefusal, takeRefusal, messageRefusal}
 use Rattle.message_answers.specs.Messages.{performedBy}
-use Rattle.bridge.specs.Calls.{messaged}
-use Rattle.bridge.specs.Calls.{framePassed}
-use Rattle.identifier.specs.Identifier.{pgnOf, destinationOf, isPgn, wrongSource}
+use Rattle.bridge.specs.Calls.{messaged, refusal, restAfter, asks, sends, performed, next, framePassed, frameAnswer, takeAnswer}
+use Rattle.claims.specs.Claims.{isClaim, isRequest, isRequestToUnit, frameActed}
+use Rattle.identifier.specs.Identifier.{pgnOf, destinationOf, isPgn, sentWithoutAddress, wrongSource}
+use Rattle.demand_3.specs.Demand3.{answer}
 use Rattle.assurance.specs.Examples.{Examples}
 
 pub examples : Examples
-unfolding pgnOf destinationOf wrongSource framePassed mask total offered consumes isOwn verdict asked permits listed place messaged messageRefusal decoded refusalOf isKnown namesPorts isPair isPort mayBeAll mayName hasGoodBody holdsEntries entriesEnd isFilling wellFormed entriesOf every packed isPgn hasWrongMode commandOf performedBy listRefusal listChecks anyNamed anyBelow names holdsOf isCleared wouldPass addAll addOne commanded changeNamed each changeOf created mayCreate modeFor acknowledgment controlOf listReply filled listBody reportedMode reported bytesOf
+unfolding frameAnswer frameRefusal takeAnswer takeRefusal isPort answer next refusal performed restAfter asks sends frameActed isClaim isRequest isRequestToUnit sentWithoutAddress pgnOf destinationOf wrongSource framePassed mask total offered consumes isOwn verdict asked permits listed place messaged messageRefusal decoded refusalOf isKnown namesPorts isPair mayBeAll mayName hasGoodBody holdsEntries entriesEnd isFilling wellFormed entriesOf every packed isPgn hasWrongMode commandOf performedBy listRefusal listChecks anyNamed anyBelow names holdsOf isCleared wouldPass addAll addOne commanded changeNamed each changeOf created mayCreate modeFor acknowledgment controlOf listReply filled listBody reportedMode reported bytesOf
 examples = record {
   p1 = (refl, refl);
   p2 = (refl, refl);
   p3 = refl;
-  p4 = (refl, refl);
+  p4 = refl;
   p5 = (refl, refl, refl);
   p6 = (refl, refl);
   p7 = (refl, refl);
   p8 = refl;
   p9 = refl;
-  p10 = (refl, refl, refl);
-  p11 = (refl, refl, refl);
+  p10 = (refl, refl, refl, refl);
+  p11 = refl;
 }

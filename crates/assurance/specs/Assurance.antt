@@ -1,8 +1,9 @@
--- What is promised, whole: the customer's three demands and document 01's examples. `assurance` of proofs/Assurance.antt proves it.
+-- What is promised, whole: the customer's three demands, document 01's numbers in its literals, and its examples. `assurance` of proofs/Assurance.antt proves it.
 use mathlib.Core.List.{List}
 use Prim.Native.Nat.{ℕ}
 use Rattle.made.specs.Made.{Powered}
 use Rattle.demand_1.specs.Demand1.{Demand1}
+use Rattle.demand_1.specs.Literals.{Literals}
 use Rattle.demand_2.specs.Demand2.{Demand2}
 use Rattle.demand_3.specs.Demand3.{EveryList}
 use Rattle.assurance.specs.Examples.{Examples}
@@ -12,4 +13,5 @@ pub record Assurance : Type 0 where
   pub demand-2 : Demand2
   -- power-on was called on the words w, whatever they held, with any NAME and any preferred address, was answered r and left u
   pub demand-3 : {w u : List ℕ} {name preferred r : ℕ} → Powered w name preferred r u → EveryList w u name preferred r
+  pub literals : Literals
   pub examples : Examples

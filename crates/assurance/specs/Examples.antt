@@ -1,31 +1,25 @@
 -- Document 01, "Examples, hex": those marked (P), as one table, proved in proofs/Examples.antt.
 use mathlib.Core.Path.{_≡_}
-use mathlib.Core.Bool.{true, false}
 use mathlib.Core.List.{List, [], _∷_}
-use mathlib.Core.Option.{Option, some}
 use Prim.Native.Nat.{ℕ}
-use lib.ListN.{replicate}
-use Rattle.delivery.specs.Row.{pull, given}
-use Rattle.delivery.specs.Port.{Event, Join, Take, rowAfter}
+use lib.ListN.{drop, replicate}
+use Rattle.delivery.specs.Calls.{answersOf}
 use Rattle.queue.specs.declared.Frame.{Frame}
-use Rattle.queue.specs.Queue.{priority}
+use Rattle.queue.specs.declared.Taken.the-variants.{Given}
 use Rattle.filter.specs.Filter.{Filter, pass, clear}
 use Rattle.addresses.specs.declared.Place.the-variants.{Free}
 use Rattle.unit.specs.declared.Claim.the-variants.{Claimed}
-use Rattle.unit.specs.Model.{Model, recordLength}
-use Rattle.bridge.specs.Calls.{frameOf}
+use Rattle.unit.specs.Model.{Model}
+use Rattle.bridge.specs.declared.FrameAnswer.{FrameAnswer}
+use Rattle.bridge.specs.declared.TakeAnswer.the-variants.{Took}
 use Rattle.message_answers.specs.Messages.{Replied}
-use Rattle.bridge.specs.Calls.{messaged}
-use Rattle.bridge.specs.Calls.{framePassed}
-use Rattle.identifier.specs.Identifier.{priorityOf, pgnOf, destinationOf, tooWide, wrongSource}
+use Rattle.bridge.specs.Calls.{Call, FrameIn, TakeOut, frameAnswer, messaged}
+use Rattle.identifier.specs.Identifier.{priorityOf, pgnOf, destinationOf}
+use Rattle.demand_3.specs.Demand3.{ToTake, next, answer}
 
 -- an empty frame
 abbrev pub frame : ℕ → Frame
 frame id = record { id = id; len = 0; bytes = 0 }
-
--- what a take gives after what happened at a port
-abbrev pub taken : List (Event Frame) → Option Frame
-taken h = given (pull priority (rowAfter priority [] h))
 
 -- P11's frames, by priority
 abbrev pub six₁ : Frame
@@ -37,13 +31,14 @@ six₂ = frame 0x18FEF122
 abbrev pub three : Frame
 three = frame 0x0CF00400
 
-abbrev pub accepted : List (Event Frame) → List (Event Frame)
-accepted h = Join six₁ ∷ Join six₂ ∷ Join three ∷ h
+-- and its calls: they come in at port 1, and three takes are made on port 2
+abbrev pub calls : List Call
+calls = FrameIn 1 0x18FEF121 [] ∷ FrameIn 1 0x18FEF122 [] ∷ FrameIn 1 0x0CF00400 [] ∷ TakeOut 2 ∷ TakeOut 2 ∷ TakeOut 2 ∷ []
 
 -- "Before P5 the unit is Claimed at an address no example uses, all pairs are cleared and all queues empty"
 abbrev pub with : List Filter → Model
 with pairs = record {
-  rest = record { own = record { claim = Claimed; address = 0x80; preferred = 0x80; name = 1 }; pairs = pairs; table = replicate 254 Free };
+  rest = record { own = record { claim = Claimed; address = 0x90; preferred = 0x90; name = 1 }; pairs = pairs; table = replicate 254 Free };
   rows = replicate 4 [];
   seen = record {};
 }
@@ -55,9 +50,13 @@ beforeP5 = with (replicate 12 clear)
 abbrev pub afterP5 : Model
 afterP5 = with (record { mode = pass; entries = 65265 ∷ [] } ∷ replicate 11 clear)
 
+-- what a frame from port 1 with no bytes is answered
+abbrev pub frameIn : Model → ℕ → FrameAnswer
+frameIn m id = frameAnswer 4 1180 m 1 id []
+
 -- "Unless said, the tool is on port 1 with requester 21 and the buffer is long enough"
 abbrev pub message : Model → ℕ → List ℕ → Replied
-message m port payload = messaged 4 (recordLength 4) 1785 (m .rest) port 0x21 payload
+message m port payload = messaged 4 1180 1785 (m .rest) port 0x21 payload
 
 abbrev pub create : List ℕ
 create = 0x06 ∷ 0x12 ∷ 0x01 ∷ 0xF1 ∷ 0xFE ∷ 0x00 ∷ 0xFF ∷ 0xFF ∷ []
@@ -74,9 +73,9 @@ pub record Examples : Type 0 where
   -- id 0CEF2A80: PGN 61184, destination 2A
   pub p2 : (pgnOf 0x0CEF2A80 ≡ 61184) × (destinationOf 0x0CEF2A80 ≡ 0x2A)
   -- id 20000000: refused with 3
-  pub p3 : tooWide 0x20000000 ≡ true
-  -- id 1FFFFFFF: refused with 5, and not with 3
-  pub p4 : (tooWide 0x1FFFFFFF ≡ false) × (wrongSource 0x1FFFFFFF ≡ true)
+  pub p3 : frameIn beforeP5 0x20000000 .refusal ≡ 3
+  -- id 1FFFFFFF: refused with 5
+  pub p4 : frameIn beforeP5 0x1FFFFFFF .refusal ≡ 5
   -- 06 12 01 F1 FE 00 FF FF, port 1, requester 21: 00 06 FF FF 21 00 ED 00, and it is done
   pub p5 : (message beforeP5 1 create .number ≡ 0)
       × (message beforeP5 1 create .written (beforeP5 .seen) ≡ 0x00 ∷ 0x06 ∷ 0xFF ∷ 0xFF ∷ 0x21 ∷ 0x00 ∷ 0xED ∷ 0x00 ∷ [])
@@ -90,8 +89,9 @@ pub record Examples : Type 0 where
   -- 02 12 FF FF FF FF FF FF, after P5: 12
   pub p9 : message afterP5 1 (add 0x12 0xFF 0xFF 0xFF) .number ≡ 12
   -- after P5, PGN 61444 from port 1: out of 3 and 4 (bits 2 and 3), compared 1
-  pub p10 : (framePassed 4 afterP5 1 (frameOf 0x0CF00400 []) .accepted ≡ 0b1100)
-      × (framePassed 4 afterP5 1 (frameOf 0x0CF00400 []) .lost ≡ 0)
-      × (framePassed 4 afterP5 1 (frameOf 0x0CF00400 []) .compared ≡ 1)
+  pub p10 : (frameIn afterP5 0x0CF00400 .refusal ≡ 0)
+      × (frameIn afterP5 0x0CF00400 .accepted ≡ 0b1100)
+      × (frameIn afterP5 0x0CF00400 .lost ≡ 0)
+      × (frameIn afterP5 0x0CF00400 .compared ≡ 1)
   -- priorities 6, 6, 3 accepted; three takes: 3, first 6, second 6
-  pub p11 : (taken (accepted []) ≡ some three) × (taken (accepted (Take ∷ [])) ≡ some six₁) × (taken (accepted (Take ∷ Take ∷ [])) ≡ some six₂)
+  pub p11 : drop 3 (answersOf next answer beforeP5 calls) ≡ ToTake (Took (Given three)) ∷ ToTake (Took (Given six₁)) ∷ ToTake (Took (Given six₂)) ∷ []

@@ -1,2 +1,3 @@
 pub mod Numbers
 pub mod Demand1
+pub mod Literals

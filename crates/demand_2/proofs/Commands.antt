@@ -1,7 +1,7 @@
 -- What a message does to a pair: as it was, where the payload does not name it; changed, where it does and the command may be done. By the kind of the
 -- command. Assumes nothing.
 use mathlib.Core.Path.{_≡_, refl, sym, ap, _∙_}
-use mathlib.Core.Bool.{Bool, true, false, cond, _&&_}
+use mathlib.Core.Bool.{Bool, true, false, cond, not, _&&_, _||_, true≢false}
 use mathlib.Core.List.{List, [], _∷_}
 use Prim.Native.Nat.{ℕ, _-_, _≤_}
 use native.Mathlib.Omega.{arith}
@@ -9,11 +9,13 @@ use borrow.Author.Tests.{eqb-true}
 use lib.ListN.{length, getD}
 use lib.Dec.{eqb}
 use Rattle.filter.specs.Filter.{Filter, clear}
-use Rattle.entries.specs.Entries.{entriesOf}
+use Rattle.entries.specs.Entries.{listed, entriesOf}
 use Rattle.network_message.specs.declared.Command.{Command}
 use Rattle.network_message.specs.declared.Command.the-variants.{Refused, Request, Add, Delete, Clear, Create, AddressList}
-use Rattle.network_message.specs.Decoding.{between, decoded}
-use Rattle.network_message.specs.Commands.{Named, named, reaches, Ports, Good}
+use Rattle.network_message.specs.Decoding.{functionOf, pairOf, fromOf, toOf, between, decoded}
+use Rattle.network_message.specs.Commands.{reaches, Ports, Good}
+use Rattle.network_message.proofs.Passing.{answered-by, by-function}
+use Rattle.checks.specs.Ports.{isPort}
 use Rattle.network_message.proofs.Decoding.{decoded-good}
 use Rattle.filter_commands.specs.declared.pairs.Change.{Change}
 use Rattle.filter_commands.specs.declared.pairs.Change.the-variants.{Adds, Deletes, Clears, Creates}
@@ -26,6 +28,38 @@ use Rattle.bridge.specs.Calls.{messaged}
 use Rattle.refusals.proofs.Checks.{message-goes}
 use Rattle.demand_2.specs.Demand2.{IsPair, namesPair}
 use Rattle.demand_2.proofs.Pairs.{changed-pair}
+
+-- ---- what a decoded command changes is what the payload's bytes name
+-- whether a command may change the pair from a to b
+abbrev changes : Command → ℕ → ℕ → Bool
+changes (Refused number) a b = false
+changes (Request from to) a b = false
+changes (Add from to start end) a b = eqb a from && reaches 4 from to b
+changes (Delete from to start end) a b = eqb a from && reaches 4 from to b
+changes (Clear from to) a b = eqb a from && reaches 4 from to b
+changes (Create from to passing start end) a b = eqb a from && reaches 4 from to b
+changes (AddressList port) a b = false
+
+not-reached : (a b from to : ℕ) → (eqb a from && (eqb to 15 || eqb b to)) ≡ false → (eqb a from && reaches 4 from to b) ≡ false
+unfolding reaches
+not-reached a b from to = go (eqb a from) (eqb to 15)
+  where
+    go : (x y : Bool) → (x && (y || eqb b to)) ≡ false → (x && cond y (isPort 4 b && not (eqb b from)) (eqb b to)) ≡ false
+    go false y h = refl
+    go true true h = absurd (true≢false h)
+    go true false h = h
+
+unnamed : (a b port : ℕ) (payload : List ℕ) → namesPair payload a b ≡ false → changes (decoded 4 port payload) a b ≡ false
+unfolding decoded listed
+unnamed a b port payload h =
+    answered-by 4 port (functionOf payload) (fromOf (pairOf payload)) (toOf (pairOf payload)) payload (λ c. changes c a b ≡ false) (λ n _. refl)
+    (λ P. by-function (λ c. changes c a b ≡ false) (functionOf payload) (fromOf (pairOf payload)) (toOf (pairOf payload)) payload (P .known)
+    (λ e. refl)
+    (λ e. not-reached a b (fromOf (pairOf payload)) (toOf (pairOf payload)) (rw e at h))
+    (λ e. not-reached a b (fromOf (pairOf payload)) (toOf (pairOf payload)) (rw e at h))
+    (λ e. not-reached a b (fromOf (pairOf payload)) (toOf (pairOf payload)) (rw e at h))
+    (λ _ e. not-reached a b (fromOf (pairOf payload)) (toOf (pairOf payload)) (rw e at h))
+    (λ e. refl))
 
 -- a command on the pairs
 module _ (change : Change) (xs : List ℕ) (from to : ℕ) (pairs : List Filter) (long : length pairs ≡ 12) (low : 1 ≤ from) (high : from ≤ 4) (a b : ℕ) (P : IsPair a b) where
@@ -52,8 +86,8 @@ module _ (rest : Rest) (long : length (rest .pairs) ≡ 12) (a b : ℕ) (P : IsP
   changed-other : (change : Change) (xs : List ℕ) (from to : ℕ) → Ports 4 from to → (eqb a from && reaches 4 from to b) ≡ false → here (commanded 4 change xs from to (rest .pairs)) ≡ here (rest .pairs)
   changed-other change xs from to ps e = commanded-other change xs from to (rest .pairs) long (ps .least) (ps .most) a b P e
 
-  performed-other : (requester : ℕ) (payload : List ℕ) (c : Command) → Good 4 payload c → namesPair (named c) a b ≡ false → here (performedBy 4 rest requester payload c .pairs) ≡ here (rest .pairs)
-  unfolding performedBy named
+  performed-other : (requester : ℕ) (payload : List ℕ) (c : Command) → Good 4 payload c → changes c a b ≡ false → here (performedBy 4 rest requester payload c .pairs) ≡ here (rest .pairs)
+  unfolding performedBy
   performed-other requester payload (Refused number) g e = refl
   performed-other requester payload (Request from to) g e = refl
   performed-other requester payload (Add from to start end) g e = changed-other Adds (entriesOf (between start end payload)) from to (g .0) e
@@ -62,7 +96,7 @@ module _ (rest : Rest) (long : length (rest .pairs) ≡ 12) (a b : ℕ) (P : IsP
   performed-other requester payload (Create from to passing start end) g e = changed-other (Creates passing) (entriesOf (between start end payload)) from to (g .0) e
   performed-other requester payload (AddressList port) g e = refl
 
-  pub messaged-other : (lent lentReply port requester : ℕ) (payload : List ℕ) → namesPair (named (decoded 4 port payload)) a b ≡ false → here (messaged 4 lent lentReply rest port requester payload .pairs) ≡ here (rest .pairs)
+  pub messaged-other : (lent lentReply port requester : ℕ) (payload : List ℕ) → namesPair payload a b ≡ false → here (messaged 4 lent lentReply rest port requester payload .pairs) ≡ here (rest .pairs)
   unfolding messaged
   messaged-other lent lentReply port requester payload e = go (eqb n 0) refl
     where
@@ -74,5 +108,5 @@ module _ (rest : Rest) (long : length (rest .pairs) ≡ 12) (a b : ℕ) (P : IsP
           rw z
           (performed-other requester payload (decoded 4 port payload)
           (decoded-good 4 port payload (message-goes lent lentReply rest port requester (length payload) (eqb-true n 0 z) .2))
-          e)
+          (unnamed a b port payload e))
       go false z = rw z

@@ -1,8 +1,8 @@
 -- What a tool is told depends on what is its own alone: the pairs that a payload names are its own (`decoded-own`), so is the port of an address list, and
 -- nothing else is read. By the kind of the command. Assumes nothing.
 use mathlib.Core.Path.{_≡_, refl, sym, ap, _∙_}
-use mathlib.Core.Logic.{_⊎_}
-use mathlib.Core.Bool.{Bool, true, false, cond, not, _&&_, _||_}
+use mathlib.Core.Logic.{_⊎_, _↔_}
+use mathlib.Core.Bool.{Bool, true, false, cond, not, _&&_, _||_, true≢false}
 use mathlib.Core.List.{List, [], _∷_}
 use Prim.Native.Nat.{ℕ, zero, suc, _+_, _-_, _≤_, _<_}
 use native.Mathlib.Omega.{arith}
@@ -11,6 +11,9 @@ use lib.ListN.{length, getD}
 use lib.Dec.{eqb}
 use Rattle.filter.specs.Filter.{Filter, clear}
 use Rattle.entries.specs.Entries.{entriesOf}
+use Rattle.addresses.specs.declared.Place.{Place}
+use Rattle.addresses.specs.declared.Place.the-variants.{Free, Held}
+use Rattle.addresses.specs.Table.{heldOn}
 use Rattle.addresses.proofs.Listed.{list-same}
 use Rattle.network_message.specs.declared.Command.{Command}
 use Rattle.network_message.specs.declared.Command.the-variants.{Refused, Request, Add, Delete, Clear, Create, AddressList}
@@ -31,6 +34,25 @@ use Rattle.refusals.proofs.Checks.{message-goes}
 use Rattle.message_answers.proofs.Replies.{one-port}
 use Rattle.demand_2.specs.Demand2.{IsPair, SameTo}
 use Rattle.demand_2.proofs.Pairs.{names-is, target, target-pair, target-rank, target-at}
+
+-- ---- an address that is held on p in the one is held on p in the other
+held-is : (p : ℕ) (u : Place) → heldOn p u ≡ true → (name : ℕ) × (u ≡ Held p name)
+unfolding heldOn
+held-is p Free e = absurd (true≢false (sym e))
+held-is p (Held q name) e = (name, ap (λ x. Held x name) (eqb-true q p e))
+
+is-held : (p name : ℕ) (u : Place) → u ≡ Held p name → heldOn p u ≡ true
+unfolding heldOn
+is-held p name u e = rw e (eq-eqb p p refl)
+
+held-same : (p : ℕ) (u v : Place) → ((name : ℕ) → (u ≡ Held p name) ↔ (v ≡ Held p name)) → heldOn p u ≡ heldOn p v
+held-same p u v h = go (heldOn p u) (heldOn p v) refl refl
+  where
+    go : (b c : Bool) → heldOn p u ≡ b → heldOn p v ≡ c → b ≡ c
+    go true true e f = refl
+    go false false e f = refl
+    go true false e f = let k = held-is p u e in absurd (true≢false (sym (is-held p (k .0) v (h (k .0) .0 (k .1))) ∙ f))
+    go false true e f = let k = held-is p v f in absurd (true≢false (sym (is-held p (k .0) u (h (k .0) .1 (k .1))) ∙ e))
 
 -- what is told: the number, the PGN and the bytes
 abbrev pub Told : Replied → Replied → Type 0
@@ -98,7 +120,7 @@ module _ (p : ℕ) (x y : Rest) (S : SameTo p x y) where
     performed-told (Delete from to start end) g own = changed-told Deletes from to start end (g .0) own
     performed-told (Clear from to) g own = changed-told Clears from to 2 2 g own
     performed-told (Create from to passing start end) g own = changed-told (Creates passing) from to start end (g .0) own
-    performed-told (AddressList q) g own = (refl, refl, λ seen. rw (own, S .address, list-same p (y .own .address) (x .table) (y .table) (S .table)))
+    performed-told (AddressList q) g own = (refl, refl, λ seen. rw (own, S .address, list-same p (y .own .address) (x .table) (y .table) (λ a l. held-same p (getD (x .table) a Free) (getD (y .table) a Free) (λ name. S .table a name l))))
 
     refusal-same : (lent lentReply : ℕ) → messageRefusal 4 lent lentReply x p requester (length payload) ≡ messageRefusal 4 lent lentReply y p requester (length payload)
     unfolding messageRefusal

@@ -1,26 +1,23 @@
 -- Demand 2 about any records, by the contracts of the functions `frame` and `message` alone: no frame goes back, a command changes the pairs that it names,
 -- a tool sees its own, and a list that is reported and sent back is that list. Proved in proofs/Demand2.antt. The quoted words are the customer's.
 use mathlib.Core.Path.{_≡_}
-use mathlib.Core.Logic.{_⊎_}
-use mathlib.Core.Bool.{Bool, true, false, _&&_}
+use mathlib.Core.Logic.{_⊎_, _↔_}
+use mathlib.Core.Bool.{Bool, true, false, _&&_, _||_}
 use mathlib.Core.List.{List, [], _∷_}
-use Prim.Native.Nat.{ℕ, _-_, _≤_, _<_}
+use Prim.Native.Nat.{ℕ, _-_, _/_, _%_, _≤_, _<_}
 use lib.ListN.{length, take, getD}
 use lib.Dec.{eqb}
 use Rattle.identifier.specs.Identifier.{isPgn}
 use Rattle.delivery.specs.Calls.{afterCalls}
 use Rattle.delivery.specs.Unit.{joinAll}
 use Rattle.filter.specs.Filter.{Filter, clear, isCleared}
-use Rattle.entries.specs.Entries.{every}
+use Rattle.entries.specs.Entries.{listed, every}
 use Rattle.filter_commands.specs.Changes.{Sound}
 use Rattle.queue.specs.declared.Frame.{Frame}
 use Rattle.queue.specs.Queue.{size}
-use Rattle.addresses.specs.declared.Place.{Place}
-use Rattle.addresses.specs.declared.Place.the-variants.{Free}
-use Rattle.addresses.specs.Table.{places, heldOn}
-use Rattle.network_message.specs.Decoding.{functionOf, pairOf, fromOf, toOf, mayName, decoded, longest}
+use Rattle.addresses.specs.declared.Place.the-variants.{Free, Held}
+use Rattle.network_message.specs.Decoding.{functionOf, pairOf, fromOf, toOf, mayName, longest}
 use Rattle.checks.specs.Ports.{isPort}
-use Rattle.network_message.specs.Commands.{Named, named, reaches}
 use Rattle.replies.specs.SentBack.{asCreate}
 use Rattle.bridge.specs.declared.FrameAnswer.{FrameAnswer}
 use Rattle.message_answers.specs.declared.MessageAnswer.{MessageAnswer}
@@ -57,14 +54,14 @@ pub record NotBack (words : List ℕ) (port id : ℕ) (bytes : List ℕ) (r : Fr
   pub lost : bitAt (r .lost) (port - 1) ≡ false
 
 -- ---- "A command changes the pairs it names and no other."
--- whether the pair from a to b is named
-abbrev pub namesPair : Named → ℕ → ℕ → Bool
-namesPair Named.none a b = false
-namesPair (Named.pairs from to) a b = eqb a from && reaches 4 from to b
-namesPair (Named.port p) a b = false
+-- The pairs that a payload names, by its own bytes: in functions 2, 3, 4 and 6, "byte 2 holds From in the upper four bits, To in the lower. To may be 15,
+-- all pairs from that port". No other function changes a pair.
+abbrev pub namesPair : List ℕ → ℕ → ℕ → Bool
+namesPair payload a b =
+    listed (getD payload 0 0) (2 ∷ 3 ∷ 4 ∷ 6 ∷ []) && (eqb a (getD payload 1 0 / 16) && (eqb (getD payload 1 0 % 16) 15 || eqb b (getD payload 1 0 % 16)))
 
 pub record OnlyNamed (words : List ℕ) (port : ℕ) (payload after : List ℕ) : Type 0 where
-  pub pairs : (a b : ℕ) → IsPair a b → namesPair (named (decoded 4 port payload)) a b ≡ false → pairOn (restOf after) a b ≡ pairOn (restOf words) a b
+  pub pairs : (a b : ℕ) → IsPair a b → namesPair payload a b ≡ false → pairOn (restOf after) a b ≡ pairOn (restOf words) a b
   -- nor does it change anything else
   pub own : restOf after .own ≡ restOf words .own
   pub table : restOf after .table ≡ restOf words .table
@@ -76,7 +73,8 @@ pub record SameTo (p : ℕ) (x y : Rest) : Type 0 where
   pub claim : x .own .claim ≡ y .own .claim
   pub address : x .own .address ≡ y .own .address
   pub pairs : (a b : ℕ) → IsPair a b → (a ≡ p) ⊎ (b ≡ p) → pairOn x a b ≡ pairOn y a b
-  pub table : (a : ℕ) → a < places → heldOn p (getD (x .table) a Free) ≡ heldOn p (getD (y .table) a Free)
+  -- an address is held on p under a NAME in the one exactly if in the other
+  pub table : (a name : ℕ) → a < 254 → (getD (x .table) a Free ≡ Held p name) ↔ (getD (y .table) a Free ≡ Held p name)
 
 -- ---- "A reported list with entries, sent back as Create to a cleared pair, gives that list again."
 -- what commands keep of every pair, from power-on on: no PGN twice, no more than 32, and nothing but PGNs

@@ -2,4 +2,5 @@ pub mod Moves
 pub mod OneCall
 pub mod Named
 pub mod AtPort
+pub mod Unchanged
 pub mod Demand3

@@ -10,12 +10,13 @@
 -- What demand 3 says of any product is `Obeys` of the crate `delivery` (specs/Product.antt): when a frame leaves, once, unchanged, what a take gives.
 use mathlib.Core.Path.{_≡_}
 use mathlib.Core.Bool.{Bool, true, cond}
-use mathlib.Core.Logic.{_↔_}
-use mathlib.Core.List.{List, [], _∷_, _++_}
+use mathlib.Core.Logic.{_↔_, _⊎_}
+use mathlib.Core.List.{List, [], _∷_, _++_, List·Memᴰ}
 use mathlib.Core.Option.{Option, none}
-use Prim.Native.Nat.{ℕ, suc, _-_, _≤_, _<_}
+use Prim.Native.Nat.{ℕ, suc, _+_, _-_, _%_, _≤_, _<_}
 use lib.Dec.{eqb}
-use lib.ListN.{length, take}
+use lib.ListN.{length, take, getD}
+use Rattle.storage.specs.Bytes.{bytesOf}
 use Rattle.delivery.specs.Calls.{Run, afterCalls, answersOf}
 use Rattle.delivery.specs.Unit.{joinAll}
 use Rattle.delivery.specs.Product.{Product, Answered, Obeys}
@@ -26,6 +27,7 @@ use Rattle.bridge.specs.declared.TakeAnswer.{TakeAnswer}
 use Rattle.bridge.specs.declared.TakeAnswer.the-variants.{Refused, Took}
 use Rattle.message_answers.specs.declared.MessageAnswer.{MessageAnswer}
 use Rattle.bridge.specs.declared.StartAnswer.{StartAnswer}
+use Rattle.unit.specs.declared.Unit.{Unit}
 use Rattle.unit.specs.Ports.{bitAt}
 use Rattle.unit.specs.Model.{Rest, Model, rowAt, recordLength, modelOf}
 use Rattle.refusals.specs.Refusals.{quietRefusal}
@@ -58,6 +60,15 @@ pub data Made : List ℕ → Call → Answer → List ℕ → Type 0 where
       → Made w (Message port requester payload (length lent)) (ToMessage r (take (r .length) back)) w′
   start-made : {w w′ : List ℕ} {r : StartAnswer} → made.Started w r w′ → Made w Start (ToStart r) w′
   quiet-made : {w w′ : List ℕ} {r : ℕ} → made.Quieted w r w′ → Made w Quiet (ToQuiet r) w′
+
+-- No call is missing: whatever the unit's functions were called with is such a call.
+pub record EveryCall : Type 0 where
+  pub frames : {w bytes w′ : List ℕ} {port id : ℕ} {r : FrameAnswer} → made.Arrived w port id bytes r w′ → Made w (FrameIn port id bytes) (ToFrame r) w′
+  pub takes : {w w′ : List ℕ} {port : ℕ} {r : TakeAnswer} → made.Took w port r w′ → Made w (TakeOut port) (ToTake r) w′
+  pub messages : {w payload lent w′ back : List ℕ} {port requester : ℕ} {r : MessageAnswer} → made.Handed w port requester payload lent r w′ back
+      → Made w (Message port requester payload (length lent)) (ToMessage r (take (r .length) back)) w′
+  pub starts : {w w′ : List ℕ} {r : StartAnswer} → made.Started w r w′ → Made w Start (ToStart r) w′
+  pub quiets : {w w′ : List ℕ} {r : ℕ} → made.Quieted w r w′ → Made w Quiet (ToQuiet r) w′
 
 -- ---- 2. the book
 abbrev pub ports : ℕ
@@ -182,6 +193,21 @@ pub record Rule3 (m : Model) (k : Call) (x : Answer) (q : ℕ) : Type 0 where
   pub ownLost : (bitAt (ownLostPorts x) q ≡ true)
       ↔ ((q < ports) × (Sent (announces (m .rest) k) × (size ≤ length (joinAll size (rowAt m q) (forwards (m .rest) k q)))))
 
+-- 01: "Unchanged means identifier, length and bytes as handed in, or for the unit's own frame as the rules give them": 18EEFF00 (hex) plus its address, or
+-- 18EEFFFE, length 8, its NAME. `own` is the unit as the call k leaves it.
+pub data AsHandedIn (own : Unit) (k : Call) (f : Frame) : Type 0 where
+  handed : (port id : ℕ) (bytes : List ℕ) → k ≡ FrameIn port id bytes → f .id ≡ id → f .len ≡ length bytes → bytesOf (length bytes) (f .bytes) ≡ bytes
+      → AsHandedIn own k f
+  ofUnit : (f .id ≡ 0x18EEFF00 + own .address) ⊎ (f .id ≡ 0x18EEFFFE) → f .len ≡ 8 → f .bytes ≡ own .name → AsHandedIn own k f
+
+-- the bytes of a frame that is handed in
+abbrev pub bytesIn : Call → List ℕ
+bytesIn (FrameIn port id bytes) = bytes
+bytesIn (TakeOut port) = []
+bytesIn (Message port requester payload lentReply) = []
+bytesIn Start = []
+bytesIn Quiet = []
+
 module _ (name preferred : ℕ) where
   -- 01: "Power-on, with any NAME and preferred address, makes it fresh." "The book is fed the calls' arguments alone, no answer and nothing of the
   -- unit's record."
@@ -198,12 +224,16 @@ module _ (name preferred : ℕ) where
     pub unmoved : (js : List Call) (k : Call) → (refusal ports words (modelAfter js .rest) k ≡ 0 → ⊥) → modelAfter (js ++ (k ∷ [])) ≡ modelAfter js
     -- "The ports that answers name as accepted or lost are those of document 01's book."
     pub named : (js : List Call) (k : Call) (x : Answer) → Answered ks xs js k x → (q : ℕ) → Rule3 (modelAfter js) k x q
-    -- When and where every accepted frame leaves, and what every take gives. What is accepted is what a call sent, `frameOf` of its arguments or the unit's
-    -- own (`forwarded`, `announced`).
+    -- When and where every accepted frame leaves, and what every take gives. What is accepted is what a call sent.
     pub obeys : Obeys bridge (fresh ports name preferred) ks xs
+    -- And what a call sends is what was handed in to it, or the unit's own frame, with the NAME of power-on.
+    pub unchanged : (js : List Call) (k : Call) (q : ℕ) (f : Frame) → ((i : ℕ) → getD (bytesIn k) i 0 < 256) → List·Memᴰ f (sends (modelAfter js .rest) k q)
+        → AsHandedIn (modelAfter (js ++ (k ∷ [])) .rest .own) k f
+    pub named-so : (js : List Call) → modelAfter js .rest .own .name ≡ name
 
 -- The whole claim: power-on was called on the words w, whatever they held, with any NAME and any preferred address, was answered r and left u.
 pub record EveryList (w u : List ℕ) (name preferred r : ℕ) : Type 0 where
+  pub calls : EveryCall
   -- "For every list of calls on one unit from one power-on to the next (frames, takes, messages, Start and Quiet, refused ones too)", each given the record
   -- as the last call left it (`Run`).
   pub every : r ≡ 0 → (ks : List Call) (xs : List Answer) (v : List ℕ) → Run Made u ks xs v → Demand3 name preferred ks xs v

@@ -1,0 +1,79 @@
+-- The numbers of document 01 in its own literals, for every argument: the boundaries of the refusals, the replies' and the unit's frames' fixed bytes, the
+-- events. Each says that the definition which the contracts cite is that number. `literals` of proofs/Literals.antt proves it.
+-- Assumes nothing.
+use mathlib.Core.Path.{_≡_}
+use mathlib.Core.Bool.{Bool, not, cond, _&&_, _||_}
+use mathlib.Core.List.{List, [], _∷_, _++_}
+use Prim.Native.Nat.{ℕ, _+_, _*_, _/_, _%_, _^_}
+use lib.ListN.{length, getD, take, drop}
+use lib.Dec.{ltb, leb, eqb}
+use Rattle.identifier.specs.Identifier.{priorityOf, extendedDataPageOf, dataPageOf, pfOf, psOf, saOf, hasDestination, pgnOf, isPgn, tooWide, wrongSource}
+use Rattle.storage.specs.Bytes.{packed}
+use Rattle.entries.specs.Entries.{listed}
+use Rattle.filter.specs.Filter.{Filter}
+use Rattle.queue.specs.declared.Frame.{Frame}
+use Rattle.queue.specs.Queue.{size}
+use Rattle.pgn_list.specs.PgnList.{listSize}
+use Rattle.addresses.specs.declared.Place.{Place}
+use Rattle.addresses.specs.Table.{places}
+use Rattle.address_claims.specs.declared.Event.{Event}
+use Rattle.address_claims.specs.Events.{eventNumber}
+use Rattle.checks.specs.Checks.{acknowledges}
+use Rattle.checks.specs.Ports.{isPort}
+use Rattle.network_message.specs.Decoding.{functionOf, pairOf, fromOf, toOf, isKnown, hasWrongMode, longest}
+use Rattle.replies.specs.Replies.{controlOf, acknowledgment, listReply, addressReply}
+use Rattle.unit.specs.declared.Unit.{Unit}
+use Rattle.unit.specs.Model.{recordLength}
+use Rattle.unit.specs.PowerOn.{notLong}
+use Rattle.unit.specs.Own.{claimFrame, cannotClaimFrame}
+use Rattle.claims.specs.Claims.{isClaim, isRequest}
+
+pub record Literals : Type 0 where
+  -- "Ports 1 to 4", "a list of at most 32 PGNs", "one queue of at most 32 frames"; the published length of the record
+  pub port : (p : ℕ) → isPort 4 p ≡ leb 1 p && leb p 4
+  pub list : listSize ≡ 32
+  pub queue : size ≡ 32
+  pub record-words : (lent : ℕ) → notLong 4 lent ≡ not (eqb lent 1180)
+  -- "Bits 28 to 26 are the priority, 25 the extended data page, 24 the data page, 23 to 16 PF, 15 to 8 PS, 7 to 0 the source address"
+  pub priority : (id : ℕ) → priorityOf id ≡ id / 2 ^ 26 % 8
+  pub extended : (id : ℕ) → extendedDataPageOf id ≡ id / 2 ^ 25 % 2
+  pub page : (id : ℕ) → dataPageOf id ≡ id / 2 ^ 24 % 2
+  pub pf : (id : ℕ) → pfOf id ≡ id / 2 ^ 16 % 256
+  pub ps : (id : ℕ) → psOf id ≡ id / 2 ^ 8 % 256
+  pub sa : (id : ℕ) → saOf id ≡ id % 256
+  pub destination : (id : ℕ) → hasDestination id ≡ ltb (id / 2 ^ 16 % 256) 240
+  -- "The PGN is bits 25 to 8, with the PS byte as 0 where PF is below 240"; "a PGN if it is below 2^18 and, where its PF is below 240, its low byte is 0"
+  pub pgn : (id : ℕ)
+      → pgnOf id ≡ id / 2 ^ 25 % 2 * 131072 + id / 2 ^ 24 % 2 * 65536 + id / 2 ^ 16 % 256 * 256 + cond (ltb (id / 2 ^ 16 % 256) 240) 0 (id / 2 ^ 8 % 256)
+  pub is-pgn : (n : ℕ) → isPgn n ≡ ltb n 262144 && (leb 240 (n / 256 % 256) || eqb (n % 256) 0)
+  -- 3: "identifier 2^29 or more"; 5: "SA 255, or SA 254 in neither PGN 59904 nor PGN 60928 with PS 255"
+  pub wide : (id : ℕ) → tooWide id ≡ leb 536870912 id
+  pub source : (id : ℕ)
+      → wrongSource id
+      ≡ eqb (id % 256) 255 || (eqb (id % 256) 254 && not (eqb (pgnOf id) 59904 || (eqb (pgnOf id) 60928 && eqb (id / 2 ^ 8 % 256) 255)))
+  -- "payload not 8 to 1,785 bytes", "function not listed", "Create mode not 0 or 1"
+  pub long : longest ≡ 1785
+  pub known : (function : ℕ) → isKnown function ≡ listed function (0 ∷ 2 ∷ 3 ∷ 4 ∷ 6 ∷ 64 ∷ [])
+  pub mode : (function : ℕ) (payload : List ℕ) → hasWrongMode function payload ≡ eqb function 6 && ltb 1 (getD payload 2 0)
+  pub from : (pair : ℕ) → fromOf pair ≡ pair / 16
+  pub to : (pair : ℕ) → toOf pair ≡ pair % 16
+  -- "9 to 17 write eight bytes, the acknowledgment with first byte 1 (2 for number 11)"; "0, the function, FF, FF, the requester's address, 00, ED, 00"
+  pub told : (n : ℕ) → acknowledges n ≡ leb 9 n && leb n 17
+  pub control : (n : ℕ) → controlOf n ≡ cond (eqb n 0) 0 (cond (eqb n 11) 2 1)
+  pub acknowledged : (control function requester : ℕ)
+      → acknowledgment control function requester ≡ control ∷ function ∷ 0xFF ∷ 0xFF ∷ requester ∷ 0x00 ∷ 0xED ∷ 0x00 ∷ []
+  -- "Reply is 1, the pair byte", "Reply is 65, the port"
+  pub listed-reply : (pair : ℕ) (f : Filter) → take 2 (listReply pair f) ≡ 1 ∷ pair ∷ []
+  pub addressed-reply : (port except : ℕ) (table : List Place) → take 2 (addressReply port except table) ≡ 65 ∷ port ∷ []
+  -- "SA 0 to 253"; "a claim is PGN 60928, PS 255, length 8"; "PGN 59904, length 3, bytes 00 EE 00"
+  pub addresses : places ≡ 254
+  pub claim : (f : Frame) → isClaim f ≡ eqb (pgnOf (f .id)) 60928 && (eqb (psOf (f .id)) 255 && eqb (f .len) 8)
+  pub request : (f : Frame) → isRequest f ≡ eqb (pgnOf (f .id)) 59904 && (eqb (f .len) 3 && eqb (f .bytes) (0x00 + 256 * (0xEE + 256 * 0x00)))
+  -- "18EEFF00 (hex) plus its address, or 18EEFFFE, length 8, its NAME"
+  pub claims : (own : Unit) → claimFrame own ≡ record { id = 0x18EEFF00 + own .address; len = 8; bytes = own .name }
+  pub cannot : (own : Unit) → cannotClaimFrame own ≡ record { id = 0x18EEFFFE; len = 8; bytes = own .name }
+  -- none, Withdrew, Defended, Displaced, Recorded, Refreshed, TookOver, Beaten
+  pub events : (old : ℕ)
+      → eventNumber Event.Nothing ∷ eventNumber Event.Withdrew ∷ eventNumber Event.Defended ∷ eventNumber Event.Displaced ∷ eventNumber Event.Recorded
+      ∷ eventNumber Event.Refreshed ∷ eventNumber (Event.TookOver old) ∷ eventNumber Event.Beaten ∷ []
+      ≡ 0 ∷ 1 ∷ 2 ∷ 3 ∷ 4 ∷ 5 ∷ 6 ∷ 7 ∷ []
