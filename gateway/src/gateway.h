@@ -1,0 +1,35 @@
+/* The gateway: the unit, its ports, and the subjects around them. */
+#ifndef GATEWAY_GATEWAY_H
+#define GATEWAY_GATEWAY_H
+
+#include "options.h"
+#include "port.h"
+#include "saver.h"
+#include "unit.h"
+
+struct gateway {
+    struct options options;
+    struct unit unit;
+    struct port ports[GATEWAY_PORTS];
+    struct lists lists;      /* from the file */
+    struct saver saver;
+    bool reading;            /* the ports are read; not before the lists of a file stand */
+    int64_t began_at;
+    int64_t quiet_at;        /* 250 ms after Start */
+    uint32_t kinds_told[GATEWAY_PORTS]; /* bit k: other_kind k was told */
+};
+
+/* receive.c: reads one frame at a port and acts on it. */
+void gateway_receive(struct gateway *gateway, struct port *port, int64_t now);
+
+/* claim.c: Start once the interfaces are up, Quiet 250 ms later, then the lists of the file. False where the unit refuses Start or the lists. */
+bool gateway_claim(struct gateway *gateway, int64_t now);
+int64_t gateway_claim_deadline(const struct gateway *gateway);
+
+/* receive.c: sends at every port that can. */
+void gateway_transmit(struct gateway *gateway, int64_t now);
+
+/* summary.c: a line for each port, to the log. */
+void gateway_summary(const struct gateway *gateway);
+
+#endif

@@ -1,0 +1,194 @@
+#include "loop.h"
+
+#include "clock.h"
+#include "links.h"
+#include "status.h"
+
+#include <errno.h>
+#include <signal.h>
+#include <string.h>
+#include <sys/epoll.h>
+#include <sys/signalfd.h>
+#include <sys/timerfd.h>
+#include <unistd.h>
+
+/* What an event is about: below GATEWAY_PORTS a port. */
+enum source { SOURCE_LINKS = GATEWAY_PORTS, SOURCE_TIMER, SOURCE_SIGNALS, SOURCE_STATUS, SOURCES };
+
+enum step { STEP_ON, STEP_END, STEP_FAILED };
+
+static bool failed(const char *what)
+{
+    log_line(LOG_ERROR, "%s: %s", what, strerror(errno));
+    return false;
+}
+
+static bool watch(const struct loop *loop, int fd, uint32_t source)
+{
+    struct epoll_event event;
+    memset(&event, 0, sizeof event);
+    event.events = EPOLLIN;
+    event.data.u32 = source;
+    return epoll_ctl(loop->epoll, EPOLL_CTL_ADD, fd, &event) == 0 || failed("epoll_ctl");
+}
+
+/* SIGTERM, SIGINT and SIGCHLD are read from a descriptor; a client of the status socket that goes away is no reason to end. */
+static int open_signals(void)
+{
+    sigset_t set;
+    if (sigemptyset(&set) != 0 || sigaddset(&set, SIGTERM) != 0 || sigaddset(&set, SIGINT) != 0 || sigaddset(&set, SIGCHLD) != 0 ||
+        sigprocmask(SIG_BLOCK, &set, NULL) != 0 || signal(SIGPIPE, SIG_IGN) == SIG_ERR)
+        return -1;
+    return signalfd(-1, &set, SFD_NONBLOCK | SFD_CLOEXEC);
+}
+
+static bool open_status(struct loop *loop, const char *path)
+{
+    if (path == NULL)
+        return true;
+    loop->status = status_listen(path);
+    return loop->status >= 0 ? watch(loop, loop->status, SOURCE_STATUS) : failed(path);
+}
+
+bool loop_open(struct loop *loop, struct gateway *gateway)
+{
+    loop->reading = false;
+    loop->status = -1;
+    loop->armed = CLOCK_NEVER;
+    loop->epoll = epoll_create1(EPOLL_CLOEXEC);
+    if (loop->epoll < 0)
+        return failed("epoll_create1");
+    loop->timer = timerfd_create(CLOCK_MONOTONIC, TFD_NONBLOCK | TFD_CLOEXEC);
+    if (loop->timer < 0)
+        return failed("timerfd_create");
+    loop->signals = open_signals();
+    if (loop->signals < 0)
+        return failed("signalfd");
+    loop->links = links_open();
+    if (loop->links < 0)
+        return failed("rtnetlink");
+    return watch(loop, loop->timer, SOURCE_TIMER) && watch(loop, loop->signals, SOURCE_SIGNALS) && watch(loop, loop->links, SOURCE_LINKS) &&
+           open_status(loop, gateway->options.status);
+}
+
+static int64_t deadline(const struct gateway *gateway)
+{
+    int64_t at = clock_earlier(gateway_claim_deadline(gateway), saver_deadline(&gateway->saver));
+    for (int i = 0; i < GATEWAY_PORTS; i++)
+        at = clock_earlier(at, port_deadline(&gateway->ports[i]));
+    return at;
+}
+
+/* Arms the timer for the next deadline, where that is not the one it is armed for. */
+static bool arm(struct loop *loop, int64_t at)
+{
+    struct itimerspec when;
+    if (at == loop->armed)
+        return true;
+    memset(&when, 0, sizeof when); /* disarmed */
+    if (at != CLOCK_NEVER) {
+        int64_t ns = at > 0 ? at : 1;
+        when.it_value.tv_sec = (time_t)(ns / CLOCK_SECOND);
+        when.it_value.tv_nsec = (long)(ns % CLOCK_SECOND);
+    }
+    loop->armed = at;
+    return timerfd_settime(loop->timer, TFD_TIMER_ABSTIME, &when, NULL) == 0 || failed("timerfd_settime");
+}
+
+static void timer_fired(struct loop *loop)
+{
+    uint64_t times;
+    if (read(loop->timer, &times, sizeof times) == (ssize_t)sizeof times)
+        loop->armed = CLOCK_NEVER;
+}
+
+static enum step signalled(const struct loop *loop, struct gateway *gateway, int64_t now)
+{
+    struct signalfd_siginfo info;
+    if (read(loop->signals, &info, sizeof info) != (ssize_t)sizeof info)
+        return STEP_ON;
+    if (info.ssi_signo != SIGCHLD)
+        return STEP_END;
+    saver_reap(&gateway->saver, now);
+    return STEP_ON;
+}
+
+static void look_at_links(const struct loop *loop, struct gateway *gateway)
+{
+    links_drain(loop->links);
+    for (int i = 0; i < GATEWAY_PORTS; i++)
+        port_look(&gateway->ports[i]);
+}
+
+static enum step dispatch(struct loop *loop, struct gateway *gateway, uint32_t source, int64_t now)
+{
+    switch (source) {
+    case SOURCE_LINKS:
+        look_at_links(loop, gateway);
+        return STEP_ON;
+    case SOURCE_TIMER:
+        timer_fired(loop);
+        return STEP_ON;
+    case SOURCE_SIGNALS:
+        return signalled(loop, gateway, now);
+    case SOURCE_STATUS:
+        status_answer(loop->status, gateway, now);
+        return STEP_ON;
+    default:
+        gateway_receive(gateway, &gateway->ports[source], now);
+        gateway_transmit(gateway, now);
+        return STEP_ON;
+    }
+}
+
+/* The ports join the epoll set once they may be read. */
+static bool read_ports(struct loop *loop, const struct gateway *gateway)
+{
+    if (loop->reading || !gateway->reading)
+        return true;
+    loop->reading = true;
+    for (uint32_t i = 0; i < GATEWAY_PORTS; i++)
+        if (!watch(loop, gateway->ports[i].interface.fd, i))
+            return false;
+    return true;
+}
+
+/* What the clock, not an event, brings about; then what is to be sent. */
+static bool settle(struct loop *loop, struct gateway *gateway)
+{
+    int64_t now = clock_now();
+    if (!gateway_claim(gateway, now) || !read_ports(loop, gateway))
+        return false;
+    saver_step(&gateway->saver, &gateway->unit.lists, now);
+    for (int i = 0; i < GATEWAY_PORTS; i++)
+        port_due(&gateway->ports[i], now);
+    gateway_transmit(gateway, now);
+    return arm(loop, deadline(gateway));
+}
+
+static enum step step(struct loop *loop, struct gateway *gateway)
+{
+    struct epoll_event events[SOURCES];
+    if (!settle(loop, gateway))
+        return STEP_FAILED;
+    int count = epoll_wait(loop->epoll, events, SOURCES, -1);
+    if (count < 0 && errno != EINTR)
+        return failed("epoll_wait") ? STEP_ON : STEP_FAILED;
+    int64_t now = clock_now();
+    for (int i = 0; i < count; i++) {
+        enum step next = dispatch(loop, gateway, events[i].data.u32, now);
+        if (next != STEP_ON)
+            return next;
+    }
+    return STEP_ON;
+}
+
+bool loop_run(struct loop *loop, struct gateway *gateway)
+{
+    enum step next;
+    look_at_links(loop, gateway);
+    do
+        next = step(loop, gateway);
+    while (next == STEP_ON);
+    return next == STEP_END;
+}

@@ -1,0 +1,19 @@
+/* The event loop: ports, interface changes, a timer, signals and the status socket, by epoll in one thread. */
+#ifndef GATEWAY_LOOP_H
+#define GATEWAY_LOOP_H
+
+#include "gateway.h"
+
+struct loop {
+    int epoll, timer, signals, links, status; /* file descriptors; status is -1 without a socket */
+    bool reading;                             /* the ports are in the epoll set */
+    int64_t armed;                            /* when the timer fires */
+};
+
+/* False, after a line in the log, where something cannot be had. */
+bool loop_open(struct loop *loop, struct gateway *gateway);
+
+/* Runs until SIGTERM or SIGINT (true) or until something fails that it cannot do without (false). */
+bool loop_run(struct loop *loop, struct gateway *gateway);
+
+#endif

@@ -1,0 +1,76 @@
+/* deorasaeng-gateway: the proved bridge on four interfaces of SocketCAN. */
+#include "clock.h"
+#include "gateway.h"
+#include "lists_file.h"
+#include "log.h"
+#include "loop.h"
+
+#include <errno.h>
+#include <stdio.h>
+#include <string.h>
+#include <unistd.h>
+
+enum exit_status { EXIT_DONE = 0, EXIT_FAILED = 1, EXIT_WRONG = 2 };
+
+static const char PROGRAM[] = "deorasaeng-gateway";
+
+static bool load_lists(struct gateway *gateway)
+{
+    struct lists_error error;
+    const char *path = gateway->options.lists;
+    if (path == NULL || lists_file_load(path, &gateway->lists, &error))
+        return true;
+    if (error.line == 0)
+        fprintf(stderr, "%s: %s: %s\n", PROGRAM, path, error.text);
+    else
+        fprintf(stderr, "%s: %s:%u: %s\n", PROGRAM, path, error.line, error.text);
+    return false;
+}
+
+static bool open_ports(struct gateway *gateway)
+{
+    for (uint32_t i = 0; i < GATEWAY_PORTS; i++)
+        if (!port_open(&gateway->ports[i], i + 1, gateway->options.interfaces[i])) {
+            fprintf(stderr, "%s: %s: %s\n", PROGRAM, gateway->options.interfaces[i], errno == ENODEV ? "no such CAN interface" : strerror(errno));
+            return false;
+        }
+    return true;
+}
+
+static int run(struct gateway *gateway)
+{
+    struct loop loop;
+    gateway->began_at = clock_now();
+    gateway->saver.path = gateway->options.lists;
+    gateway->reading = gateway->options.lists == NULL;
+    uint32_t number = unit_power_on(&gateway->unit, gateway->options.name, gateway->options.address);
+    if (number != 0) {
+        log_line(LOG_ERROR, "power-on refused with %u", number);
+        return EXIT_FAILED;
+    }
+    bool ended = loop_open(&loop, gateway) && loop_run(&loop, gateway);
+    saver_finish(&gateway->saver, &gateway->unit.lists);
+    if (loop.status >= 0 && unlink(gateway->options.status) != 0)
+        log_line(LOG_WARNING, "%s: %s", gateway->options.status, strerror(errno));
+    gateway_summary(gateway);
+    return ended ? EXIT_DONE : EXIT_FAILED;
+}
+
+int main(int argc, char *argv[])
+{
+    static struct gateway gateway;
+    char error[200];
+    switch (options_read(argc, argv, &gateway.options, error)) {
+    case OPTIONS_HELP:
+        return fputs(OPTIONS_USAGE, stdout) >= 0 && fflush(stdout) == 0 ? EXIT_DONE : EXIT_FAILED;
+    case OPTIONS_WRONG:
+        fprintf(stderr, "%s: %s\n%s", PROGRAM, error, OPTIONS_USAGE);
+        return EXIT_WRONG;
+    case OPTIONS_RUN:
+        break;
+    }
+    log_open(gateway.options.log);
+    if (!load_lists(&gateway) || !open_ports(&gateway))
+        return EXIT_WRONG;
+    return run(&gateway);
+}

@@ -1,0 +1,138 @@
+#include "options.h"
+
+#include <errno.h>
+#include <getopt.h>
+#include <net/if.h>
+#include <stdio.h>
+#include <stdlib.h>
+#include <string.h>
+#include <sys/un.h>
+
+#define ERROR_SIZE 200
+#define ADDRESS_MAX 253
+
+const char OPTIONS_USAGE[] =
+    "usage: deorasaeng-gateway --name NAME --address ADDRESS [options] IF1 IF2 IF3 IF4\n"
+    "A bridge between four CAN interfaces; IF1 is port 1, the service port.\n"
+    "  --name NAME        the unit's NAME, 64 bits in hex (ISO 11783-5), unique on the buses\n"
+    "  --address ADDRESS  the address it claims, 0 to 253 (0x80 is hex)\n"
+    "  --lists FILE       filter lists, set from FILE at start and saved there when a command changed one\n"
+    "  --status PATH      a Unix socket that answers each connection with the state as JSON\n"
+    "  --log LEVEL        error, warning, info (the default) or debug\n"
+    "  --help             this text\n"
+    "It ends on SIGTERM or SIGINT with a summary and status 0; 2 is a wrong command line, lists file or interface.\n";
+
+enum option_code { OPTION_NAME = 256, OPTION_ADDRESS, OPTION_LISTS, OPTION_STATUS, OPTION_LOG, OPTION_HELP };
+
+static const struct option OPTIONS[] = {
+    {"name", required_argument, NULL, OPTION_NAME},     {"address", required_argument, NULL, OPTION_ADDRESS},
+    {"lists", required_argument, NULL, OPTION_LISTS},   {"status", required_argument, NULL, OPTION_STATUS},
+    {"log", required_argument, NULL, OPTION_LOG},       {"help", no_argument, NULL, OPTION_HELP},
+    {NULL, 0, NULL, 0},
+};
+
+/* A whole word as a number; strtoull alone would take "", " 1", "-1" and "1x". */
+static bool number(const char *word, int base, uint64_t max, uint64_t *value)
+{
+    static const char DIGITS[] = "0123456789abcdefABCDEF";
+    char *end;
+    if (word[0] == '\0' || strchr(DIGITS, word[0]) == NULL)
+        return false;
+    errno = 0;
+    unsigned long long read = strtoull(word, &end, base);
+    if (errno != 0 || *end != '\0' || read > max)
+        return false;
+    *value = read;
+    return true;
+}
+
+/* What was given besides the fields of struct options. */
+struct given {
+    bool name, address;
+};
+
+static bool read_value(int option, const char *value, struct options *options, struct given *given, char *error)
+{
+    uint64_t address = 0;
+    switch (option) {
+    case OPTION_NAME:
+        given->name = number(value, 16, UINT64_MAX, &options->name);
+        if (!given->name)
+            snprintf(error, ERROR_SIZE, "--name %.40s: not a NAME of up to 16 hex digits", value);
+        return given->name;
+    case OPTION_ADDRESS:
+        given->address = number(value, 0, ADDRESS_MAX, &address);
+        if (!given->address)
+            snprintf(error, ERROR_SIZE, "--address %.40s: not 0 to %d", value, ADDRESS_MAX);
+        options->address = (uint32_t)address;
+        return given->address;
+    case OPTION_LISTS:
+        options->lists = value;
+        return true;
+    case OPTION_STATUS:
+        options->status = value;
+        if (value[0] != '\0' && strlen(value) < sizeof ((struct sockaddr_un *)NULL)->sun_path)
+            return true;
+        snprintf(error, ERROR_SIZE, "--status: a socket's path has 1 to %zu bytes", sizeof ((struct sockaddr_un *)NULL)->sun_path - 1);
+        return false;
+    default:
+        if (log_level_read(value, &options->log))
+            return true;
+        snprintf(error, ERROR_SIZE, "--log %.40s: not error, warning, info or debug", value);
+        return false;
+    }
+}
+
+static bool read_interfaces(int count, char *words[], struct options *options, char *error)
+{
+    if (count != GATEWAY_PORTS) {
+        snprintf(error, ERROR_SIZE, "%d interfaces given, %d needed", count, GATEWAY_PORTS);
+        return false;
+    }
+    for (int i = 0; i < count; i++) {
+        if (words[i][0] == '\0' || strlen(words[i]) >= IFNAMSIZ) {
+            snprintf(error, ERROR_SIZE, "%.40s: not the name of an interface", words[i]);
+            return false;
+        }
+        for (int j = 0; j < i; j++)
+            if (strcmp(words[i], words[j]) == 0) {
+                snprintf(error, ERROR_SIZE, "%s is named twice", words[i]);
+                return false;
+            }
+        options->interfaces[i] = words[i];
+    }
+    return true;
+}
+
+static bool missing(const struct given *given, char *error)
+{
+    if (given->name && given->address)
+        return false;
+    snprintf(error, ERROR_SIZE, "%s is needed", given->name ? "--address" : "--name");
+    return true;
+}
+
+enum options_read options_read(int argc, char *argv[], struct options *options, char error[ERROR_SIZE])
+{
+    struct given given = {false, false};
+    memset(options, 0, sizeof *options);
+    options->log = LOG_INFO;
+    optind = 0; /* the scan begins anew, for a second call */
+    opterr = 0;
+    for (;;) {
+        int option = getopt_long(argc, argv, ":", OPTIONS, NULL);
+        if (option == -1)
+            break;
+        if (option == OPTION_HELP)
+            return OPTIONS_HELP;
+        if (option == ':' || option == '?') {
+            snprintf(error, ERROR_SIZE, "%.80s: %s", argv[optind - 1], option == ':' ? "a value is missing" : "no such option");
+            return OPTIONS_WRONG;
+        }
+        if (!read_value(option, optarg, options, &given, error))
+            return OPTIONS_WRONG;
+    }
+    if (missing(&given, error) || !read_interfaces(argc - optind, argv + optind, options, error))
+        return OPTIONS_WRONG;
+    return OPTIONS_RUN;
+}

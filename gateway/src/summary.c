@@ -1,0 +1,32 @@
+/* The summary at the program's end. */
+#include "gateway.h"
+#include "log.h"
+
+#include <inttypes.h>
+
+static uint64_t sum(const uint64_t counts[UNIT_NUMBERS + 1])
+{
+    uint64_t total = 0;
+    for (int i = 0; i <= UNIT_NUMBERS; i++)
+        total += counts[i];
+    return total;
+}
+
+static void summarize(const struct port *port)
+{
+    const struct port_counts *counts = &port->counts;
+    uint64_t other = counts->other[OTHER_ELEVEN_BIT] + counts->other[OTHER_REMOTE] + counts->other[OTHER_FD] + counts->other[OTHER_ERROR];
+    log_always("port %" PRIu32 " (%s): in %" PRIu64 ", consumed %" PRIu64 ", refused %" PRIu64 ", other %" PRIu64 ", missed %" PRIu64, port->number,
+               port->interface.name, counts->in, counts->consumed, sum(counts->refused), other, counts->missed);
+    log_always("port %" PRIu32 " (%s): out %" PRIu64 ", stopped %" PRIu64 ", lost %" PRIu64 ", own lost %" PRIu64 ", waiting %" PRIu64 ", answers %" PRIu64,
+               port->number, port->interface.name, counts->out, counts->stopped, counts->lost, counts->own_lost,
+               port_waiting(port) + port->transmit.in_hand, counts->answers);
+}
+
+void gateway_summary(const struct gateway *gateway)
+{
+    log_always("summary: NAME %016" PRIX64 ", address %" PRIu32 " %s", gateway->unit.name, gateway->unit.preferred,
+               claim_state_word(gateway->unit.state));
+    for (int i = 0; i < GATEWAY_PORTS; i++)
+        summarize(&gateway->ports[i]);
+}

@@ -1,0 +1,87 @@
+#include "unit.h"
+
+#include "identifier.h"
+
+#include <string.h>
+
+static const char *const STATES[] = {"Unstarted", "Claiming", "Claimed", "Lost"};
+static const char *const EVENTS[] = {NULL, "Withdrew", "Defended", "Displaced", "Recorded", "Refreshed", "TookOver", "Beaten"};
+
+const char *claim_state_word(enum claim_state state)
+{
+    return STATES[state];
+}
+
+const char *claim_event_word(uint64_t event)
+{
+    return event < sizeof EVENTS / sizeof EVENTS[0] ? EVENTS[event] : "unknown";
+}
+
+uint32_t unit_power_on(struct unit *unit, uint64_t name, uint32_t preferred)
+{
+    memset(unit, 0, sizeof *unit);
+    unit->name = name;
+    unit->preferred = preferred;
+    unit->state = CLAIM_UNSTARTED;
+    return deorasaeng_power_on(unit->record, DEORASAENG_RECORD_WORDS, name, preferred);
+}
+
+/* A request for address claimed, which a unit that has started answers if it is to all or was consumed. */
+static bool answered_request(const struct unit *unit, const struct can_frame *frame, bool consumed)
+{
+    static const uint8_t ADDRESS_CLAIMED[] = {0x00, 0xEE, 0x00};
+    uint32_t id = frame->can_id & CAN_EFF_MASK;
+    return unit->state != CLAIM_UNSTARTED && identifier_pgn(id) == PGN_REQUEST && frame->len == sizeof ADDRESS_CLAIMED &&
+           memcmp(frame->data, ADDRESS_CLAIMED, sizeof ADDRESS_CLAIMED) == 0 &&
+           (consumed || identifier_destination(id) == ADDRESS_GLOBAL);
+}
+
+void unit_frame(struct unit *unit, uint32_t port, const struct can_frame *frame, struct frame_answer *answer)
+{
+    uint64_t words[DEORASAENG_FRAME_ANSWER];
+    memset(answer, 0, sizeof *answer);
+    answer->number = deorasaeng_frame(unit->record, DEORASAENG_RECORD_WORDS, port, frame->can_id & CAN_EFF_MASK, frame->data, frame->len,
+                                      words, DEORASAENG_FRAME_ANSWER);
+    if (answer->number != 0)
+        return;
+    answer->consumed = words[DEORASAENG_CONSUMED] != 0;
+    answer->accepted = words[DEORASAENG_ACCEPTED];
+    answer->lost = words[DEORASAENG_LOST];
+    answer->event = words[DEORASAENG_EVENT];
+    answer->old_name = words[DEORASAENG_OLD_NAME];
+    answer->own_lost = words[DEORASAENG_OWN_LOST];
+    answer->own_sent = answer->event == DEORASAENG_DEFENDED || answer->event == DEORASAENG_DISPLACED ||
+                       answered_request(unit, frame, answer->consumed);
+    if (answer->event == DEORASAENG_DISPLACED)
+        unit->state = CLAIM_LOST;
+}
+
+bool unit_take(struct unit *unit, uint32_t port, struct can_frame *frame)
+{
+    uint64_t words[DEORASAENG_TAKE_ANSWER];
+    memset(frame, 0, sizeof *frame);
+    uint32_t number = deorasaeng_take(unit->record, DEORASAENG_RECORD_WORDS, port, words, DEORASAENG_TAKE_ANSWER, frame->data,
+                                      DEORASAENG_FRAME_BYTES);
+    if (number != 0 || words[DEORASAENG_GIVEN] == 0)
+        return false;
+    frame->can_id = (canid_t)words[DEORASAENG_ID] | CAN_EFF_FLAG;
+    frame->len = (uint8_t)words[DEORASAENG_LENGTH];
+    return true;
+}
+
+uint32_t unit_start(struct unit *unit, uint64_t *own_lost)
+{
+    uint64_t words[DEORASAENG_START_ANSWER];
+    uint32_t number = deorasaeng_start(unit->record, DEORASAENG_RECORD_WORDS, words, DEORASAENG_START_ANSWER);
+    *own_lost = number == 0 ? words[0] : 0;
+    if (number == 0)
+        unit->state = CLAIM_CLAIMING; /* or Lost, where the address was held by a lower NAME: Quiet tells */
+    return number;
+}
+
+uint32_t unit_quiet(struct unit *unit)
+{
+    uint32_t number = deorasaeng_quiet(unit->record, DEORASAENG_RECORD_WORDS);
+    unit->state = number == 0 ? CLAIM_CLAIMED : CLAIM_LOST;
+    return number;
+}

@@ -1,0 +1,70 @@
+/* The proved unit on its record, and what the program knows of it by the answers alone. Nothing here reads or writes a word of the record itself. */
+#ifndef GATEWAY_UNIT_H
+#define GATEWAY_UNIT_H
+
+#include "../../include/deorasaeng.h"
+#include "lists.h"
+
+#include <linux/can.h>
+
+/* The highest number that a call can be refused with, and the highest address that can be claimed. */
+#define UNIT_NUMBERS 18
+#define UNIT_ADDRESSES 254
+
+enum claim_state { CLAIM_UNSTARTED, CLAIM_CLAIMING, CLAIM_CLAIMED, CLAIM_LOST };
+
+struct unit {
+    uint64_t record[DEORASAENG_RECORD_WORDS];
+    uint64_t name;
+    uint32_t preferred;
+    enum claim_state state;
+    struct lists lists; /* as last read; they change by messages alone, and every message passes here */
+};
+
+/* A frame's answer. Ports are masks, bit p - 1 for port p. */
+struct frame_answer {
+    uint32_t number; /* 0, or the number that refuses it: the rest is then 0 */
+    bool consumed;
+    uint64_t accepted, lost;
+    uint64_t event, old_name;
+    bool own_sent;     /* the unit sent its claim or cannot-claim, to all four ports .. */
+    uint64_t own_lost; /* .. but these */
+};
+
+struct message_answer {
+    uint32_t number;
+    uint64_t pgn;  /* of what is to be sent back, 0 for nothing */
+    size_t length; /* its length */
+    uint8_t bytes[DEORASAENG_REPLY_BYTES];
+};
+
+/* "Unstarted", "Claiming", "Claimed" or "Lost". */
+const char *claim_state_word(enum claim_state state);
+
+/* The word for a claim event, or NULL for none. */
+const char *claim_event_word(uint64_t event);
+
+uint32_t unit_power_on(struct unit *unit, uint64_t name, uint32_t preferred);
+
+/* A frame of SocketCAN, 29-bit and no other, from port 1 to 4. */
+void unit_frame(struct unit *unit, uint32_t port, const struct can_frame *frame, struct frame_answer *answer);
+
+/* The next frame for a port, or false. */
+bool unit_take(struct unit *unit, uint32_t port, struct can_frame *frame);
+
+/* 0, or the number; the ports where the unit's frame was lost. */
+uint32_t unit_start(struct unit *unit, uint64_t *own_lost);
+
+/* 0, or 18: the address was lost before. */
+uint32_t unit_quiet(struct unit *unit);
+
+/* A network message. The lists are read again where a command was done. */
+void unit_message(struct unit *unit, uint32_t port, uint32_t requester, const uint8_t *payload, size_t length, struct message_answer *answer);
+
+/* Sets lists on cleared pairs by Create, and by Delete what an emptied list needs. 0, or the first number. */
+uint32_t unit_set_lists(struct unit *unit, const struct lists *lists);
+
+/* The addresses recorded at a port in rising order, by function 64. Their number, or -1 while the unit is not Claimed. */
+int unit_addresses(struct unit *unit, uint32_t port, uint8_t addresses[UNIT_ADDRESSES]);
+
+#endif

@@ -1,0 +1,70 @@
+/* The command line. */
+#include "../src/options.h"
+#include "check.h"
+
+static struct options options;
+static char error[200];
+
+#define READ(...) read_words((const char *[]){"deorasaeng-gateway", __VA_ARGS__, NULL})
+
+static enum options_read read_words(const char *words[])
+{
+    static char copies[24][128];
+    char *argv[24];
+    int argc = 0;
+    for (; argc < 23 && words[argc] != NULL; argc++) {
+        snprintf(copies[argc], sizeof copies[argc], "%s", words[argc]);
+        argv[argc] = copies[argc];
+    }
+    argv[argc] = NULL;
+    memset(error, 0, sizeof error);
+    return options_read(argc, argv, &options, error);
+}
+
+static void good(void)
+{
+    CHECK(READ("--name", "20001C000AC00123", "--address", "0x80", "a", "b", "c", "d") == OPTIONS_RUN);
+    CHECK(options.name == UINT64_C(0x20001C000AC00123) && options.address == 128);
+    CHECK(options.lists == NULL && options.status == NULL && options.log == LOG_INFO);
+    CHECK_TEXT(options.interfaces[0], "a");
+    CHECK_TEXT(options.interfaces[3], "d");
+    CHECK(READ("a", "--name=0xFFFFFFFFFFFFFFFF", "b", "--address=253", "--lists", "l", "--status", "s", "--log", "debug", "c", "d") == OPTIONS_RUN);
+    CHECK(options.name == UINT64_MAX && options.address == 253 && options.log == LOG_DEBUG);
+    CHECK_TEXT(options.lists, "l");
+    CHECK_TEXT(options.status, "s");
+    CHECK(READ("--help") == OPTIONS_HELP);
+}
+
+static void wrong(void)
+{
+    CHECK(READ("a", "b", "c", "d") == OPTIONS_WRONG);
+    CHECK_TEXT(error, "--name is needed");
+    CHECK(READ("--name", "1", "a", "b", "c", "d") == OPTIONS_WRONG);
+    CHECK_TEXT(error, "--address is needed");
+    CHECK(READ("--name", "1", "--address", "254", "a", "b", "c", "d") == OPTIONS_WRONG);
+    CHECK(READ("--name", "1", "--address", "-1", "a", "b", "c", "d") == OPTIONS_WRONG);
+    CHECK(READ("--name", "1", "--address", "", "a", "b", "c", "d") == OPTIONS_WRONG);
+    CHECK(READ("--name", "1", "--address", "12x", "a", "b", "c", "d") == OPTIONS_WRONG);
+    CHECK(READ("--name", "10000000000000000", "--address", "1", "a", "b", "c", "d") == OPTIONS_WRONG);
+    CHECK(READ("--name", "xyz", "--address", "1", "a", "b", "c", "d") == OPTIONS_WRONG);
+    CHECK(READ("--name", "1", "--address", "1", "a", "b", "c") == OPTIONS_WRONG);
+    CHECK_TEXT(error, "3 interfaces given, 4 needed");
+    CHECK(READ("--name", "1", "--address", "1", "a", "b", "c", "d", "e") == OPTIONS_WRONG);
+    CHECK(READ("--name", "1", "--address", "1", "a", "b", "c", "a") == OPTIONS_WRONG);
+    CHECK_TEXT(error, "a is named twice");
+    CHECK(READ("--name", "1", "--address", "1", "a", "b", "c", "an-interface-name") == OPTIONS_WRONG);
+    CHECK(READ("--name", "1", "--address", "1", "--log", "loud", "a", "b", "c", "d") == OPTIONS_WRONG);
+    CHECK(READ("--name", "1", "--address", "1", "--status", "", "a", "b", "c", "d") == OPTIONS_WRONG);
+    CHECK(READ("--nonsense", "a", "b", "c", "d") == OPTIONS_WRONG);
+    CHECK_TEXT(error, "--nonsense: no such option");
+    CHECK(READ("-x", "a", "b", "c", "d") == OPTIONS_WRONG);
+    CHECK(READ("a", "b", "c", "d", "--name") == OPTIONS_WRONG);
+    CHECK_TEXT(error, "--name: a value is missing");
+}
+
+int main(void)
+{
+    good();
+    wrong();
+    return checks_end("options");
+}
