@@ -5,6 +5,21 @@
 
 static uint64_t record[DEORASAENG_RECORD_WORDS];
 
+/* What a number says, for a person. */
+static const char *words_of(uint32_t number)
+{
+    switch ((enum deorasaeng_number)number) {
+    case DEORASAENG_DONE: return "done";
+    case DEORASAENG_WRONG_PORT: return "port not 1 to 4";
+    case DEORASAENG_WRONG_IDENTIFIER: return "identifier 2^29 or more";
+    case DEORASAENG_NOT_CLAIMED: return "unit not Claimed";
+    case DEORASAENG_ACCESS_DENIED: return "pair or port not this tool's";
+    case DEORASAENG_NOT_CLEARED: return "Create: a named pair not cleared";
+    case DEORASAENG_WRONG_STATE: return "Start not in Unstarted, Quiet not in Claiming";
+    default: return "one that this morning does not meet";
+    }
+}
+
 static void print_bytes(const uint8_t *bytes, uint64_t length)
 {
     for (uint64_t i = 0; i < length; i++)
@@ -26,7 +41,7 @@ static void start(void)
 {
     uint64_t answer[DEORASAENG_START_ANSWER];
     uint32_t number = deorasaeng_start(record, DEORASAENG_RECORD_WORDS, answer, DEORASAENG_START_ANSWER);
-    printf("Start: %" PRIu32, number);
+    printf("Start: %" PRIu32 " %s", number, words_of(number));
     if (number == 0)
         print_ports("own frame lost at", answer[0]);
     printf("\n");
@@ -36,7 +51,7 @@ static void frame(uint32_t port, uint32_t id, const uint8_t *bytes, size_t len)
 {
     uint64_t answer[DEORASAENG_FRAME_ANSWER];
     uint32_t number = deorasaeng_frame(record, DEORASAENG_RECORD_WORDS, port, id, bytes, len, answer, DEORASAENG_FRAME_ANSWER);
-    printf("frame %08" PRIX32 " at port %" PRIu32 ": %" PRIu32, id, port, number);
+    printf("frame %08" PRIX32 " at port %" PRIu32 ": %" PRIu32 " %s", id, port, number, words_of(number));
     if (number == 0) {
         printf(answer[DEORASAENG_CONSUMED] ? ", consumed" : ", for others");
         print_ports("accepted", answer[DEORASAENG_ACCEPTED]);
@@ -52,7 +67,7 @@ static void frame(uint32_t port, uint32_t id, const uint8_t *bytes, size_t len)
 
 static void print_take(const char *title, uint32_t port, uint32_t number, const uint64_t *answer, const uint8_t *bytes)
 {
-    printf("%s at port %" PRIu32 ": %" PRIu32, title, port, number);
+    printf("%s at port %" PRIu32 ": %" PRIu32 " %s", title, port, number, words_of(number));
     if (number != 0 || answer[DEORASAENG_GIVEN] == 0) {
         printf(number != 0 ? "\n" : ", nothing waiting\n");
         return;
@@ -84,7 +99,7 @@ static void message(uint32_t port, uint32_t requester, const uint8_t *payload, s
     uint8_t reply[DEORASAENG_REPLY_BYTES];
     uint32_t number = deorasaeng_message(record, DEORASAENG_RECORD_WORDS, port, requester, payload, length, reply, DEORASAENG_REPLY_BYTES,
                                          answer, DEORASAENG_MESSAGE_ANSWER);
-    printf("message %u at port %" PRIu32 ": %" PRIu32 ", PGN %" PRIu64 ":", payload[0], port, number, answer[DEORASAENG_PGN]);
+    printf("message %u at port %" PRIu32 ": %" PRIu32 " %s, PGN %" PRIu64 ":", payload[0], port, number, words_of(number), answer[DEORASAENG_PGN]);
     print_bytes(reply, answer[DEORASAENG_WRITTEN]);
 }
 
@@ -114,9 +129,11 @@ int main(void)
     message(3, 0x21, request, sizeof request); /* 11: not a pair of port 3 */
     message(1, 0x21, addresses, sizeof addresses);
     frame(1, 0x0CF00400, engine, 8);           /* to ports 3 and 4 alone */
+    frame(1, 0x18FEF100, NULL, 0);             /* no bytes */
     frame(5, 0x0CF00400, engine, 8);           /* 1 */
     frame(1, 0x20000000, engine, 8);           /* 3 */
     take(2);                                   /* rank 3 before rank 6 */
+    transmit(2, record + DEORASAENG_QUEUE_AT(2));
     transmit(2, record + DEORASAENG_QUEUE_AT(2));
     transmit(2, record + DEORASAENG_QUEUE_AT(2));
     take(3);

@@ -1,5 +1,6 @@
 /* A fuzz run: the exported functions on records of any words and on buffers of any length, each exactly as long as it says. The library is not instrumented, so a
-   buffer ends at a page that faults, or begins behind one, or is of the heap, where the sanitizer watches what goes through memcpy. usage: fuzz SEED CALLS */
+   buffer ends at a page that faults, or begins behind one, or is of the heap, where the sanitizer watches what goes through memcpy; one of no length is null every
+   other time. usage: fuzz SEED CALLS */
 #define _DEFAULT_SOURCE
 #include "common.h"
 #include <sys/mman.h>
@@ -22,7 +23,16 @@ static uint8_t *fence(void)
     return all + PAGE;
 }
 
-/* `size` bytes at the end of the fenced room, at its start, or of the heap. */
+static uint64_t nulls;
+
+/* What a buffer holds from now on; C's own memcpy may not be given null. */
+static void keep(int which)
+{
+    if (lent[which].size != 0)
+        memcpy(lent[which].old, lent[which].at, lent[which].size);
+}
+
+/* `size` bytes at the end of the fenced room, at its start, or of the heap; null, or any of these, for none. */
 static void *lend(int which, size_t size)
 {
     struct lent *to = &lent[which];
@@ -30,11 +40,15 @@ static void *lend(int which, size_t size)
     to->size = size;
     to->heap = below(4) == 0 && size != 0 ? malloc(size) : NULL;
     to->at = to->heap ? to->heap : below(4) == 0 ? to->fenced : to->fenced + ROOM - size;
+    if (size == 0 && below(2) == 0) {
+        to->at = NULL;
+        nulls++;
+    }
     for (size_t i = 0; i < size; i += 8) {
         uint64_t word = next() >> (below(3) == 0 ? 0 : 40 + below(24));
         memcpy(to->at + i, &word, size - i < 8 ? size - i : 8);
     }
-    memcpy(to->old, to->at, size);
+    keep(which);
     return to->at;
 }
 
@@ -77,7 +91,7 @@ static uint64_t *some_record(size_t length)
         }
         for (int port = 1; port <= PORTS; port++)
             record[DEORASAENG_QUEUE_AT(port)] = below(QUEUE + 4);
-        memcpy(lent[0].old, record, 8 * length);
+        keep(0);
     }
     return record;
 }
@@ -101,6 +115,18 @@ static void judge(enum kind kind, uint32_t number, int has_port, int right)
         check(unchanged(1) && unchanged(2), "a refusal changed what was lent");
 }
 
+/* A frame of no bytes whose pointer is null is any other frame of no bytes. */
+static void judge_null(uint32_t port, uint32_t id, uint32_t number, const uint64_t *record, const uint64_t *answer)
+{
+    static uint64_t again[RECORD];
+    uint64_t told[DEORASAENG_FRAME_ANSWER];
+    uint8_t none = 0;
+    memcpy(again, lent[0].old, sizeof again);
+    memcpy(told, lent[1].old, sizeof told);
+    check(deorasaeng_frame(again, RECORD, port, id, &none, 0, told, DEORASAENG_FRAME_ANSWER) == number, "null: another number");
+    check(memcmp(again, record, sizeof again) == 0 && memcmp(told, answer, sizeof told) == 0, "null: another record or answer");
+}
+
 static void fuzz_frame(size_t length, uint64_t *record)
 {
     uint32_t port = some_port(), id = below(4) ? some_id() : (uint32_t)next();
@@ -108,10 +134,12 @@ static void fuzz_frame(size_t length, uint64_t *record)
     uint64_t *answer = lend(1, 8 * words);
     uint8_t *bytes = lend(3, size);
     some_bytes(bytes, id, size);
-    memcpy(lent[3].old, bytes, size);
+    keep(3);
     uint32_t number = deorasaeng_frame(record, length, port, id, bytes, size, answer, words);
     int right = length == RECORD && words == DEORASAENG_FRAME_ANSWER;
     judge(FRAME, number, is_port(port), right);
+    if (right && bytes == NULL)
+        judge_null(port, id, number, record, answer);
     if (is_port(port) && right) {
         check((id >> 29 != 0) == (number == 3), "number 3");
         check((id >> 29 == 0 && size > 8) == (number == 4), "number 4");
@@ -148,7 +176,7 @@ static void fuzz_message(size_t length, uint64_t *record)
     uint8_t *reply = lend(2, room), *payload = lend(3, size);
     if (below(8) != 0)
         some_payload(payload, size);
-    memcpy(lent[3].old, payload, size);
+    keep(3);
     uint32_t number = deorasaeng_message(record, length, port, requester, payload, size, reply, room, answer, words);
     int right = length == RECORD && words == DEORASAENG_MESSAGE_ANSWER && room >= DEORASAENG_REPLY_BYTES;
     judge(MESSAGE, number, is_port(port), right);
@@ -157,7 +185,8 @@ static void fuzz_message(size_t length, uint64_t *record)
         return;
     }
     size_t written = answer[DEORASAENG_WRITTEN];
-    check(written <= room && memcmp(reply + written, lent[2].old + written, room - written) == 0, "a byte past what was written");
+    check(written <= room, "more written than there is room for");
+    check(written == room || memcmp(reply + written, lent[2].old + written, room - written) == 0, "a byte past what was written");
     check((number >= 1 && number <= 8) == (written == 0), "written");
 }
 
@@ -194,6 +223,7 @@ int main(int argc, char **argv)
     for (calls = 0; calls < total; calls++)
         fuzz();
     print_counts();
+    printf("%" PRIu64 " buffers of no length were null\n", nulls);
     printf("%" PRIu64 " fuzzed calls from seed %s: every check held\n", calls, argc > 1 ? argv[1] : "1");
     return 0;
 }

@@ -5,7 +5,7 @@ use std::collections::{BTreeMap, BTreeSet};
 use crate::address::{is_claim, is_request_for_address_claimed, name_of, ClaimState, Event};
 use crate::frame::{self, Frame};
 use crate::pair::{Pair, LONGEST_LIST};
-use crate::script::{apply, read_call, Answer, Call};
+use crate::script::{apply, is_passed_over, lines_of, read_call, Answer, Call};
 use crate::unit::{other_ports, FrameAnswer, Unit, LONGEST_QUEUE};
 
 /// The call letters of a script.
@@ -71,14 +71,11 @@ pub struct Coverage {
 
 impl Coverage {
     /// Runs a script and counts it.
-    pub fn count_script(&mut self, text: &str) {
+    pub fn count_script(&mut self, script: &[u8]) {
         let mut unit = None;
-        for line in text.lines() {
-            if line.is_empty() || line.starts_with('#') {
-                continue;
-            }
+        for line in lines_of(script).into_iter().filter(|line| !is_passed_over(line)) {
             let before = unit.clone();
-            let call = read_call(line);
+            let call = read_call(line).ok();
             match call.as_ref().and_then(|call| Some((call, apply(&mut unit, call)?))) {
                 Some((call, answer)) => self.count_call(before.as_ref(), call, &answer, unit.as_ref()),
                 None => self.not_calls += 1,

@@ -1,5 +1,5 @@
-//! Reference of document 01, the bridge box core, in the order of its headings,
-//! then the script format, its summary, the generator and the coverage count, and the proved unit linked in.
+//! Reference of the rules (docs/RULES.md), in the order of their headings,
+//! then the script format, the numbers in words, the summary, a script's run, the generator and the coverage count, and the proved unit linked in.
 
 pub mod frame;
 pub mod pair;
@@ -7,7 +7,9 @@ pub mod unit;
 pub mod address;
 pub mod message;
 pub mod script;
+pub mod words;
 pub mod summary;
+pub mod run;
 pub mod generate;
 pub mod coverage;
 #[cfg(feature = "linked")]

@@ -1,9 +1,10 @@
 //! The script format: one call a line, one answer a line.
 
+use std::fmt;
+
 use crate::address::Event;
 use crate::frame::Frame;
 use crate::message::{MessageAnswer, LONGEST_MESSAGE};
-use crate::summary::Summary;
 use crate::unit::{FrameAnswer, Number, Unit};
 
 /// One call of a script.
@@ -42,52 +43,31 @@ impl Answer {
     }
 }
 
-/// The most bytes of a line; a longer one is no call.
+/// The most bytes of a line, blanks at its ends aside; a longer one is no call.
 pub const LONGEST_LINE: usize = 4096;
 
-/// A script that was run: the printed lines, one for each call, and the summary.
-#[derive(Default)]
-pub struct Run {
-    pub printed: Vec<String>,
-    pub summary: Summary,
+/// Why a line is no call; a word is named by what it stands for.
+#[derive(Clone, Debug, PartialEq, Eq)]
+pub enum Wrong {
+    TooLong,
+    NoLetter,
+    Missing(&'static str),
+    Malformed(&'static str, &'static str),
+    MoreWords,
+    NoUnit,
 }
 
-impl Run {
-    /// A whole script. A call before the first power-on has no unit: `?`.
-    pub fn of(text: &str) -> Run {
-        let mut run = Run::default();
-        let mut unit = None;
-        for line in text.lines() {
-            if !line.is_empty() && !line.starts_with('#') {
-                run.step(&mut unit, line);
-            }
+impl fmt::Display for Wrong {
+    fn fmt(&self, out: &mut fmt::Formatter) -> fmt::Result {
+        match self {
+            Wrong::TooLong => out.write_str("longer than 4,096 bytes"),
+            Wrong::NoLetter => out.write_str("the first word is none of P S Q F T M"),
+            Wrong::Missing(field) => write!(out, "{field} missing"),
+            Wrong::Malformed(field, form) => write!(out, "{field}: not {form}"),
+            Wrong::MoreWords => out.write_str("more words than the call has"),
+            Wrong::NoUnit => out.write_str("no unit yet: a power-on, P, comes first"),
         }
-        run
     }
-
-    fn step(&mut self, unit: &mut Option<Unit>, line: &str) {
-        let call = read_call(line);
-        let Some((call, answer)) = call.and_then(|call| apply(unit, &call).map(|answer| (call, answer))) else {
-            self.printed.push("?".to_string());
-            self.summary.add_no_call();
-            return;
-        };
-        self.printed.push(print_answer(&answer));
-        self.summary.add(&call, &answer);
-    }
-
-    /// All that is printed: the lines, an empty one, the summary.
-    pub fn text(&self) -> String {
-        let mut lines = self.printed.clone();
-        lines.push(String::new());
-        lines.extend(self.summary.lines());
-        lines.join("\n") + "\n"
-    }
-}
-
-/// The printed lines of a script, without the summary.
-pub fn run_script(text: &str) -> Vec<String> {
-    Run::of(text).printed
 }
 
 /// Makes one call. Power-on makes the unit; without a unit there is no answer.
@@ -111,69 +91,130 @@ pub fn apply(unit: &mut Option<Unit>, call: &Call) -> Option<Answer> {
     })
 }
 
-/// Reads a line of a script; None where it is no call.
-pub fn read_call(line: &str) -> Option<Call> {
-    if line.len() > LONGEST_LINE {
-        return None;
+/// Blanks, tabs and carriage returns part words and are no part of them.
+fn is_blank(byte: u8) -> bool {
+    matches!(byte, b' ' | b'\t' | b'\r')
+}
+
+/// A byte-order mark; on the first line it counts as a blank at the beginning.
+const MARK: &[u8] = &[0xEF, 0xBB, 0xBF];
+
+/// The lines of a script without the blanks at their ends. After the last line end there is a line only if it has more than blanks.
+pub fn lines_of(script: &[u8]) -> Vec<&[u8]> {
+    let mut lines: Vec<&[u8]> = script.split(|&byte| byte == b'\n').collect();
+    lines[0] = without_marks(lines[0]);
+    let mut lines: Vec<&[u8]> = lines.into_iter().map(trimmed).collect();
+    if lines.last().is_some_and(|last| last.is_empty()) {
+        lines.pop();
     }
-    let fields: Vec<&str> = line.split(' ').collect();
-    match fields[..] {
-        ["P", name, preferred] => {
-            Some(Call::PowerOn { name: read_hex(name, 16)?, preferred: read_decimal(preferred)? })
+    lines
+}
+
+fn without_marks(line: &[u8]) -> &[u8] {
+    let line = trimmed(line);
+    line.strip_prefix(MARK).map_or(line, without_marks)
+}
+
+fn trimmed(line: &[u8]) -> &[u8] {
+    let start = line.iter().position(|&byte| !is_blank(byte)).unwrap_or(line.len());
+    let end = line.iter().rposition(|&byte| !is_blank(byte)).map_or(start, |last| last + 1);
+    &line[start..end]
+}
+
+/// An empty line and a comment are passed over.
+pub fn is_passed_over(line: &[u8]) -> bool {
+    line.is_empty() || line[0] == b'#'
+}
+
+/// The words of a line after its letter, one by one; the first that is wrong ends the reading.
+struct Words<'a>(Vec<&'a [u8]>);
+
+impl<'a> Words<'a> {
+    /// The next word as what it stands for, if it has that form.
+    fn next<T>(
+        &mut self,
+        field: &'static str,
+        form: &'static str,
+        read: impl Fn(&[u8]) -> Option<T>,
+    ) -> Result<T, Wrong> {
+        let word = self.0.pop().ok_or(Wrong::Missing(field))?;
+        read(word).ok_or(Wrong::Malformed(field, form))
+    }
+
+    fn decimal(&mut self, field: &'static str) -> Result<u32, Wrong> {
+        self.next(field, "a decimal number below 2^32", read_decimal)
+    }
+
+    fn bytes(&mut self, field: &'static str) -> Result<Vec<u8>, Wrong> {
+        self.next(field, "pairs of hex digits, or - for none", read_bytes)
+    }
+
+    fn end(&self) -> Result<(), Wrong> {
+        if self.0.is_empty() {
+            Ok(())
+        } else {
+            Err(Wrong::MoreWords)
         }
-        ["S"] => Some(Call::Start),
-        ["Q"] => Some(Call::Quiet),
-        ["F", port, id, bytes] => {
-            Some(Call::Frame { port: read_decimal(port)?, id: read_hex(id, 8)? as u32, bytes: read_bytes(bytes)? })
-        }
-        ["T", port] => Some(Call::Take { port: read_decimal(port)? }),
-        ["M", port, requester, payload] => Some(Call::Message {
-            port: read_decimal(port)?,
-            requester: read_decimal(requester)?,
-            payload: read_bytes(payload)?,
-        }),
-        _ => None,
     }
 }
 
+/// Reads a line of a script, or says why it is no call.
+pub fn read_call(line: impl AsRef<[u8]>) -> Result<Call, Wrong> {
+    let line = trimmed(line.as_ref());
+    if line.len() > LONGEST_LINE {
+        return Err(Wrong::TooLong);
+    }
+    let split = line.split(|&byte| is_blank(byte)).filter(|word| !word.is_empty());
+    let mut words = Words(split.collect());
+    words.0.reverse();
+    let letter = words.0.pop().unwrap_or_default();
+    let call = match letter {
+        b"P" => Call::PowerOn {
+            name: words.next("NAME", "1 to 16 hex digits", |word| read_hex(word, 16))?,
+            preferred: words.decimal("preferred address")?,
+        },
+        b"S" => Call::Start,
+        b"Q" => Call::Quiet,
+        b"F" => Call::Frame {
+            port: words.decimal("port")?,
+            id: words.next("identifier", "1 to 8 hex digits", |word| read_hex(word, 8))? as u32,
+            bytes: words.bytes("bytes")?,
+        },
+        b"T" => Call::Take { port: words.decimal("port")? },
+        b"M" => Call::Message {
+            port: words.decimal("port")?,
+            requester: words.decimal("requester")?,
+            payload: words.bytes("payload")?,
+        },
+        _ => return Err(Wrong::NoLetter),
+    };
+    words.end().map(|()| call)
+}
+
 /// Decimal digits of a number below 2^32.
-fn read_decimal(field: &str) -> Option<u32> {
-    let digits_only = field.bytes().all(|digit| digit.is_ascii_digit());
-    if digits_only {
-        field.parse().ok()
+fn read_decimal(word: &[u8]) -> Option<u32> {
+    if word.iter().all(u8::is_ascii_digit) {
+        std::str::from_utf8(word).ok()?.parse().ok()
     } else {
         None
     }
 }
 
 /// One to `longest` hex digits, upper or lower case.
-fn read_hex(field: &str, longest: usize) -> Option<u64> {
-    let digits_only = field.bytes().all(|digit| digit.is_ascii_hexdigit());
-    if digits_only && field.len() <= longest {
-        u64::from_str_radix(field, 16).ok()
+fn read_hex(word: &[u8], longest: usize) -> Option<u64> {
+    if word.iter().all(u8::is_ascii_hexdigit) && word.len() <= longest {
+        u64::from_str_radix(std::str::from_utf8(word).ok()?, 16).ok()
     } else {
         None
     }
 }
 
 /// Two hex digits a byte, `-` for no bytes.
-fn read_bytes(field: &str) -> Option<Vec<u8>> {
-    if field == "-" {
+fn read_bytes(word: &[u8]) -> Option<Vec<u8>> {
+    if word == b"-" {
         return Some(Vec::new());
     }
-    if field.is_empty() || !field.is_ascii() {
-        return None;
-    }
-    let pairs = field.as_bytes().chunks(2);
-    pairs.map(|pair| read_byte(std::str::from_utf8(pair).ok()?)).collect()
-}
-
-fn read_byte(digits: &str) -> Option<u8> {
-    if digits.len() == 2 {
-        read_hex(digits, 2).map(|byte| byte as u8)
-    } else {
-        None
-    }
+    word.chunks(2).map(|pair| if pair.len() == 2 { read_hex(pair, 2).map(|byte| byte as u8) } else { None }).collect()
 }
 
 /// Writes a call as a line of a script.

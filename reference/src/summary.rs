@@ -4,6 +4,7 @@ use std::collections::BTreeMap;
 
 use crate::script::{Answer, Call};
 use crate::unit::{other_ports, FrameAnswer, Number, PORTS};
+use crate::words::told;
 
 /// The counts of one script.
 #[derive(Default)]
@@ -40,14 +41,14 @@ impl Outcomes {
         self.0.get(&0).copied().unwrap_or(0)
     }
 
-    /// How many were refused, and how many with each number.
-    fn refused(&self) -> String {
+    fn refused(&self) -> u64 {
+        self.calls() - self.done()
+    }
+
+    /// A line for each number that refused calls: its words, and how many.
+    fn by_number(&self) -> Vec<String> {
         let numbers = self.0.iter().filter(|(&number, _)| number != 0);
-        let by_number: Vec<String> = numbers.map(|(number, count)| format!("{number}: {count}")).collect();
-        if by_number.is_empty() {
-            return "refused 0".to_string();
-        }
-        format!("refused {} ({})", self.calls() - self.done(), by_number.join(", "))
+        numbers.map(|(&number, count)| format!("    {}: {count}", told(number))).collect()
     }
 }
 
@@ -113,29 +114,15 @@ impl Summary {
 
     /// The summary as printed lines.
     pub fn lines(&self) -> Vec<String> {
-        let done = |title: &str, outcomes: &Outcomes| {
-            format!("{title} {}: done {}, {}", outcomes.calls(), outcomes.done(), outcomes.refused())
-        };
         let nothing = self.takes.done() - self.given;
-        let mut lines = vec![
-            format!("power-on {}, lines that are no call {}", self.power_ons, self.not_calls),
-            done("Start", &self.starts),
-            done("Quiet", &self.quiets),
-            format!("frames {}: consumed {}, {}", self.frames.calls(), self.consumed, self.frames.refused()),
-        ];
+        let mut lines = vec![format!("power-on {}, lines that are no call {}", self.power_ons, self.not_calls)];
+        lines.extend(outcome_lines("Start", &format!("done {}", self.starts.done()), &self.starts));
+        lines.extend(outcome_lines("Quiet", &format!("done {}", self.quiets.done()), &self.quiets));
+        lines.extend(outcome_lines("frames", &format!("consumed {}", self.consumed), &self.frames));
         lines.extend(PORTS.map(|port| self.port_line(port)));
-        lines.push(format!(
-            "takes {}: given {}, nothing waiting {nothing}, {}",
-            self.takes.calls(),
-            self.given,
-            self.takes.refused()
-        ));
-        lines.push(format!(
-            "messages {}: answered {}, {}",
-            self.messages.calls(),
-            self.messages.done(),
-            self.messages.refused()
-        ));
+        let given = format!("given {}, nothing waiting {nothing}", self.given);
+        lines.extend(outcome_lines("takes", &given, &self.takes));
+        lines.extend(outcome_lines("messages", &format!("answered {}", self.messages.done()), &self.messages));
         lines
     }
 
@@ -148,4 +135,11 @@ impl Summary {
             self.own_lost.at(port)
         )
     }
+}
+
+/// The calls of a kind, what came of them, and a line for each number that refused some.
+fn outcome_lines(title: &str, what: &str, outcomes: &Outcomes) -> Vec<String> {
+    let mut lines = vec![format!("{title} {}: {what}, refused {}", outcomes.calls(), outcomes.refused())];
+    lines.extend(outcomes.by_number());
+    lines
 }

@@ -226,7 +226,7 @@ fn generator_reaches_deep_states() {
     let mut coverage = Coverage::default();
     for seed in [1, 2] {
         let lines: Vec<String> = generate(seed, 20_000).iter().map(write_call).collect();
-        coverage.count_script(&lines.join("\n"));
+        coverage.count_script(lines.join("\n").as_bytes());
     }
     for number in (0..=18).filter(|&number| number != 2) {
         let reached: u64 =

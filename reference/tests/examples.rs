@@ -1,4 +1,4 @@
-//! The examples of document 01, and the outside vectors of the standards.
+//! The examples P1 to P11 and 12, and the outside vectors of the standards.
 
 mod common;
 

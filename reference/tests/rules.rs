@@ -1,4 +1,4 @@
-//! The rules of document 01 one by one: forwarding, addresses, network messages.
+//! The rules one by one: forwarding, addresses, network messages.
 
 mod common;
 

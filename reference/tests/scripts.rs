@@ -1,10 +1,12 @@
 //! The bundled scripts against their outputs, and the script format itself.
 
 use reference::generate::{generate, sweep};
-use reference::script::{read_call, run_script, write_call, Call, Run, LONGEST_LINE};
+use reference::run::{run_script, Run};
+use reference::script::{read_call, write_call, Call, LONGEST_LINE};
+use reference::words::{told, WORDS};
 
 fn check(script: &str, output: &str) {
-    assert_eq!(Run::of(script).text(), output);
+    assert_eq!(String::from_utf8(Run::of(script).beside()).unwrap(), output);
 }
 
 #[test]
@@ -27,6 +29,12 @@ fn lines() {
     check(include_str!("../scripts/lines.txt"), include_str!("../scripts/lines.out"));
 }
 
+/// The old box's hole: the port number one up.
+#[test]
+fn one_up() {
+    check(include_str!("../scripts/one_up.txt"), include_str!("../scripts/one_up.out"));
+}
+
 /// What the gate runs the program `replay` on, and what it must print, are what `record` makes.
 #[test]
 fn recorded() {
@@ -35,6 +43,7 @@ fn recorded() {
     script += include_str!("../scripts/examples.txt");
     script += include_str!("../scripts/morning.txt");
     script += include_str!("../scripts/unit.txt");
+    script += include_str!("../scripts/one_up.txt");
     for call in sweep().iter().chain(&generate(19, 9000)) {
         script += &(write_call(call) + "\n");
     }
@@ -68,61 +77,114 @@ fn printed_forms() {
     assert_eq!(run_script(script), printed);
 }
 
+/// Each line that is no call, and what is said of it.
+const NO_CALLS: &[(&str, &str)] = &[
+    ("X", "the first word is none of P S Q F T M"),
+    ("s", "the first word is none of P S Q F T M"),
+    ("SS", "the first word is none of P S Q F T M"),
+    ("P", "NAME missing"),
+    ("P 1", "preferred address missing"),
+    ("P 1 2 3", "more words than the call has"),
+    ("P 12345678901234567 1", "NAME: not 1 to 16 hex digits"),
+    ("P G 1", "NAME: not 1 to 16 hex digits"),
+    ("P +1 1", "NAME: not 1 to 16 hex digits"),
+    ("P G", "NAME: not 1 to 16 hex digits"),
+    ("P 1 -1", "preferred address: not a decimal number below 2^32"),
+    ("P 1 4294967296", "preferred address: not a decimal number below 2^32"),
+    ("S 1", "more words than the call has"),
+    ("Q #", "more words than the call has"),
+    ("F", "port missing"),
+    ("F 18FEF100 -", "port: not a decimal number below 2^32"),
+    ("F a 0 -", "port: not a decimal number below 2^32"),
+    ("F 1", "identifier missing"),
+    ("F 1 123456789 -", "identifier: not 1 to 8 hex digits"),
+    ("F 1 18FEF100", "bytes missing"),
+    ("F 1 18FEF100 1", "bytes: not pairs of hex digits, or - for none"),
+    ("F 1 18FEF100 0G", "bytes: not pairs of hex digits, or - for none"),
+    ("F 1 18FEF100 01 02", "more words than the call has"),
+    ("T", "port missing"),
+    ("T +1", "port: not a decimal number below 2^32"),
+    ("T 1 1", "more words than the call has"),
+    ("M 1", "requester missing"),
+    ("M 1 x 00", "requester: not a decimal number below 2^32"),
+    ("M 1 33", "payload missing"),
+    ("M 1 33 é", "payload: not pairs of hex digits, or - for none"),
+    ("M 1 33 00 12", "more words than the call has"),
+];
+
 #[test]
 fn lines_that_are_no_call() {
-    let lines = [
-        "X",
-        "P",
-        "P 1",
-        "P 1 2 3",
-        "P  1 2",
-        "P 12345678901234567 1",
-        "P G 1",
-        "P 1 -1",
-        "P 1 4294967296",
-        "P +1 1",
-        " S",
-        "S ",
-        "S 1",
-        "s",
-        "F 1 18FEF100",
-        "F 1 123456789 -",
-        "F 1 18FEF100 1",
-        "F 1 18FEF100 0G",
-        "F 1 18FEF100 ",
-        "F a 0 -",
-        "T",
-        "T ",
-        "T +1",
-        "T 1 1",
-        "M 1 33",
-        "M 1 33 00 12",
-        "M 1 x 00",
-    ];
-    for line in lines {
-        assert_eq!(read_call(line), None, "{line}");
-        assert_eq!(run_script(&format!("P 1 2\n{line}\nT 1")), ["P", "?", "T -"]);
+    for (line, said) in NO_CALLS {
+        assert_eq!(read_call(line).unwrap_err().to_string(), *said, "{line}");
+        let script = format!("P 1 2\n# a comment counts as a line\n{line}\nT 1");
+        assert_eq!(run_script(&script), ["P", &format!("? line 3: {said}"), "T -"]);
     }
 }
 
 #[test]
 fn comments_empty_lines_and_no_unit() {
-    assert_eq!(run_script("# S\n\n\nS\nP ff 0\n#\nS\n"), ["?", "P", "S -"]);
+    let printed = ["? line 4: no unit yet: a power-on, P, comes first", "P", "S -"];
+    assert_eq!(run_script("# S\n\n\nS\nP ff 0\n#\nS\n"), printed);
+}
+
+/// Blanks, tabs, carriage returns, a byte-order mark and an indented comment are harmless.
+#[test]
+fn harmless_bytes() {
+    let scripts = ["P ff 0\nF 1 18FEF100 0102\nS\nT 2\n", "\u{feff}P ff 0\r\n F\t1  18FEF100 \t0102 \r\n\tS\n  # no call\n T\r 2"];
+    assert_eq!(run_script(scripts[0]), run_script(scripts[1]));
+    assert_eq!(run_script(" \u{feff}\u{feff} P ff 0\n \t\r\n"), ["P"]);
+    assert_eq!(run_script("P ff 0\n\u{feff}S"), ["P", "? line 2: the first word is none of P S Q F T M"]);
+}
+
+/// A call stands beside its answer, a refusal with its words; what is passed over stands as it is.
+#[test]
+fn beside() {
+    let script = "# morning\n\n  P 20001C000AC00123 200\nS \nM 3 33 0012FFFFFFFFFFFF\nF 9 18FEF100 -\nx\n";
+    let shown = String::from_utf8(Run::of(script).beside()).unwrap();
+    let lines: Vec<&str> = shown.lines().take(8).collect();
+    let expected = [
+        "# morning",
+        "",
+        "P 20001C000AC00123 200                P",
+        "S                                     S -",
+        "M 3 33 0012FFFFFFFFFFFF               M 6 0 0 -  (6 unit not Claimed)",
+        "F 9 18FEF100 -                        F R 1  (1 port not 1 to 4)",
+        "x                                     ? line 7: the first word is none of P S Q F T M",
+        "",
+    ];
+    assert_eq!(lines, expected);
+    assert_eq!(Run::of("").beside(), Run::of("").plain());
+}
+
+/// The help of `./replay`, the header and the rules have the numbers in the same words.
+#[test]
+fn words_are_the_same_everywhere() {
+    let help = include_str!("../../replay");
+    let header = include_str!("../../include/deorasaeng.h");
+    let rules = include_str!("../../docs/RULES.md");
+    for (number, words) in (1..).zip(WORDS) {
+        let comment = format!("/* {words} */");
+        let line = header.lines().find(|line| line.ends_with(&comment)).expect(words);
+        assert_eq!(line.split([' ', ',']).nth(6), Some(&number.to_string()[..]), "header: {line}");
+        assert!(help.contains(&format!(" {}\n", told(number))), "replay: {number}");
+        assert!(rules.contains(&format!("| {number} | {words} |")), "rules: {number}");
+    }
 }
 
 #[test]
 fn limits_of_the_fields() {
     let power_on = Call::PowerOn { name: u64::MAX, preferred: u32::MAX };
-    assert_eq!(read_call("P ffffFFFFffffFFFF 4294967295"), Some(power_on));
+    assert_eq!(read_call("P ffffFFFFffffFFFF 4294967295"), Ok(power_on));
     let nine = Call::Frame { port: 0, id: u32::MAX, bytes: vec![0xAB; 9] };
-    assert_eq!(read_call("F 0 FFFFFFFF ABABABABABABABABAB"), Some(nine));
+    assert_eq!(read_call("F 0 FFFFFFFF ABABABABABABABABAB"), Ok(nine));
 }
 
 #[test]
 fn longest_line() {
     let line = |length: usize| format!("M 1 33 {}", "0".repeat(length - 7));
     assert_eq!(run_script(&format!("P 1 2\n{}\r\n", line(LONGEST_LINE - 1))), ["P", "M 6 0 0 -"]);
-    assert_eq!(read_call(&line(LONGEST_LINE + 1)), None);
+    assert_eq!(run_script(&format!("P 1 2\n{} \t\n", line(LONGEST_LINE + 1))), ["P", "? line 2: longer than 4,096 bytes"]);
+    assert_eq!(run_script(&format!("P 1 2\nT 1{}x\nT 1{}\n", " ".repeat(5000), " ".repeat(5000)))[1..], ["? line 2: longer than 4,096 bytes", "T -"]);
     assert_eq!(run_script(&format!("P 1 2\n#{}\nT 1", line(LONGEST_LINE))), ["P", "T -"]);
 }
 
@@ -135,14 +197,20 @@ fn summary() {
     let lines = [
         "power-on 1, lines that are no call 2",
         "Start 1: done 1, refused 0",
-        "Quiet 2: done 1, refused 1 (18: 1)",
-        "frames 5: consumed 1, refused 3 (1: 2, 3: 1)",
+        "Quiet 2: done 1, refused 1",
+        "    18 Start not in Unstarted, Quiet not in Claiming: 1",
+        "frames 5: consumed 1, refused 3",
+        "    1 port not 1 to 4: 2",
+        "    3 identifier 2^29 or more: 1",
         "  port 1: accepted 0, stopped 0, lost 0, own lost 0",
         "  port 2: accepted 0, stopped 1, lost 0, own lost 0",
         "  port 3: accepted 1, stopped 0, lost 0, own lost 0",
         "  port 4: accepted 1, stopped 0, lost 0, own lost 0",
-        "takes 3: given 1, nothing waiting 1, refused 1 (1: 1)",
-        "messages 3: answered 1, refused 2 (11: 1, 14: 1)",
+        "takes 3: given 1, nothing waiting 1, refused 1",
+        "    1 port not 1 to 4: 1",
+        "messages 3: answered 1, refused 2",
+        "    11 pair or port not this tool's: 1",
+        "    14 Create: a named pair not cleared: 1",
     ];
     assert_eq!(Run::of(script).summary.lines(), lines);
 }
@@ -163,6 +231,6 @@ fn generated_calls_are_read_back() {
     assert_eq!(calls, generate(11, 2000));
     assert_ne!(calls, generate(12, 2000));
     for call in calls {
-        assert_eq!(read_call(&write_call(&call)), Some(call));
+        assert_eq!(read_call(&write_call(&call)), Ok(call));
     }
 }

@@ -1,18 +1,18 @@
 /* The C interface of the bridge: one unit of four ports, on a record of words that the caller lends.
 
    Link libdeorasaeng.a. Each function gives back 0 for done, or the number that refuses the call; a refusal changes no word of the record.
-   Nothing is required of arguments and lengths: what is wrong is refused by its number. Of pointers, what C itself asks: each is not null, aligned, and good for
-   as many elements as the length behind it says; no two overlap; and nobody else uses them during the call.
+   Nothing is required of arguments and lengths: what is wrong is refused by its number. Of pointers, what C itself asks: each is aligned and good for as many
+   elements as the length behind it says; no two overlap; and nobody else uses them during the call. A pointer whose length is 0 may be null, so a frame of no
+   bytes may be handed in as NULL, 0; any other may not.
+
+   Platform: x86-64 Linux, the System V calling convention, any linker for ELF. Needed are memcpy and memset and nothing else: no heap, no call of the operating
+   system, no data outside the record. SSE registers and the red zone are used. Some 12 KB of code and constants, 9,440 bytes of record, at most 744 bytes of stack
+   (deorasaeng_take_queue 1.1 KB). For other platforms there is no proved library today; the project's reference/, in safe Rust, is an unproved stand-in.
+   docs/INTEGRATION.md has the loop of a box, interrupts, locking and stack.
 
    An answer is lent storage of the length given below, in words; another length is number 2. On a refusal it is left as it was (deorasaeng_message says
    where not). Where several numbers apply the lowest is given, so 1 stands before 2 and 2 before every other; at deorasaeng_start 18 stands before 8.
-   Ports are 1 to 4. Ports in an answer are a mask: bit p - 1 for port p. Later versions add functions, and words at the end of an answer, and change none.
-
-   Numbers: 1 port not 1 to 4; 2 lent storage not of its published length, or a reply buffer under 1,785 bytes; 3 identifier 2^29 or more; 4 frame length over 8;
-   5 source address 255, or 254 in a frame that may not have it; 6 unit not Claimed; 7 payload not 8 to 1,785 bytes; 8 requester, or at Start the preferred
-   address, not 0 to 253; 9 function not listed; 10 port outside 1 to 4, or From equals To; 11 pair or port not this tool's; 12 body wrong; 13 Create mode not
-   0 or 1; 14 Create: a named pair not cleared; 15 Add, Delete: a named pair cleared; 16 a named pair would pass 32; 17 Delete: a PGN absent from a named pair;
-   18 Start not in Unstarted, Quiet not in Claiming. */
+   Ports are 1 to 4. Ports in an answer are a mask: bit p - 1 for port p. */
 #ifndef DEORASAENG_H
 #define DEORASAENG_H
 
@@ -22,6 +22,37 @@
 #ifdef __cplusplus
 extern "C" {
 #endif
+
+/* The version of this interface. A version may add functions, numbers, and words at the end of an answer, whose published length then grows: a call that lends
+   the old length is refused with 2. So callers are compiled again with the header of the library that they link. */
+#define DEORASAENG_VERSION 1
+
+/* What a function gives back: 0 for done, else why the call is refused. */
+enum deorasaeng_number {
+    DEORASAENG_DONE = 0,
+    DEORASAENG_WRONG_PORT = 1,           /* port not 1 to 4 */
+    DEORASAENG_WRONG_STORAGE = 2,        /* lent storage not of its published length */
+    DEORASAENG_WRONG_IDENTIFIER = 3,     /* identifier 2^29 or more */
+    DEORASAENG_WRONG_LENGTH = 4,         /* frame length over 8 */
+    DEORASAENG_WRONG_SOURCE = 5,         /* source address 255, or 254 in a frame that may not have it */
+    DEORASAENG_NOT_CLAIMED = 6,          /* unit not Claimed */
+    DEORASAENG_WRONG_PAYLOAD = 7,        /* payload not 8 to 1,785 bytes */
+    DEORASAENG_WRONG_ADDRESS = 8,        /* requester, or at Start the preferred address, not 0 to 253 */
+    DEORASAENG_WRONG_FUNCTION = 9,       /* function not listed */
+    DEORASAENG_WRONG_PAIR = 10,          /* port outside 1 to 4, or From equals To */
+    DEORASAENG_ACCESS_DENIED = 11,       /* pair or port not this tool's */
+    DEORASAENG_WRONG_BODY = 12,          /* body wrong: length, entry or filling */
+    DEORASAENG_WRONG_MODE = 13,          /* Create mode not 0 or 1 */
+    DEORASAENG_NOT_CLEARED = 14,         /* Create: a named pair not cleared */
+    DEORASAENG_IS_CLEARED = 15,          /* Add, Delete: a named pair cleared */
+    DEORASAENG_LIST_FULL = 16,           /* a named pair would pass 32 */
+    DEORASAENG_PGN_ABSENT = 17,          /* Delete: a PGN absent from a named pair */
+    DEORASAENG_WRONG_STATE = 18          /* Start not in Unstarted, Quiet not in Claiming */
+};
+
+/* What a message's answer names as written, and the PGN that a network message comes with. */
+#define DEORASAENG_NETWORK_MESSAGE_PGN 60672
+#define DEORASAENG_ACKNOWLEDGMENT_PGN 59392
 
 /* Published lengths: of the record and of one port's queue in it, in words; of a reply buffer at least, and of a frame's bytes, in bytes. */
 #define DEORASAENG_RECORD_WORDS 1180
@@ -59,7 +90,7 @@ enum deorasaeng_take_word {
 
 /* The words of a message's answer. */
 enum deorasaeng_message_word {
-    DEORASAENG_PGN = 0,       /* 60672 for a reply, 59392 for an acknowledgment, 0 for nothing written */
+    DEORASAENG_PGN = 0,       /* DEORASAENG_NETWORK_MESSAGE_PGN for a reply, DEORASAENG_ACKNOWLEDGMENT_PGN, or 0 for nothing written */
     DEORASAENG_WRITTEN = 1    /* how many bytes were written */
 };
 

@@ -2,6 +2,7 @@
 use crate::print;
 use crate::script;
 use crate::tally;
+use crate::words;
 use address_claims::Event;
 use bridge::FrameAnswer;
 use bridge::MessageAnswer;
@@ -9,6 +10,7 @@ use bridge::TakeAnswer;
 use queue::Frame;
 use queue::Taken;
 use script::Call;
+use script::Wrong;
 use unit::Unit;
 ghost use Prim.Native.Nat.{_≤_};
 ghost use lib.ListN.{length};
@@ -16,12 +18,14 @@ ghost use lib.ListN.{length};
 // How many words the unit's record takes.
 pub const RECORD_LENGTH: usize = Unit::RECORD_LENGTH;
 
-// A line that is no call, or a call without a unit.
-fn no_call(counts: &mut [u64], out: &mut [u8]) -> usize
+// A line that is no call, or a call without a unit: its number and why.
+fn no_call(counts: &mut [u64], why: Wrong, out: &mut [u8]) -> usize
     ensures { λ r. ⌜ r ≤ length (now (out .entry)) ⌝ }
 {
-    tally::count(counts, tally::NO_CALL);
-    print::text(out, 0, b"?")
+    tally::no_call(counts);
+    let at = print::count(out, 0, b"? line ", tally::get(counts, tally::LINES));
+    let at = print::text(out, at, b": ");
+    words::wrong(out, at, why)
 }
 
 // Power-on.
@@ -224,6 +228,15 @@ fn message(
     message_answer(out, a, &reply)
 }
 
+// Whether nothing is wrong.
+fn is_nothing(why: Wrong) -> bool {
+    if let Wrong::Nothing = why {
+        true
+    } else {
+        false
+    }
+}
+
 // The one call that needs no unit.
 fn is_power_on(call: Call) -> bool {
     if let Call::PowerOn {
@@ -247,17 +260,20 @@ fn make(words: &mut [u64], counts: &mut [u64], line: &[u8], call: Call, out: &mu
         Call::Frame { port, id } => frame(words, counts, line, port, id, out),
         Call::Take { port } => take(words, counts, port, out),
         Call::Message { port, requester } => message(words, counts, line, port, requester, out),
-        Call::Nothing => no_call(counts, out),
     }
 }
 
-// The answer to a line: it is in `out`, and its length comes back. Before the first power-on there is no unit to call.
+// The answer to a line without blanks at its ends: it is in `out`, and its length comes back. Before the first power-on there is no unit to call.
 pub fn answer(words: &mut [u64], counts: &mut [u64], line: &[u8], out: &mut [u8]) -> usize
     ensures { λ r. ⌜ r ≤ length (now (out .entry)) ⌝ }
 {
+    let why = script::what_is_wrong(line);
+    if !is_nothing(why) {
+        return no_call(counts, why, out);
+    }
     let call = script::read_call(line);
     if is_power_on(call) || tally::is_on(counts) {
         return make(words, counts, line, call, out);
     }
-    no_call(counts, out)
+    no_call(counts, Wrong::NoUnit, out)
 }

@@ -1,10 +1,14 @@
-// A script of calls from standard input on the proved unit: one line for each answer, then a summary.
+// A script of calls from standard input on the proved unit: each call beside its answer, or with --plain the answers alone, then a summary. What fails is told on
+// standard error, and at the end how many lines are no call: a program has no status of its own, and the script `./replay` makes one of that.
 mod calls;
+mod lines;
 mod print;
 mod script;
 mod summary;
 mod tally;
+mod words;
 
+use libc::STDERR_FILENO;
 use libc::STDIN_FILENO;
 ghost use Prim.Native.Nat.{_≤_};
 ghost use lib.ListN.{length};
@@ -15,43 +19,60 @@ struct Turn {
     len: usize,
 }
 
-// An empty line and a comment are passed over; any other line is answered by one.
-fn pass_line(words: &mut [u64], counts: &mut [u64], line: &[u8]) {
-    if line.len() == 0 {
-        return;
-    }
-    if line[0] == b'#' {
-        return;
-    }
-    let mut out = [0u8; 4096];
-    let n = calls::answer(words, counts, line, &mut out);
-    print::finish(&mut out, n);
+// What the arguments ask for.
+enum Output {
+    Beside,
+    Plain,
+    Unknown,
 }
 
-// The length of a line without the carriage return before its end.
-fn trimmed(line: &[u8], len: usize) -> usize
-    requires { ⌜ len ≤ length (now line) ⌝ }
-    ensures { λ r. ⌜ r ≤ length (now (line .entry)) ⌝ }
-{
-    if 0 < len {
-        if line[len - 1] == b'\r' {
-            return len - 1;
+// A byte that a line has no room for stands at its end, unless it is a blank: so a line that is too long is known by its length.
+fn overflow(line: &mut [u8], byte: u8) {
+    let n = line.len();
+    if 0 < n {
+        if !script::is_blank(byte) {
+            line[n - 1] = byte;
         }
     }
-    len
 }
 
-// One byte of the input: the line goes on, or is whole.
-fn feed(words: &mut [u64], counts: &mut [u64], line: &mut [u8], len: usize, byte: u8) -> usize
+// A line that has begun, unless it is the first and has only a byte-order mark so far.
+fn past_mark(counts: &[u64], line: &[u8]) -> usize
+    ensures { λ r. ⌜ r ≤ length (now (line .entry)) ⌝ }
+{
+    if tally::get(counts, tally::LINES) == 0 {
+        if script::is_mark(line) {
+            return 0;
+        }
+    }
+    line.len()
+}
+
+// One byte of the input: the line goes on, or is whole. Blanks at its beginning are passed over.
+fn feed(
+    words: &mut [u64],
+    counts: &mut [u64],
+    line: &mut [u8],
+    len: usize,
+    byte: u8,
+    is_plain: bool,
+) -> usize
     requires { ⌜ len ≤ length (now line) ⌝ }
     ensures { λ r. ⌜ r ≤ length (now (line .entry)) ⌝ }
 {
-    if byte != b'\n' {
-        return print::byte(line, len, byte);
+    if byte == b'\n' {
+        lines::pass(words, counts, &line[0..len], is_plain);
+        return 0;
     }
-    let end = trimmed(line, len);
-    pass_line(words, counts, &line[0..end]);
-    0
+    if len == 0 && script::is_blank(byte) {
+        return 0;
+    }
+    if len == line.len() {
+        overflow(line, byte);
+        return len;
+    }
+    let next = print::byte(line, len, byte);
+    past_mark(counts, &line[0..next])
 }
 
 // Bytes of the input.
@@ -61,6 +82,7 @@ fn feed_all(
     line: &mut [u8],
     len: usize,
     bytes: &[u8],
+    is_plain: bool,
 ) -> usize
     requires { ⌜ len ≤ length (now line) ⌝ }
     ensures { λ r. ⌜ r ≤ length (now (line .entry)) ⌝ }
@@ -68,36 +90,51 @@ fn feed_all(
     let mut next = len;
     let mut i = 0;
     while i < bytes.len() {
-        next = feed(words, counts, line, next, bytes[i]);
+        next = feed(words, counts, line, next, bytes[i], is_plain);
         i += 1;
     }
     next
 }
 
-// One read of the input.
-fn read_some(words: &mut [u64], counts: &mut [u64], line: &mut [u8], len: usize) -> Turn
+// What a read answered, where it failed.
+fn note_failure(counts: &mut [u64], got: isize) {
+    if got < 0 {
+        os::fail(b"replay: cannot read the script");
+        tally::count(counts, tally::FAILED);
+    }
+}
+
+// One read of the input. There is no more after one that failed, nor after a write that did.
+fn read_some(
+    words: &mut [u64],
+    counts: &mut [u64],
+    line: &mut [u8],
+    len: usize,
+    is_plain: bool,
+) -> Turn
     requires { ⌜ len ≤ length (now line) ⌝ }
     ensures { λ r. ⌜ r .len ≤ length (now (line .entry)) ⌝ }
 {
     let mut buffer = io::large_buffer();
     let got = libc::read(STDIN_FILENO, &mut buffer);
+    note_failure(counts, got);
     let n = io::count(got, &buffer);
-    let next = feed_all(words, counts, line, len, &buffer[..n]);
+    let next = feed_all(words, counts, line, len, &buffer[..n], is_plain);
     Turn {
-        more: 0 < n,
+        more: 0 < n && !tally::has_failed(counts),
         len: next,
     }
 }
 
 // The whole input. A proved loop has to end, and nothing says that the input does: so the turns are counted, from a number that no run uses up.
-fn read_all(words: &mut [u64], counts: &mut [u64], line: &mut [u8]) -> usize
+fn read_all(words: &mut [u64], counts: &mut [u64], line: &mut [u8], is_plain: bool) -> usize
     ensures { λ r. ⌜ r ≤ length (now (line .entry)) ⌝ }
 {
     let mut len = 0;
     let mut more = true;
     let mut turns = u64::MAX;
     while 0 < turns && more {
-        let turn = read_some(words, counts, line, len);
+        let turn = read_some(words, counts, line, len, is_plain);
         len = turn.len;
         more = turn.more;
         turns -= 1;
@@ -105,16 +142,71 @@ fn read_all(words: &mut [u64], counts: &mut [u64], line: &mut [u8]) -> usize
     len
 }
 
-// A script, whether its last line is ended or not, and the summary. A line has room for two bytes more than it may have: for a carriage return, and for
-// one by which a longer line is known.
-fn main() {
+// What the script `./replay` looks for: that all was read and written, and how many lines are no call.
+fn tell(counts: &[u64]) {
+    if tally::has_failed(counts) {
+        return;
+    }
+    let mut space = [0u8; 64];
+    let out: &mut [u8] = &mut space;
+    let n = tally::get(counts, tally::NO_CALL);
+    let at = print::count(out, 0, b"replay: lines that are no call: ", n);
+    let end = print::byte(out, at, b'\n');
+    let written = &out[..];
+    io::write_all(STDERR_FILENO, &written[0..end]);
+}
+
+// A script, whether its last line is ended or not, and the summary. A line has room for one byte more than it may have, by which a longer line is known.
+fn run(is_plain: bool) {
     let mut record = [0u64; calls::RECORD_LENGTH];
     let mut tallied = [0u64; tally::LENGTH];
-    let mut space = [0u8; script::LONGEST_LINE + 2];
+    let mut space = [0u8; script::LONGEST_LINE + 1];
     let words: &mut [u64] = &mut record;
     let counts: &mut [u64] = &mut tallied;
     let line: &mut [u8] = &mut space;
-    let len = read_all(words, counts, line);
-    pass_line(words, counts, &line[0..len]);
-    summary::write(line, counts);
+    let len = read_all(words, counts, line, is_plain);
+    if 0 < len {
+        lines::pass(words, counts, &line[0..len], is_plain);
+    }
+    summary::write(counts, line);
+    tell(counts);
+}
+
+// Whether two words are the same.
+fn is_same(a: &[u8], b: &[u8]) -> bool {
+    if a.len() != b.len() {
+        return false;
+    }
+    let mut i = 0;
+    while i < a.len() && i < b.len() {
+        if a[i] != b[i] {
+            return false;
+        }
+        i += 1;
+    }
+    true
+}
+
+// The one argument that there may be.
+fn output_asked() -> Output {
+    let n = os::arg_count();
+    if n < 2 {
+        return Output::Beside;
+    }
+    let mut buffer = io::buffer();
+    let k = os::arg(1, &mut buffer);
+    if 2 < n || !is_same(&buffer[..k], b"--plain") {
+        return Output::Unknown;
+    }
+    Output::Plain
+}
+
+fn main() {
+    match output_asked() {
+        Output::Beside => run(false),
+        Output::Plain => run(true),
+        Output::Unknown => {
+            io::write_all(STDERR_FILENO, b"replay: the one argument is --plain\n");
+        }
+    }
 }

@@ -1,4 +1,5 @@
 // A line that is being made: each function puts something into `out` at a place and answers the next place. What has no room is left out.
+use crate::tally;
 use libc::STDOUT_FILENO;
 ghost use Prim.Native.Nat.{_≤_};
 ghost use lib.ListN.{length};
@@ -137,10 +138,29 @@ pub fn ports(out: &mut [u8], at: usize, mask: u32) -> usize
     next
 }
 
-// The line's end; the line is written.
-pub fn finish(out: &mut [u8], at: usize)
+// Blanks up to a column.
+pub fn pad(out: &mut [u8], at: usize, column: usize) -> usize
+    requires { ⌜ at ≤ length (now out) ⌝ }
+    ensures { λ r. ⌜ r ≤ length (now (out .entry)) ⌝ }
+{
+    let mut next = at;
+    while next < column && next < out.len() {
+        out[next] = b' ';
+        next += 1;
+    }
+    next
+}
+
+// The line's end; the line is written. The first write that fails is told on standard error, and none is made after it.
+pub fn finish(counts: &mut [u64], out: &mut [u8], at: usize)
     requires { ⌜ at ≤ length (now out) ⌝ }
 {
+    if tally::has_failed(counts) {
+        return;
+    }
     let end = byte(out, at, b'\n');
-    io::write_all(STDOUT_FILENO, &out[0..end]);
+    if !io::write_all(STDOUT_FILENO, &out[0..end]) {
+        os::fail(b"replay: cannot write");
+        tally::count(counts, tally::FAILED);
+    }
 }

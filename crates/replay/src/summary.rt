@@ -1,52 +1,42 @@
 // The summary of a script: the calls of each kind, what came of them, and what became of frames at each port.
 use crate::print;
 use crate::tally;
+use crate::words;
 use std::num::wrapping_sub_u64;
 ghost use Prim.Native.Nat.{_≤_, _<_};
 ghost use lib.ListN.{length};
 
-// One number and how many calls it refused.
-fn refusal(out: &mut [u8], at: usize, is_first: bool, number: usize, n: u64) -> usize
-    requires { ⌜ at ≤ length (now out) ⌝ }
-    ensures { λ r. ⌜ r ≤ length (now (out .entry)) ⌝ }
-{
-    if is_first {
-        let next = print::count(out, at, b" (", number as u64);
-        return print::count(out, next, b": ", n);
+// One number, its words and how many calls it refused, as a line; nothing where it refused none.
+fn refusal(counts: &mut [u64], out: &mut [u8], number: usize, n: u64) {
+    if n == 0 {
+        return;
     }
-    let next = print::count(out, at, b", ", number as u64);
-    print::count(out, next, b": ", n)
+    let at = print::text(out, 0, b"    ");
+    let at = words::number(out, at, number as u64);
+    let at = print::count(out, at, b": ", n);
+    print::finish(counts, out, at);
 }
 
-// The numbers that refused calls of a kind, rising, in parentheses; nothing where none was refused.
-fn by_number(out: &mut [u8], at: usize, counts: &[u64], kind: usize) -> usize
-    requires { ⌜ (at ≤ length (now out)) × (kind < 1000) ⌝ }
-    ensures { λ r. ⌜ r ≤ length (now (out .entry)) ⌝ }
+// A line for each number that refused calls of a kind, rising.
+fn by_number(counts: &mut [u64], out: &mut [u8], kind: usize)
+    requires { ⌜ kind < 1000 ⌝ }
 {
-    let mut next = at;
-    let mut is_first = true;
     let mut number = 1;
     while number < tally::NUMBERS {
         let n = tally::get(counts, kind + number);
-        if 0 < n {
-            next = refusal(out, next, is_first, number, n);
-            is_first = false;
-        }
+        refusal(counts, out, number, n);
         number += 1;
     }
-    if is_first {
-        return next;
-    }
-    print::byte(out, next, b')')
 }
 
-// How many calls of a kind were refused, and the line's end.
-fn refusals(out: &mut [u8], at: usize, counts: &[u64], kind: usize)
+// How many calls of a kind were refused, the line's end, and a line for each number.
+fn refusals(counts: &mut [u64], out: &mut [u8], at: usize, kind: usize)
     requires { ⌜ (at ≤ length (now out)) × (kind < 1000) ⌝ }
 {
-    let next = print::count(out, at, b", refused ", tally::sum(counts, kind, 1));
-    let end = by_number(out, next, counts, kind);
-    print::finish(out, end);
+    let n = tally::sum(counts, kind, 1);
+    let end = print::count(out, at, b", refused ", n);
+    print::finish(counts, out, end);
+    by_number(counts, out, kind);
 }
 
 // A word, the calls of a kind, another word, and how many of them.
@@ -58,7 +48,7 @@ fn head(out: &mut [u8], word: &[u8], calls: u64, what: &[u8], n: u64) -> usize
 }
 
 // Power-ons, and lines that are no call.
-fn power_ons(out: &mut [u8], counts: &[u64]) {
+fn power_ons(counts: &mut [u64], out: &mut [u8]) {
     let calls = tally::sum(counts, tally::POWER_ON, 0);
     let others = tally::get(counts, tally::NO_CALL);
     let at = head(
@@ -68,11 +58,11 @@ fn power_ons(out: &mut [u8], counts: &[u64]) {
         b", lines that are no call ",
         others,
     );
-    print::finish(out, at);
+    print::finish(counts, out, at);
 }
 
 // Calls of a kind that were done or refused.
-fn done(out: &mut [u8], word: &[u8], what: &[u8], counts: &[u64], kind: usize)
+fn done(counts: &mut [u64], out: &mut [u8], word: &[u8], what: &[u8], kind: usize)
     requires { ⌜ kind < 1000 ⌝ }
 {
     let at = head(
@@ -82,25 +72,25 @@ fn done(out: &mut [u8], word: &[u8], what: &[u8], counts: &[u64], kind: usize)
         what,
         tally::get(counts, kind),
     );
-    refusals(out, at, counts, kind);
+    refusals(counts, out, at, kind);
 }
 
 // Start and Quiet.
-fn claims(out: &mut [u8], counts: &[u64]) {
-    done(out, b"Start ", b": done ", counts, tally::START);
-    done(out, b"Quiet ", b": done ", counts, tally::QUIET);
+fn claims(counts: &mut [u64], out: &mut [u8]) {
+    done(counts, out, b"Start ", b": done ", tally::START);
+    done(counts, out, b"Quiet ", b": done ", tally::QUIET);
 }
 
 // Frames: how many the unit consumed.
-fn frames(out: &mut [u8], counts: &[u64]) {
+fn frames(counts: &mut [u64], out: &mut [u8]) {
     let calls = tally::sum(counts, tally::FRAME, 0);
     let consumed = tally::get(counts, tally::CONSUMED);
     let at = head(out, b"frames ", calls, b": consumed ", consumed);
-    refusals(out, at, counts, tally::FRAME);
+    refusals(counts, out, at, tally::FRAME);
 }
 
 // What became of frames at a port, by its index from 0.
-fn port(out: &mut [u8], counts: &[u64], index: usize)
+fn port(counts: &mut [u64], out: &mut [u8], index: usize)
     requires { ⌜ index < 4 ⌝ }
 {
     let accepted = tally::get(counts, tally::ACCEPTED + index);
@@ -111,34 +101,44 @@ fn port(out: &mut [u8], counts: &[u64], index: usize)
     let at = print::count(out, at, b", stopped ", stopped);
     let at = print::count(out, at, b", lost ", lost);
     let at = print::count(out, at, b", own lost ", own_lost);
-    print::finish(out, at);
+    print::finish(counts, out, at);
 }
 
 // All four ports.
-fn ports(out: &mut [u8], counts: &[u64]) {
-    port(out, counts, 0);
-    port(out, counts, 1);
-    port(out, counts, 2);
-    port(out, counts, 3);
+fn ports(counts: &mut [u64], out: &mut [u8]) {
+    port(counts, out, 0);
+    port(counts, out, 1);
+    port(counts, out, 2);
+    port(counts, out, 3);
 }
 
 // Takes: how many gave a frame, and how many found nothing waiting.
-fn takes(out: &mut [u8], counts: &[u64]) {
+fn takes(counts: &mut [u64], out: &mut [u8]) {
     let calls = tally::sum(counts, tally::TAKE, 0);
     let given = tally::get(counts, tally::GIVEN);
     let nothing = wrapping_sub_u64(tally::get(counts, tally::TAKE), given);
     let at = head(out, b"takes ", calls, b": given ", given);
     let at = print::count(out, at, b", nothing waiting ", nothing);
-    refusals(out, at, counts, tally::TAKE);
+    refusals(counts, out, at, tally::TAKE);
 }
 
-// The summary, after an empty line.
-pub fn write(out: &mut [u8], counts: &[u64]) {
-    print::finish(out, 0);
-    power_ons(out, counts);
-    claims(out, counts);
-    frames(out, counts);
-    ports(out, counts);
-    takes(out, counts);
-    done(out, b"messages ", b": answered ", counts, tally::MESSAGE);
+// Power-ons, Start and Quiet, after an empty line.
+fn beginnings(counts: &mut [u64], out: &mut [u8]) {
+    print::finish(counts, out, 0);
+    power_ons(counts, out);
+    claims(counts, out);
+}
+
+// Frames, what became of them at each port, and takes.
+fn traffic(counts: &mut [u64], out: &mut [u8]) {
+    frames(counts, out);
+    ports(counts, out);
+    takes(counts, out);
+}
+
+// The summary.
+pub fn write(counts: &mut [u64], out: &mut [u8]) {
+    beginnings(counts, out);
+    traffic(counts, out);
+    done(counts, out, b"messages ", b": answered ", tally::MESSAGE);
 }

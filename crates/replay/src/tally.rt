@@ -33,8 +33,16 @@ pub const GIVEN: usize = ACCEPTED + 17;
 
 pub const NO_CALL: usize = ACCEPTED + 18;
 
+// Lines read, and reads and writes that failed.
+pub const LINES: usize = ACCEPTED + 19;
+
+pub const FAILED: usize = ACCEPTED + 20;
+
+// The number that refused the last call, 0 for none.
+pub const LAST: usize = ACCEPTED + 21;
+
 // How many words the counts take.
-pub const LENGTH: usize = ACCEPTED + 19;
+pub const LENGTH: usize = ACCEPTED + 22;
 
 // One more.
 pub fn count(counts: &mut [u64], place: usize) {
@@ -46,14 +54,28 @@ pub fn count(counts: &mut [u64], place: usize) {
     }
 }
 
+// The number that the last call was refused with.
+fn keep_last(counts: &mut [u64], number: u32) {
+    if LAST < counts.len() {
+        counts[LAST] = number as u64;
+    }
+}
+
 // A call of a kind, and the number that it was refused with, or 0.
 pub fn call(counts: &mut [u64], kind: usize, number: u32)
     requires { ⌜ kind < 1000 ⌝ }
 {
+    keep_last(counts, number);
     let n = number as usize;
     if n < NUMBERS {
         count(counts, kind + n);
     }
+}
+
+// A line that is no call.
+pub fn no_call(counts: &mut [u64]) {
+    count(counts, NO_CALL);
+    keep_last(counts, 0);
 }
 
 // One more at each port of a mask.
@@ -116,4 +138,9 @@ pub fn sum(counts: &[u64], kind: usize, from: usize) -> u64
 // Whether there is a unit: a power-on was done.
 pub fn is_on(counts: &[u64]) -> bool {
     0 < get(counts, POWER_ON)
+}
+
+// Whether a read or a write failed; nothing is done after that.
+pub fn has_failed(counts: &[u64]) -> bool {
+    0 < get(counts, FAILED)
 }

@@ -5,11 +5,10 @@ use std::io::{self, Read};
 use reference::coverage::Coverage;
 
 fn main() -> io::Result<()> {
-    let mut bytes = Vec::new();
-    io::stdin().read_to_end(&mut bytes)?;
-    let text = String::from_utf8_lossy(&bytes);
+    let mut script = Vec::new();
+    io::stdin().read_to_end(&mut script)?;
     let mut coverage = Coverage::default();
-    coverage.count_script(&text);
+    coverage.count_script(&script);
     for line in coverage.table() {
         println!("{line}");
     }

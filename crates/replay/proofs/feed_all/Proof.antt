@@ -7,10 +7,10 @@ use Rattle.replay.proofs.feed_all.Statement.{statement}
 use Rattle.replay.proofs.feed_all.Tie as tie
 
 abbrev Inv-loop : tie.InvT-loop
-Inv-loop words₀ counts₀ line₀ len bytes next₀ i₀ words counts line next i = (next ≤ length line₀) × (length line ≡ length line₀) × (length words ≡ length words₀) × (length counts ≡ length counts₀)
+Inv-loop words₀ counts₀ line₀ len bytes is-plain next₀ i₀ words counts line next i = (next ≤ length line₀) × (length line ≡ length line₀) × (length words ≡ length words₀) × (length counts ≡ length counts₀)
 
 abbrev μ-loop : tie.MeasureT-loop
-μ-loop words₀ counts₀ line₀ len bytes next₀ i₀ words counts line next i = length bytes - i
+μ-loop words₀ counts₀ line₀ len bytes is-plain next₀ i₀ words counts line next i = length bytes - i
 
 loop-holds : tie.Need-loop-holds Inv-loop μ-loop
 loop-holds c = search needs

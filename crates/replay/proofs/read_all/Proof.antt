@@ -7,10 +7,10 @@ use Rattle.replay.proofs.read_all.Statement.{statement}
 use Rattle.replay.proofs.read_all.Tie as tie
 
 abbrev Inv-loop : tie.InvT-loop
-Inv-loop words₀ counts₀ line₀ len₀ more₀ turns₀ words counts line len more turns = (len ≤ length line₀) × (length line ≡ length line₀) × (length words ≡ length words₀) × (length counts ≡ length counts₀)
+Inv-loop words₀ counts₀ line₀ is-plain len₀ more₀ turns₀ words counts line len more turns = (len ≤ length line₀) × (length line ≡ length line₀) × (length words ≡ length words₀) × (length counts ≡ length counts₀)
 
 abbrev μ-loop : tie.MeasureT-loop
-μ-loop words₀ counts₀ line₀ len₀ more₀ turns₀ words counts line len more turns = turns
+μ-loop words₀ counts₀ line₀ is-plain len₀ more₀ turns₀ words counts line len more turns = turns
 
 loop-holds : tie.Need-loop-holds Inv-loop μ-loop
 loop-holds c = search needs

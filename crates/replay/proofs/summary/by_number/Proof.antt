@@ -1,5 +1,4 @@
--- `by_number` meets its contract: the place stays within the line. Assumes nothing.
-use mathlib.Core.Logic.{⊎-elim}
+-- `by_number` meets its contract: the lent slices keep their lengths, and the numbers are those below 19. Assumes nothing.
 use mathlib.Core.Path.{_≡_}
 use Prim.Native.Nat.{_-_, _≤_}
 use borrow.Author.Needs.{needs}
@@ -8,10 +7,10 @@ use Rattle.replay.proofs.summary.by_number.Statement.{statement}
 use Rattle.replay.proofs.summary.by_number.Tie as tie
 
 abbrev Inv-loop : tie.InvT-loop
-Inv-loop out₀ at counts kind next₀ is-first₀ number₀ out next is-first number = (next ≤ length out₀) × (length out ≡ length out₀) × (number ≤ 19)
+Inv-loop counts₀ out₀ kind number₀ counts out number = (length counts ≡ length counts₀) × (length out ≡ length out₀) × (number ≤ 19)
 
 abbrev μ-loop : tie.MeasureT-loop
-μ-loop out₀ at counts kind next₀ is-first₀ number₀ out next is-first number = 19 - number
+μ-loop counts₀ out₀ kind number₀ counts out number = 19 - number
 
 loop-holds : tie.Need-loop-holds Inv-loop μ-loop
 loop-holds c = search needs
@@ -32,22 +31,16 @@ loop-less : tie.Need-loop-less Inv-loop μ-loop
 loop-less c = search needs
 
 loop-again : tie.Need-loop-again Inv-loop μ-loop
-loop-again c = ⊎-elim (λ w. search needs) (λ w. search needs) (c .if1 .came)
+loop-again c = search needs
 
 same-length : tie.Need-same-length Inv-loop μ-loop
 same-length c = search needs
 
-returns : tie.Need-returns Inv-loop μ-loop
-returns c = search needs
-
-byte-requires : tie.Need-byte-requires Inv-loop μ-loop
-byte-requires c κs = search needs
-
 same-length-2 : tie.Need-same-length-2 Inv-loop μ-loop
 same-length-2 c = search needs
 
-returns-2 : tie.Need-returns-2 Inv-loop μ-loop
-returns-2 c = search needs
+returns : tie.Need-returns Inv-loop μ-loop
+returns c = search needs
 
 pub by-number-spec : {M : Type 1} → statement M
 by-number-spec =
@@ -63,7 +56,5 @@ by-number-spec =
     loop-less
     loop-again
     same-length
-    returns
-    byte-requires
     same-length-2
-    returns-2)
+    returns)

@@ -1,9 +1,9 @@
--- `space` meets its contract: the place is never before `from` nor past the end. Assumes nothing.
+-- `past_blanks` meets its contract: the place is never before `from` nor past the end. Assumes nothing.
 use Prim.Native.Nat.{_-_, _≤_}
 use borrow.Author.Needs.{needs}
 use lib.ListN.{length}
-use Rattle.replay.proofs.script.space.Statement.{statement}
-use Rattle.replay.proofs.script.space.Tie as tie
+use Rattle.replay.proofs.script.past_blanks.Statement.{statement}
+use Rattle.replay.proofs.script.past_blanks.Tie as tie
 
 abbrev Inv-loop : tie.InvT-loop
 Inv-loop line from i₀ i = (from ≤ i) × (i ≤ length line)
@@ -14,8 +14,11 @@ abbrev μ-loop : tie.MeasureT-loop
 loop-holds : tie.Need-loop-holds Inv-loop μ-loop
 loop-holds c = search needs
 
-shared-slice-read-if1 : tie.Need-shared-slice-read-if1 Inv-loop μ-loop
-shared-slice-read-if1 c = search needs
+shared-slice-read-is-blank : tie.Need-shared-slice-read-is-blank Inv-loop μ-loop
+shared-slice-read-is-blank c = search needs
+
+is-blank-requires : tie.Need-is-blank-requires Inv-loop μ-loop
+is-blank-requires c κs = search needs
 
 returns : tie.Need-returns Inv-loop μ-loop
 returns c = search needs
@@ -32,14 +35,15 @@ loop-again c = search needs
 returns-2 : tie.Need-returns-2 Inv-loop μ-loop
 returns-2 c = search needs
 
-pub space-spec : {M : Type 1} → statement M
-space-spec =
+pub past-blanks-spec : {M : Type 1} → statement M
+past-blanks-spec =
     tie.close
     (tie.spec
     Inv-loop
     μ-loop
     loop-holds
-    shared-slice-read-if1
+    shared-slice-read-is-blank
+    is-blank-requires
     returns
     add-i
     loop-less

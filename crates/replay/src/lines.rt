@@ -1,0 +1,94 @@
+// One line of a script: passed over or answered, and what is written for it.
+use crate::calls;
+use crate::print;
+use crate::script;
+use crate::tally;
+use crate::words;
+ghost use Prim.Native.Nat.{_≤_};
+ghost use lib.ListN.{length};
+
+// Where an answer stands beside its call.
+const COLUMN: usize = 36;
+
+// The part of a line that is shown: all that a call can have.
+fn shown_length(line: &[u8]) -> usize
+    ensures { λ r. ⌜ r ≤ length (now (line .entry)) ⌝ }
+{
+    if script::LONGEST_LINE < line.len() {
+        return script::LONGEST_LINE;
+    }
+    line.len()
+}
+
+// A line that is passed over, as it is.
+fn show(counts: &mut [u64], line: &[u8]) {
+    let mut space = [0u8; 8192];
+    let out: &mut [u8] = &mut space;
+    let n = shown_length(line);
+    let at = print::text(out, 0, &line[0..n]);
+    print::finish(counts, out, at);
+}
+
+// The words of the number that refused the last call, in parentheses; nothing for a call that was done.
+fn told(counts: &[u64], out: &mut [u8], at: usize) -> usize
+    requires { ⌜ at ≤ length (now out) ⌝ }
+    ensures { λ r. ⌜ r ≤ length (now (out .entry)) ⌝ }
+{
+    let last = tally::get(counts, tally::LAST);
+    if last == 0 {
+        return at;
+    }
+    let next = print::text(out, at, b"  (");
+    let next = words::number(out, next, last);
+    print::byte(out, next, b')')
+}
+
+// A call, its answer, and the words of a refusal.
+fn show_beside(counts: &mut [u64], line: &[u8], answer: &[u8]) {
+    let mut space = [0u8; 8192];
+    let out: &mut [u8] = &mut space;
+    let n = shown_length(line);
+    let at = print::text(out, 0, &line[0..n]);
+    let at = print::pad(out, at, COLUMN);
+    let at = print::text(out, at, b"  ");
+    let at = print::text(out, at, answer);
+    let at = told(counts, out, at);
+    print::finish(counts, out, at);
+}
+
+// Whether a line without blanks at its ends is empty or a comment.
+fn is_passed_over(line: &[u8]) -> bool {
+    if line.len() == 0 {
+        return true;
+    }
+    line[0] == b'#'
+}
+
+// A line without blanks at its ends: an answer for each call, the call beside it unless plain.
+fn answer(words: &mut [u64], counts: &mut [u64], line: &[u8], is_plain: bool) {
+    if is_passed_over(line) {
+        if !is_plain {
+            show(counts, line);
+        }
+        return;
+    }
+    let mut space = [0u8; 4096];
+    let out: &mut [u8] = &mut space;
+    let n = calls::answer(words, counts, line, out);
+    if is_plain {
+        print::finish(counts, out, n);
+        return;
+    }
+    let written = &out[..];
+    show_beside(counts, line, &written[0..n]);
+}
+
+// A whole line of the script; it begins with no blank.
+pub fn pass(words: &mut [u64], counts: &mut [u64], line: &[u8], is_plain: bool) {
+    if tally::has_failed(counts) {
+        return;
+    }
+    tally::count(counts, tally::LINES);
+    let end = script::end_of(line);
+    answer(words, counts, &line[0..end], is_plain);
+}

@@ -1,0 +1,221 @@
+// Any encoded list of calls, run by `witness::replay`. Standard input has numbers in hex: the NAME, the preferred address, how many calls there are, five words for each
+// call, and the bytes of all calls; what stands behind a # is passed over. A line for each call, its answer's eight words, and how many frames wait at each port.
+use bridge::Unit;
+use libc::STDIN_FILENO;
+use libc::STDOUT_FILENO;
+ghost use Prim.Native.Nat.{_+_, _*_, _≤_};
+ghost use lib.ListN.{length};
+
+// How many numbers, bytes and calls there is room for.
+const NUMBERS: usize = 16384;
+
+const BYTES: usize = 8192;
+
+const CALLS: usize = 1024;
+
+// A number that is being read, whether it has a digit, and whether a comment goes on.
+struct Reading {
+    value: u64,
+    has_digit: bool,
+    in_comment: bool,
+}
+
+// The value of a hex digit, 16 where a byte is none.
+fn digit(byte: u8) -> u8
+    ensures { λ r. ⌜ r ≤ 16 ⌝ }
+{
+    match byte {
+        b'0'..=b'9' => byte - b'0',
+        b'A'..=b'F' => byte - b'A' + 10,
+        b'a'..=b'f' => byte - b'a' + 10,
+        _ => 16,
+    }
+}
+
+// What is read after one byte more; the number is whole where the byte is no digit.
+fn after(reading: Reading, byte: u8) -> Reading {
+    if byte == b'\n' {
+        return Reading {
+            value: 0,
+            has_digit: false,
+            in_comment: false,
+        };
+    }
+    if reading.in_comment || byte == b'#' {
+        return Reading {
+            value: 0,
+            has_digit: false,
+            in_comment: true,
+        };
+    }
+    let d = digit(byte);
+    if d == 16 {
+        return Reading {
+            value: 0,
+            has_digit: false,
+            in_comment: false,
+        };
+    }
+    Reading {
+        value: (reading.value << 4) | d as u64,
+        has_digit: true,
+        in_comment: false,
+    }
+}
+
+// A number at the end of the others, if there is room.
+fn push(numbers: &mut [u64], count: usize, value: u64) -> usize
+    requires { ⌜ count ≤ length (now numbers) ⌝ }
+    ensures { λ r. ⌜ r ≤ length (now (numbers .entry)) ⌝ }
+{
+    if count < numbers.len() {
+        numbers[count] = value;
+        return count + 1;
+    }
+    count
+}
+
+// The number before a byte, where that byte ends one.
+fn ended(numbers: &mut [u64], count: usize, reading: Reading, byte: u8) -> usize
+    requires { ⌜ count ≤ length (now numbers) ⌝ }
+    ensures { λ r. ⌜ r ≤ length (now (numbers .entry)) ⌝ }
+{
+    if reading.has_digit && digit(byte) == 16 {
+        return push(numbers, count, reading.value);
+    }
+    count
+}
+
+// The numbers of the text, each ended by a byte that is no digit; how many there are.
+fn read_numbers(text: &[u8], numbers: &mut [u64]) -> usize
+    ensures { λ r. ⌜ r ≤ length (now (numbers .entry)) ⌝ }
+{
+    let mut count = 0;
+    let mut reading = Reading {
+        value: 0,
+        has_digit: false,
+        in_comment: false,
+    };
+    let mut i = 0;
+    while i < text.len() {
+        let byte = text[i];
+        count = ended(numbers, count, reading, byte);
+        reading = after(reading, byte);
+        i += 1;
+    }
+    count
+}
+
+// The lower eight bits of each number, as many as there is room for; how many.
+fn copy_bytes(numbers: &[u64], bytes: &mut [u8]) -> usize
+    ensures { λ r. ⌜ r ≤ length (now (bytes .entry)) ⌝ }
+{
+    let mut i = 0;
+    while i < numbers.len() && i < bytes.len() {
+        bytes[i] = (numbers[i] % 256) as u8;
+        i += 1;
+    }
+    i
+}
+
+// A number in hex and what stands behind it.
+fn number(n: u64, behind: &[u8]) {
+    io::print_hex(STDOUT_FILENO, n, 1);
+    io::write_all(STDOUT_FILENO, behind);
+}
+
+// A word of an answer; the eighth ends its line.
+fn print_word(n: u64, is_last: bool) {
+    if is_last {
+        number(n, b"\n");
+        return;
+    }
+    number(n, b" ");
+}
+
+// The answers' words in hex, eight a line.
+fn print_answers(answers: &[u64]) {
+    let mut i = 0;
+    while i < answers.len() {
+        print_word(answers[i], i % 8 == 7);
+        i += 1;
+    }
+}
+
+// How many frames wait at a port, by the place of its queue in the record.
+fn print_waiting(words: &[u64], place: usize, behind: &[u8]) {
+    if place < words.len() {
+        number(words[place], behind);
+    }
+}
+
+fn print_record(words: &[u64]) {
+    io::write_all(STDOUT_FILENO, b"waiting ");
+    print_waiting(words, 412, b" ");
+    print_waiting(words, 477, b" ");
+    print_waiting(words, 542, b" ");
+    print_waiting(words, 607, b"\n");
+}
+
+// The lesser of two numbers.
+fn least(a: usize, b: usize) -> usize
+    ensures { λ r. ⌜ (r ≤ a) × (r ≤ b) ⌝ }
+{
+    if a < b {
+        return a;
+    }
+    b
+}
+
+// How many calls are made: as many as were said, have their words, and there is room for.
+fn calls_made(said: u64, numbers: usize) -> usize
+    requires { ⌜ 3 ≤ numbers ⌝ }
+    ensures { λ r. ⌜ (3 + 5 * r ≤ numbers) × (r ≤ 1024) ⌝ }
+{
+    let most = least((numbers - 3) / 5, CALLS);
+    least(said as usize, most)
+}
+
+// Power-on and the calls.
+fn run(numbers: &[u64])
+    requires { ⌜ 3 ≤ length (now numbers) ⌝ }
+{
+    let n = calls_made(numbers[2], numbers.len());
+    let end = 3 + 5 * n;
+    let mut record = [0u64; Unit::RECORD_LENGTH];
+    let mut space = [0u64; 8 * CALLS];
+    let mut bytes = [0u8; BYTES];
+    let mut reply = [0u8; 1785];
+    let answers: &mut [u64] = &mut space;
+    let k = copy_bytes(&numbers[end..], &mut bytes);
+    let refused = witness::replay(
+        &mut record,
+        numbers[0],
+        (numbers[1] % 4294967296) as u32,
+        &numbers[3..end],
+        &bytes[0..k],
+        &mut reply,
+        answers,
+    );
+    number(refused as u64, b"\n");
+    let written = &answers[..];
+    print_answers(&written[0..8 * n]);
+    print_record(&record);
+}
+
+fn main() {
+    let mut text = io::large_buffer();
+    let n = io::read_full(STDIN_FILENO, &mut text);
+    let mut space = [0u64; NUMBERS];
+    let numbers: &mut [u64] = &mut space;
+    let count = read_numbers(&text[..n], numbers);
+    if count < 3 {
+        io::write_all(
+            STDOUT_FILENO,
+            b"a NAME, a preferred address and a number of calls come first\n",
+        );
+        return;
+    }
+    let read = &numbers[..];
+    run(&read[0..count]);
+}

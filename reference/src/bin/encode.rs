@@ -1,0 +1,100 @@
+//! encode [--answers]: reads a script that begins with a power-on, prints its calls as the words that the crate `witness` takes, or what is answered.
+
+use std::io::{self, Read};
+use std::process::ExitCode;
+
+use reference::address::Event;
+use reference::run::made;
+use reference::script::{is_passed_over, lines_of, read_call, Answer, Call};
+use reference::unit::Unit;
+
+fn main() -> io::Result<ExitCode> {
+    let mut script = Vec::new();
+    io::stdin().read_to_end(&mut script)?;
+    let lines: Vec<&[u8]> = lines_of(&script).into_iter().filter(|line| !is_passed_over(line)).collect();
+    let calls: Vec<Call> = lines.iter().filter_map(|line| read_call(line).ok()).collect();
+    let [Call::PowerOn { name, preferred }, calls @ ..] = &calls[..] else {
+        eprintln!("encode: a power-on comes first");
+        return Ok(ExitCode::from(2));
+    };
+    if std::env::args().nth(1).is_some_and(|word| word == "--answers") {
+        print_answers(&lines);
+    } else {
+        println!("# NAME, preferred address, how many calls\n{name:X} {preferred:X} {:X}", calls.len());
+        print_calls(calls);
+    }
+    Ok(ExitCode::SUCCESS)
+}
+
+/// A line for each call: kind, port, argument, and where its bytes stand among all of them; then the bytes.
+fn print_calls(calls: &[Call]) {
+    let mut all: Vec<u8> = Vec::new();
+    println!("# kind, port, identifier or requester, first byte, last byte");
+    for call in calls {
+        let (kind, port, argument, bytes): (u32, u32, u32, &[u8]) = match call {
+            Call::Frame { port, id, bytes } => (0, *port, *id, bytes),
+            Call::Take { port } => (1, *port, 0, &[]),
+            Call::Message { port, requester, payload } => (2, *port, *requester, payload),
+            Call::Start => (3, 0, 0, &[]),
+            Call::Quiet => (4, 0, 0, &[]),
+            Call::PowerOn { .. } => panic!("encode: a second power-on"),
+        };
+        let first = all.len();
+        all.extend(bytes);
+        println!("{kind:X} {port:X} {argument:X} {first:X} {:X}", all.len());
+    }
+    println!("# the bytes");
+    for line in all.chunks(32) {
+        println!("{}", line.iter().map(|byte| format!("{byte:X}")).collect::<Vec<_>>().join(" "));
+    }
+}
+
+/// Power-on's number, a line for each answer, and how many frames wait at each port.
+fn print_answers(lines: &[&[u8]]) {
+    let mut unit: Option<Unit> = None;
+    println!("0");
+    for (i, line) in lines.iter().enumerate() {
+        let (_, answer) = made(&mut unit, line).expect("encode: a line that is no call");
+        if i > 0 {
+            println!("{}", words(&answer).map(|word| format!("{word:x}")).join(" "));
+        }
+    }
+    let unit = unit.expect("a power-on comes first");
+    println!("waiting {}", [1, 2, 3, 4].map(|port| format!("{:x}", unit.queues[&port].len())).join(" "));
+}
+
+/// An answer's eight words.
+fn words(answer: &Answer) -> [u64; 8] {
+    let number = u64::from(answer.number());
+    match answer {
+        Answer::Frame(Ok(told)) => {
+            let (event, old) = event_words(&told.event);
+            let compared = told.compared as u64;
+            [0, u64::from(told.consumed), mask(&told.accepted), mask(&told.lost), mask(&told.own_lost), compared, event, old]
+        }
+        Answer::Take(Ok(Some(frame))) => {
+            let bytes = frame.bytes.iter().rev().fold(0, |word, &byte| word << 8 | u64::from(byte));
+            [0, 1, u64::from(frame.id), frame.bytes.len() as u64, bytes, 0, 0, 0]
+        }
+        Answer::Message(told, _) => [number, u64::from(told.pgn), told.length as u64, 0, 0, 0, 0, 0],
+        Answer::Start(Ok(own_lost)) => [0, mask(own_lost), 0, 0, 0, 0, 0, 0],
+        _ => [number, 0, 0, 0, 0, 0, 0, 0],
+    }
+}
+
+fn mask(ports: &[u32]) -> u64 {
+    ports.iter().map(|port| 1 << (port - 1)).sum()
+}
+
+fn event_words(event: &Event) -> (u64, u64) {
+    match event {
+        Event::None => (0, 0),
+        Event::Withdrew => (1, 0),
+        Event::Defended => (2, 0),
+        Event::Displaced => (3, 0),
+        Event::Recorded => (4, 0),
+        Event::Refreshed => (5, 0),
+        Event::TookOver(old) => (6, *old),
+        Event::Beaten => (7, 0),
+    }
+}
