@@ -1,7 +1,21 @@
 // The 29-bit identifier of a frame: its six fields, its PGN and destination, and which identifiers are refused.
-// Every function takes any u32; of a wider number the lower 29 bits are read.
+// Every function takes any u32; of a wider number the lower 29 bits are read. docs/IDENTIFIER.md has the picture beside these lines.
 ghost use mathlib.Core.Path.{_≡_};
+ghost use mathlib.Core.Bool.{cond};
 ghost use Rattle.identifier.specs.Identifier.{priorityOf, extendedDataPageOf, dataPageOf, pfOf, psOf, saOf, hasDestination, pgnOf, destinationOf, isPgn, tooWide, sentWithoutAddress, wrongSource};
+
+// What a bit counts for: divided by that, a number has the bit in the last place.
+const BIT_26: u32 = 67108864;
+
+const BIT_25: u32 = 33554432;
+
+const BIT_24: u32 = 16777216;
+
+const BIT_17: u32 = 131072;
+
+const BIT_16: u32 = 65536;
+
+const BIT_8: u32 = 256;
 
 // The PGNs that an address claim is made of.
 pub const REQUEST: u32 = 59904;
@@ -14,42 +28,42 @@ pub const GLOBAL: u32 = 255;
 // The source address of one that holds no address.
 pub const NO_ADDRESS: u32 = 254;
 
-// The priority: 0 is the highest rank.
+// Bits 28 to 26, the priority: 0 is the highest rank.
 pub fn priority(id: u32) -> u32
     ensures { λ r. ⌜ r ≡ priorityOf id ⌝ }
 {
-    (id >> 26) % 8
+    id / BIT_26 % 8
 }
 
-// The extended data page.
+// Bit 25, the extended data page.
 pub fn extended_data_page(id: u32) -> u32
     ensures { λ r. ⌜ r ≡ extendedDataPageOf id ⌝ }
 {
-    (id >> 25) % 2
+    id / BIT_25 % 2
 }
 
-// The data page.
+// Bit 24, the data page.
 pub fn data_page(id: u32) -> u32
     ensures { λ r. ⌜ r ≡ dataPageOf id ⌝ }
 {
-    (id >> 24) % 2
+    id / BIT_24 % 2
 }
 
-// PF, the PDU format.
+// Bits 23 to 16, PF, the PDU format.
 pub fn pf(id: u32) -> u32
     ensures { λ r. ⌜ r ≡ pfOf id ⌝ }
 {
-    (id >> 16) % 256
+    id / BIT_16 % 256
 }
 
-// PS, the PDU-specific byte.
+// Bits 15 to 8, PS, the PDU-specific byte.
 pub fn ps(id: u32) -> u32
     ensures { λ r. ⌜ r ≡ psOf id ⌝ }
 {
-    (id >> 8) % 256
+    id / BIT_8 % 256
 }
 
-// SA, the source address.
+// Bits 7 to 0, SA, the source address.
 pub fn sa(id: u32) -> u32
     ensures { λ r. ⌜ r ≡ saOf id ⌝ }
 {
@@ -63,15 +77,21 @@ pub fn has_destination(id: u32) -> bool
     pf(id) < 240
 }
 
+// What PS is in the PGN: the group extension, or 0 where it is the destination.
+fn group_extension(id: u32) -> u32
+    ensures { λ r. ⌜ r ≡ cond (hasDestination id) 0 (psOf id) ⌝ }
+{
+    if has_destination(id) {
+        return 0;
+    }
+    ps(id)
+}
+
 // The PGN.
 pub fn pgn(id: u32) -> u32
     ensures { λ r. ⌜ r ≡ pgnOf id ⌝ }
 {
-    let number = (id >> 8) % 262144;
-    if has_destination(id) {
-        return number - number % 256;
-    }
-    number
+    extended_data_page(id) * BIT_17 + data_page(id) * BIT_16 + pf(id) * BIT_8 + group_extension(id)
 }
 
 // The destination address; 255 for a frame that goes to all.
@@ -84,17 +104,18 @@ pub fn destination(id: u32) -> u32
     GLOBAL
 }
 
-// Whether a number is a PGN.
+// Whether a number is a PGN: by the fields of the identifier that has it in bits 25 to 8.
 pub fn is_pgn(number: u32) -> bool
     ensures { λ r. ⌜ r ≡ isPgn number ⌝ }
 {
     if 262144 <= number {
         return false;
     }
-    if 240 <= number / 256 % 256 {
-        return true;
+    let id = number * BIT_8;
+    if has_destination(id) {
+        return ps(id) == 0;
     }
-    number % 256 == 0
+    true
 }
 
 // Whether an identifier is refused with 3: it has more than 29 bits.
