@@ -31,9 +31,10 @@ static void begin(void)
 {
     uint64_t told[DEORASAENG_START_ANSWER];
     deorasaeng_power_on(unit, DEORASAENG_RECORD_WORDS, 0x20001C000AC00123, address);
-    if (deorasaeng_start(unit, DEORASAENG_RECORD_WORDS, told, DEORASAENG_START_ANSWER) == DEORASAENG_DONE)
-        count_own_lost(told[0]);
-    is_claiming = true;
+    if (deorasaeng_start(unit, DEORASAENG_RECORD_WORDS, told, DEORASAENG_START_ANSWER) != DEORASAENG_DONE)
+        return; /* a preferred address over 253 */
+    count_own_lost(told[DEORASAENG_START_OWN_LOST]);
+    is_claiming = told[DEORASAENG_START_STATE] == DEORASAENG_STATE_CLAIMING; /* Lost: a lower NAME has the address already */
     quiet_at = milliseconds() + 250;
 }
 

@@ -20,6 +20,9 @@ static const char *words_of(uint32_t number)
     }
 }
 
+/* By claim state. */
+static const char *const states[] = {"Unstarted", "Claiming", "Claimed", "Lost"};
+
 static void print_bytes(const uint8_t *bytes, uint64_t length)
 {
     for (uint64_t i = 0; i < length; i++)
@@ -42,9 +45,24 @@ static void start(void)
     uint64_t answer[DEORASAENG_START_ANSWER];
     uint32_t number = deorasaeng_start(record, DEORASAENG_RECORD_WORDS, answer, DEORASAENG_START_ANSWER);
     printf("Start: %" PRIu32 " %s", number, words_of(number));
-    if (number == 0)
-        print_ports("own frame lost at", answer[0]);
+    if (number == 0) {
+        printf(", %s", states[answer[DEORASAENG_START_STATE]]);
+        print_ports("own frame lost at", answer[DEORASAENG_START_OWN_LOST]);
+    }
     printf("\n");
+}
+
+static void unit(void)
+{
+    uint64_t answer[DEORASAENG_UNIT_ANSWER];
+    uint32_t number = deorasaeng_unit(record, DEORASAENG_RECORD_WORDS, answer, DEORASAENG_UNIT_ANSWER);
+    printf("unit: %" PRIu32 " %s, %s, address ", number, words_of(number), states[answer[DEORASAENG_UNIT_STATE]]);
+    if (answer[DEORASAENG_UNIT_ADDRESS] == DEORASAENG_NO_ADDRESS)
+        printf("none");
+    else
+        printf("%" PRIu64, answer[DEORASAENG_UNIT_ADDRESS]);
+    printf(", prefers %" PRIu64 ", NAME %016" PRIX64 ", %" PRIu64 " ports\n", answer[DEORASAENG_UNIT_PREFERRED], answer[DEORASAENG_UNIT_NAME],
+           answer[DEORASAENG_UNIT_PORTS]);
 }
 
 static void frame(uint32_t port, uint32_t id, const uint8_t *bytes, size_t len)
@@ -113,6 +131,7 @@ int main(void)
     static const uint8_t addresses[8] = {64, 3, 0xFF, 0xFF, 0xFF, 0xFF, 0xFF, 0xFF};
 
     printf("power-on: %" PRIu32 "\n", deorasaeng_power_on(record, DEORASAENG_RECORD_WORDS, 0x20001C000AC00123, 0x80));
+    unit();
     take(1);
     message(1, 0x21, request, sizeof request); /* not Claimed yet: 6 */
     start();
@@ -120,6 +139,7 @@ int main(void)
     for (uint32_t port = 1; port <= 4; port++)
         take(port); /* the claim goes out at every port */
     printf("Quiet: %" PRIu32 "\n", deorasaeng_quiet(record, DEORASAENG_RECORD_WORDS));
+    unit();
     frame(3, 0x18EEFF90, sprayer, 8);          /* Recorded */
     frame(2, 0x18EEFF90, baler, 8);            /* a lower NAME: TookOver */
     frame(1, 0x0CF00400, engine, 8);           /* to ports 2, 3 and 4 */

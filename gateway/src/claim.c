@@ -40,23 +40,20 @@ static bool start(struct gateway *gateway, int64_t now)
         gateway->ports[i].counts.own += !lost;
         gateway->ports[i].counts.own_lost += lost;
     }
+    struct unit_answer told = unit_tell(&gateway->unit);
     gateway->quiet_at = now + QUIET_AFTER;
-    log_line(LOG_INFO, "Start: NAME %016" PRIX64 " claims address %" PRIu32 ", %d of %d interfaces up", gateway->unit.name, gateway->unit.preferred,
-             ports_up(gateway), GATEWAY_PORTS);
+    log_line(LOG_INFO, "Start: NAME %016" PRIX64 " claims address %" PRIu32 ", %d of %d interfaces up", told.name, told.preferred, ports_up(gateway),
+             GATEWAY_PORTS);
+    if (told.state == DEORASAENG_STATE_LOST) /* the ports are read already: with a lists file no claim was heard yet */
+        log_line(LOG_WARNING, "Lost: address %" PRIu32 " is held by a lower NAME", told.preferred);
     return true;
 }
 
-static bool quiet(struct gateway *gateway)
+static bool set_lists(struct gateway *gateway)
 {
-    uint32_t number = unit_quiet(&gateway->unit);
-    if (number != 0)
-        log_line(LOG_WARNING, "Lost: address %" PRIu32 " is held by a lower NAME", gateway->unit.preferred);
-    else
-        log_line(LOG_INFO, "Claimed: address %" PRIu32, gateway->unit.preferred);
-    gateway->reading = true;
     if (gateway->options.lists == NULL)
         return true;
-    number = unit_set_lists(&gateway->unit, &gateway->lists);
+    uint32_t number = unit_set_lists(&gateway->unit, &gateway->lists);
     if (number != 0 || !lists_equal(&gateway->unit.lists, &gateway->lists)) {
         log_line(LOG_ERROR, "%s: the unit does not take these lists (%" PRIu32 ")", gateway->options.lists, number);
         return false;
@@ -65,19 +62,32 @@ static bool quiet(struct gateway *gateway)
     return true;
 }
 
+static bool quiet(struct gateway *gateway)
+{
+    uint32_t number = unit_quiet(&gateway->unit);
+    if (number != 0) {
+        log_line(LOG_ERROR, "Quiet refused with %" PRIu32, number);
+        return false;
+    }
+    log_line(LOG_INFO, "Claimed: address %" PRIu32, unit_tell(&gateway->unit).address);
+    gateway->reading = true;
+    return set_lists(gateway);
+}
+
 bool gateway_claim(struct gateway *gateway, int64_t now)
 {
-    if (gateway->unit.state == CLAIM_UNSTARTED && may_start(gateway, now))
+    enum deorasaeng_state state = unit_state(&gateway->unit);
+    if (state == DEORASAENG_STATE_UNSTARTED && may_start(gateway, now))
         return start(gateway, now);
-    if (gateway->unit.state == CLAIM_CLAIMING && now >= gateway->quiet_at)
+    if (state == DEORASAENG_STATE_CLAIMING && now >= gateway->quiet_at)
         return quiet(gateway);
     return true;
 }
 
 int64_t gateway_claim_deadline(const struct gateway *gateway)
 {
-    int64_t patience = gateway->began_at + START_PATIENCE;
-    if (gateway->unit.state == CLAIM_UNSTARTED)
-        return ports_up(gateway) > 0 ? patience : CLOCK_NEVER;
-    return gateway->unit.state == CLAIM_CLAIMING ? gateway->quiet_at : CLOCK_NEVER;
+    enum deorasaeng_state state = unit_state(&gateway->unit);
+    if (state == DEORASAENG_STATE_UNSTARTED)
+        return ports_up(gateway) > 0 ? gateway->began_at + START_PATIENCE : CLOCK_NEVER;
+    return state == DEORASAENG_STATE_CLAIMING ? gateway->quiet_at : CLOCK_NEVER;
 }

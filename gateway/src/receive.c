@@ -59,7 +59,7 @@ static void send_answer(struct gateway *gateway, struct port *port, const struct
 {
     struct can_frame frame;
     uint32_t requester = identifier_source(message->can_id);
-    if (answer_frame(answer, requester, gateway->unit.preferred, &frame)) {
+    if (answer_frame(answer, requester, unit_tell(&gateway->unit).address, &frame)) {
         transmit_answer(&port->transmit, &frame);
         return;
     }

@@ -32,16 +32,15 @@ static void write_numbers(struct json *json, const char *name, const uint64_t co
 
 static void write_unit(struct json *json, const struct gateway *gateway, int64_t now)
 {
-    const struct unit *unit = &gateway->unit;
-    bool held = unit->state == CLAIM_CLAIMING || unit->state == CLAIM_CLAIMED;
+    struct unit_answer told = unit_tell(&gateway->unit);
     json_object(json, "unit");
-    json_hex(json, "name", unit->name);
-    json_number(json, "preferred", unit->preferred);
-    json_string(json, "state", claim_state_word(unit->state));
-    if (held)
-        json_number(json, "address", unit->preferred);
-    else
+    json_hex(json, "name", told.name);
+    json_number(json, "preferred", told.preferred);
+    json_string(json, "state", claim_state_word(told.state));
+    if (told.address == DEORASAENG_NO_ADDRESS)
         json_null(json, "address");
+    else
+        json_number(json, "address", told.address);
     json_number(json, "seconds", (uint64_t)((now - gateway->began_at) / CLOCK_SECOND));
     json_end_object(json);
 }
@@ -125,7 +124,7 @@ static void write_lists(struct json *json, const struct gateway *gateway)
 static void write_addresses(struct json *json, struct gateway *gateway)
 {
     uint8_t addresses[UNIT_ADDRESSES];
-    if (gateway->unit.state != CLAIM_CLAIMED) {
+    if (unit_state(&gateway->unit) != DEORASAENG_STATE_CLAIMED) {
         json_null(json, "addresses");
         return;
     }

@@ -25,8 +25,8 @@ static void summarize(const struct port *port)
 
 void gateway_summary(const struct gateway *gateway)
 {
-    log_always("summary: NAME %016" PRIX64 ", address %" PRIu32 " %s", gateway->unit.name, gateway->unit.preferred,
-               claim_state_word(gateway->unit.state));
+    struct unit_answer told = unit_tell(&gateway->unit);
+    log_always("summary: NAME %016" PRIX64 ", address %" PRIu32 " %s", told.name, told.preferred, claim_state_word(told.state));
     for (int i = 0; i < GATEWAY_PORTS; i++)
         summarize(&gateway->ports[i]);
 }

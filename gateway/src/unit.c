@@ -7,7 +7,7 @@
 static const char *const STATES[] = {"Unstarted", "Claiming", "Claimed", "Lost"};
 static const char *const EVENTS[] = {NULL, "Withdrew", "Defended", "Displaced", "Recorded", "Refreshed", "TookOver", "Beaten"};
 
-const char *claim_state_word(enum claim_state state)
+const char *claim_state_word(enum deorasaeng_state state)
 {
     return STATES[state];
 }
@@ -20,10 +20,24 @@ const char *claim_event_word(uint64_t event)
 uint32_t unit_power_on(struct unit *unit, uint64_t name, uint32_t preferred)
 {
     memset(unit, 0, sizeof *unit);
-    unit->name = name;
-    unit->preferred = preferred;
-    unit->state = CLAIM_UNSTARTED;
     return deorasaeng_power_on(unit->record, DEORASAENG_RECORD_WORDS, name, preferred);
+}
+
+struct unit_answer unit_tell(const struct unit *unit)
+{
+    uint64_t words[DEORASAENG_UNIT_ANSWER] = {0};
+    deorasaeng_unit(unit->record, DEORASAENG_RECORD_WORDS, words, DEORASAENG_UNIT_ANSWER);
+    return (struct unit_answer){
+        .state = (enum deorasaeng_state)words[DEORASAENG_UNIT_STATE],
+        .address = (uint32_t)words[DEORASAENG_UNIT_ADDRESS],
+        .preferred = (uint32_t)words[DEORASAENG_UNIT_PREFERRED],
+        .name = words[DEORASAENG_UNIT_NAME],
+    };
+}
+
+enum deorasaeng_state unit_state(const struct unit *unit)
+{
+    return unit_tell(unit).state;
 }
 
 /* A request for address claimed, which a unit that has started answers if it is to all or was consumed. */
@@ -31,7 +45,7 @@ static bool answered_request(const struct unit *unit, const struct can_frame *fr
 {
     static const uint8_t ADDRESS_CLAIMED[] = {0x00, 0xEE, 0x00};
     uint32_t id = frame->can_id & CAN_EFF_MASK;
-    return unit->state != CLAIM_UNSTARTED && identifier_pgn(id) == PGN_REQUEST && frame->len == sizeof ADDRESS_CLAIMED &&
+    return unit_state(unit) != DEORASAENG_STATE_UNSTARTED && identifier_pgn(id) == PGN_REQUEST && frame->len == sizeof ADDRESS_CLAIMED &&
            memcmp(frame->data, ADDRESS_CLAIMED, sizeof ADDRESS_CLAIMED) == 0 &&
            (consumed || identifier_destination(id) == ADDRESS_GLOBAL);
 }
@@ -52,8 +66,6 @@ void unit_frame(struct unit *unit, uint32_t port, const struct can_frame *frame,
     answer->own_lost = words[DEORASAENG_OWN_LOST];
     answer->own_sent = answer->event == DEORASAENG_DEFENDED || answer->event == DEORASAENG_DISPLACED ||
                        answered_request(unit, frame, answer->consumed);
-    if (answer->event == DEORASAENG_DISPLACED)
-        unit->state = CLAIM_LOST;
 }
 
 bool unit_take(struct unit *unit, uint32_t port, struct can_frame *frame)
@@ -73,15 +85,11 @@ uint32_t unit_start(struct unit *unit, uint64_t *own_lost)
 {
     uint64_t words[DEORASAENG_START_ANSWER];
     uint32_t number = deorasaeng_start(unit->record, DEORASAENG_RECORD_WORDS, words, DEORASAENG_START_ANSWER);
-    *own_lost = number == 0 ? words[0] : 0;
-    if (number == 0)
-        unit->state = CLAIM_CLAIMING; /* or Lost, where the address was held by a lower NAME: Quiet tells */
+    *own_lost = number == 0 ? words[DEORASAENG_START_OWN_LOST] : 0;
     return number;
 }
 
 uint32_t unit_quiet(struct unit *unit)
 {
-    uint32_t number = deorasaeng_quiet(unit->record, DEORASAENG_RECORD_WORDS);
-    unit->state = number == 0 ? CLAIM_CLAIMED : CLAIM_LOST;
-    return number;
+    return deorasaeng_quiet(unit->record, DEORASAENG_RECORD_WORDS);
 }

@@ -1,4 +1,4 @@
-/* The proved unit on its record, and what the program knows of it by the answers alone. Nothing here reads or writes a word of the record itself. */
+/* The proved unit on its record, and what the program knows of it by its answers alone. Nothing here reads or writes a word of the record itself. */
 #ifndef GATEWAY_UNIT_H
 #define GATEWAY_UNIT_H
 
@@ -11,14 +11,17 @@
 #define UNIT_NUMBERS 18
 #define UNIT_ADDRESSES 254
 
-enum claim_state { CLAIM_UNSTARTED, CLAIM_CLAIMING, CLAIM_CLAIMED, CLAIM_LOST };
-
 struct unit {
     uint64_t record[DEORASAENG_RECORD_WORDS];
-    uint64_t name;
-    uint32_t preferred;
-    enum claim_state state;
     struct lists lists; /* as last read; they change by messages alone, and every message passes here */
+};
+
+/* What the unit tells of itself. */
+struct unit_answer {
+    enum deorasaeng_state state;
+    uint32_t address; /* DEORASAENG_NO_ADDRESS for none */
+    uint32_t preferred;
+    uint64_t name;
 };
 
 /* A frame's answer. Ports are masks, bit p - 1 for port p. */
@@ -39,12 +42,16 @@ struct message_answer {
 };
 
 /* "Unstarted", "Claiming", "Claimed" or "Lost". */
-const char *claim_state_word(enum claim_state state);
+const char *claim_state_word(enum deorasaeng_state state);
 
 /* The word for a claim event, or NULL for none. */
 const char *claim_event_word(uint64_t event);
 
 uint32_t unit_power_on(struct unit *unit, uint64_t name, uint32_t preferred);
+
+/* What the unit is now, and its claim state alone. */
+struct unit_answer unit_tell(const struct unit *unit);
+enum deorasaeng_state unit_state(const struct unit *unit);
 
 /* A frame of SocketCAN, 29-bit and no other, from port 1 to 4. */
 void unit_frame(struct unit *unit, uint32_t port, const struct can_frame *frame, struct frame_answer *answer);
@@ -52,10 +59,10 @@ void unit_frame(struct unit *unit, uint32_t port, const struct can_frame *frame,
 /* The next frame for a port, or false. */
 bool unit_take(struct unit *unit, uint32_t port, struct can_frame *frame);
 
-/* 0, or the number; the ports where the unit's frame was lost. */
+/* 0, or the number; the ports where the unit's frame was lost. The unit is Claiming then, or Lost. */
 uint32_t unit_start(struct unit *unit, uint64_t *own_lost);
 
-/* 0, or 18: the address was lost before. */
+/* 0, or 18: the unit is not Claiming. */
 uint32_t unit_quiet(struct unit *unit);
 
 /* A network message. The lists are read again where a command was done. */

@@ -28,7 +28,7 @@ static void send_message(struct unit *unit, uint32_t port, uint32_t requester, c
 /* A message of the program's own; the unit's address stands for the tool's. */
 static void ask(struct unit *unit, const uint8_t *payload, size_t length, struct message_answer *answer)
 {
-    send_message(unit, SERVICE_PORT, unit->preferred, payload, length, answer);
+    send_message(unit, SERVICE_PORT, unit_tell(unit).address, payload, length, answer);
 }
 
 static uint8_t pair_byte(unsigned from, unsigned to)

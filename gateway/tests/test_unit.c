@@ -28,9 +28,9 @@ static void claimed_unit(struct unit *unit)
 {
     uint64_t own_lost;
     struct can_frame claim;
-    CHECK(unit_power_on(unit, OWN_NAME, OWN_ADDRESS) == 0 && unit->state == CLAIM_UNSTARTED);
-    CHECK(unit_start(unit, &own_lost) == 0 && own_lost == 0 && unit->state == CLAIM_CLAIMING);
-    CHECK(unit_quiet(unit) == 0 && unit->state == CLAIM_CLAIMED);
+    CHECK(unit_power_on(unit, OWN_NAME, OWN_ADDRESS) == 0 && unit_state(unit) == DEORASAENG_STATE_UNSTARTED);
+    CHECK(unit_start(unit, &own_lost) == 0 && own_lost == 0 && unit_state(unit) == DEORASAENG_STATE_CLAIMING);
+    CHECK(unit_quiet(unit) == 0 && unit_state(unit) == DEORASAENG_STATE_CLAIMED);
     for (uint32_t port = 1; port <= GATEWAY_PORTS; port++)
         CHECK(unit_take(unit, port, &claim) && claim.can_id == (0x18EEFF80 | CAN_EFF_FLAG) && claim.len == 8 && claim.data[0] == 0x23);
     CHECK(!unit_take(unit, 1, &claim));
@@ -65,7 +65,25 @@ static void unit_refuses_lists_unclaimed(void)
     lists.pair[0][1].mode = LIST_PASS;
     CHECK(unit_power_on(&unit, OWN_NAME, OWN_ADDRESS) == 0);
     CHECK(unit_set_lists(&unit, &lists) == 6 && unit.lists.pair[0][1].mode == LIST_CLEARED);
-    CHECK(unit_quiet(&unit) == 18 && unit.state == CLAIM_LOST);
+    CHECK(unit_quiet(&unit) == 18 && unit_state(&unit) == DEORASAENG_STATE_UNSTARTED);
+}
+
+/* The unit tells itself that a lower NAME had the address before Start; from then on it has none. */
+static void lost_at_start(void)
+{
+    static struct unit unit;
+    static const uint8_t lower[8] = {1, 0, 0, 0, 0, 0, 0, 0};
+    struct can_frame claim = frame(0x18EEFF00 | OWN_ADDRESS, lower, 8);
+    struct frame_answer got;
+    uint64_t own_lost;
+    CHECK(unit_power_on(&unit, OWN_NAME, OWN_ADDRESS) == 0);
+    unit_frame(&unit, 3, &claim, &got);
+    CHECK(got.number == 0 && got.event == DEORASAENG_RECORDED && !got.own_sent);
+    CHECK(unit_start(&unit, &own_lost) == 0 && own_lost == 0);
+    struct unit_answer told = unit_tell(&unit);
+    CHECK(told.state == DEORASAENG_STATE_LOST && told.address == DEORASAENG_NO_ADDRESS && told.preferred == OWN_ADDRESS && told.name == OWN_NAME);
+    CHECK_TEXT(claim_state_word(told.state), "Lost");
+    CHECK(unit_quiet(&unit) == 18);
 }
 
 /* The vectors of the rules, P5 to P7, as frames at the arrival port. */
@@ -125,7 +143,7 @@ static void own_frames(void)
         CHECK(got.number == 0 && got.own_sent == CASES[i].own && taken[0] == (unsigned)CASES[i].own && got.event == CASES[i].event);
         CHECK(taken[1] == taken[0] + !got.consumed);
     }
-    CHECK(unit.state == CLAIM_LOST);
+    CHECK(unit_state(&unit) == DEORASAENG_STATE_LOST);
 }
 
 static void addresses(void)
@@ -189,6 +207,7 @@ int main(void)
 {
     lists_there_and_back();
     unit_refuses_lists_unclaimed();
+    lost_at_start();
     answers();
     own_frames();
     addresses();

@@ -162,6 +162,15 @@ static uint32_t quiets(const struct side *side, const struct row *r, long calls)
     return number;
 }
 
+static uint32_t units(const struct side *side, const struct row *r, long calls)
+{
+    uint32_t number = 0;
+    (void)r;
+    for (long k = 0; k < calls; k++)
+        number = side->unit(w, RECORD, lent.answer, DEORASAENG_UNIT_ANSWER);
+    return number;
+}
+
 static uint32_t power_ons(const struct side *side, const struct row *r, long calls)
 {
     uint32_t number = 0;
@@ -202,6 +211,7 @@ static const struct row frame_rows[] = {
     {"take of nothing", takes, .waiting = 0},
     {"Start", starts, .resets = NOTHING_WAITS},
     {"Quiet", quiets, .mode = 0},
+    {"unit told", units, .mode = 0},
     {"power-on", power_ons, .mode = 0},
 };
 
@@ -257,7 +267,7 @@ static const struct table {
     const struct row *rows;
     size_t count;
 } tables[] = {
-    {"Frames, takes, Start, Quiet, power-on", "call", frame_rows, sizeof frame_rows / sizeof *frame_rows},
+    {"Frames, takes, Start, Quiet, the unit, power-on", "call", frame_rows, sizeof frame_rows / sizeof *frame_rows},
     {"Network messages, from port 1", "message", message_rows, sizeof message_rows / sizeof *message_rows},
     {"Growth with the lists: frame and 3 takes, depth 1, a PGN that is absent", "PGNs in each list", list_rows, sizeof list_rows / sizeof *list_rows},
     {"Growth with the queues: frame and 3 takes, cleared pairs, equal ranks", "depth", depth_rows, sizeof depth_rows / sizeof *depth_rows},
@@ -354,7 +364,7 @@ static void time_tables(int rounds)
 /* ---- the stack: painted before each call, and looked through after it */
 static uint32_t nothing();
 
-static const struct side empty = {"nothing", nothing, nothing, nothing, nothing, nothing, nothing};
+static const struct side empty = {"nothing", nothing, nothing, nothing, nothing, nothing, nothing, nothing};
 
 static uint32_t nothing()
 {
@@ -390,7 +400,7 @@ static size_t touched(const struct side *side)
 /* The most that a call takes, with its return address. */
 static void print_stack(long calls)
 {
-    static const char *labels[KINDS] = {"frame", "take", "message", "Start", "Quiet", "power-on"};
+    static const char *labels[KINDS] = {"frame", "take", "message", "Start", "Quiet", "unit", "power-on"};
     size_t most[KINDS][SIDES] = {{0}};
     for (int s = 0; s < SIDES; s++) {
         memset(&lent, 0, sizeof lent);

@@ -3,7 +3,7 @@
 #include <stdio.h>
 #include <string.h>
 
-#define SIDE(name, side) {name, side##_power_on, side##_frame, side##_take, side##_message, side##_start, side##_quiet}
+#define SIDE(name, side) {name, side##_power_on, side##_frame, side##_take, side##_message, side##_start, side##_quiet, side##_unit}
 
 const struct side sides[SIDES] = {SIDE("Rattle", deorasaeng), SIDE("C", c), SIDE("Rust", rust)};
 
@@ -139,7 +139,7 @@ void make_call(struct call *c, const uint64_t *record)
     if (record[0] != 2 && one_in(16))
         c->kind = record[0] == 0 ? START : record[0] == 1 ? QUIET : POWER_ON;
     if (one_in(512))
-        c->kind = START + below(2);
+        c->kind = START + below(3);
     if (one_in(8192))
         c->kind = POWER_ON;
     c->port = one_in(64) ? below(6) : 1 + below(4);
@@ -148,7 +148,8 @@ void make_call(struct call *c, const uint64_t *record)
     c->reply_len = one_in(4) ? LONGEST + 15 : some_length(LONGEST);
     c->name = one_in(4) ? some_name() : own_name;
     c->preferred = one_in(8) ? below(300) : own_address;
-    static const size_t answers[KINDS] = {DEORASAENG_FRAME_ANSWER, DEORASAENG_TAKE_ANSWER, DEORASAENG_MESSAGE_ANSWER, DEORASAENG_START_ANSWER};
+    static const size_t answers[KINDS] = {DEORASAENG_FRAME_ANSWER, DEORASAENG_TAKE_ANSWER, DEORASAENG_MESSAGE_ANSWER, DEORASAENG_START_ANSWER, 0,
+                                          DEORASAENG_UNIT_ANSWER};
     c->answer_len = one_in(256) ? below(9) : answers[c->kind];
     if (c->kind == FRAME)
         make_frame(c);
@@ -165,6 +166,7 @@ uint32_t do_call(const struct side *side, const struct call *c, struct lent *l)
         return side->message(l->record, c->record_len, c->port, c->requester, c->payload, c->len, l->reply, c->reply_len, l->answer, c->answer_len);
     case START: return side->start(l->record, c->record_len, l->answer, c->answer_len);
     case QUIET: return side->quiet(l->record, c->record_len);
+    case UNIT: return side->unit(l->record, c->record_len, l->answer, c->answer_len);
     default: return side->power_on(l->record, c->record_len, c->name, c->preferred);
     }
 }

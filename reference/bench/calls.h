@@ -16,11 +16,12 @@ struct side {
     __typeof__(deorasaeng_message) *message;
     __typeof__(deorasaeng_start) *start;
     __typeof__(deorasaeng_quiet) *quiet;
+    __typeof__(deorasaeng_unit) *unit;
 };
 
 extern const struct side sides[SIDES];
 
-enum kind { FRAME, TAKE, MESSAGE, START, QUIET, POWER_ON, KINDS };
+enum kind { FRAME, TAKE, MESSAGE, START, QUIET, UNIT, POWER_ON, KINDS };
 
 /* The arguments of a call, with the lengths that are lent. */
 struct call {

@@ -462,7 +462,7 @@ uint32_t c_message(uint64_t *record, size_t record_len, uint32_t port, uint32_t 
     return number;
 }
 
-/* ---- power-on, Start, Quiet */
+/* ---- power-on, Start, Quiet, the unit */
 uint32_t c_power_on(uint64_t *record, size_t record_len, uint64_t name, uint32_t preferred)
 {
     if (record_len != DEORASAENG_RECORD_WORDS)
@@ -493,7 +493,8 @@ uint32_t c_start(uint64_t *record, size_t record_len, uint64_t *answer, size_t a
         u->claim = CLAIMING;
         u->address = u->preferred;
     }
-    answer[0] = announce(u, own_id(u->address));
+    answer[DEORASAENG_START_OWN_LOST] = announce(u, own_id(u->address));
+    answer[DEORASAENG_START_STATE] = u->claim;
     return 0;
 }
 
@@ -505,5 +506,18 @@ uint32_t c_quiet(uint64_t *record, size_t record_len)
     if (u->claim != CLAIMING)
         return 18;
     u->claim = CLAIMED;
+    return 0;
+}
+
+uint32_t c_unit(const uint64_t *record, size_t record_len, uint64_t *answer, size_t answer_len)
+{
+    const struct unit *u = (const struct unit *)record;
+    if (record_len != DEORASAENG_RECORD_WORDS || answer_len != DEORASAENG_UNIT_ANSWER)
+        return 2;
+    answer[DEORASAENG_UNIT_STATE] = u->claim;
+    answer[DEORASAENG_UNIT_ADDRESS] = u->address;
+    answer[DEORASAENG_UNIT_PREFERRED] = u->preferred;
+    answer[DEORASAENG_UNIT_NAME] = u->name;
+    answer[DEORASAENG_UNIT_PORTS] = PORTS;
     return 0;
 }

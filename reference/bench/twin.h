@@ -10,7 +10,8 @@
     __typeof__(deorasaeng_take) side##_take;         \
     __typeof__(deorasaeng_message) side##_message;   \
     __typeof__(deorasaeng_start) side##_start;       \
-    __typeof__(deorasaeng_quiet) side##_quiet
+    __typeof__(deorasaeng_quiet) side##_quiet;       \
+    __typeof__(deorasaeng_unit) side##_unit
 
 FUNCTIONS(c);
 FUNCTIONS(rust);

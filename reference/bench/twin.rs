@@ -636,8 +636,8 @@ pub unsafe extern "C" fn rust_message(
 pub unsafe extern "C" fn rust_start(record: *mut u64, record_len: usize, answer: *mut u64, answer_len: usize) -> u32 {
     let words = slice::from_raw_parts_mut(record, record_len);
     let answer = slice::from_raw_parts_mut(answer, answer_len);
-    let (Some(mut unit), [lost]) = (Unit::over(words), answer) else { return 2 };
-    number(unit.start().map(|ports| *lost = ports))
+    let (Some(mut unit), [lost, state]) = (Unit::over(words), answer) else { return 2 };
+    number(unit.start().map(|ports| (*lost, *state) = (ports, unit.own[0])))
 }
 
 #[no_mangle]
@@ -647,5 +647,17 @@ pub unsafe extern "C" fn rust_quiet(record: *mut u64, record_len: usize) -> u32 
         return 18;
     }
     unit.own[0] = CLAIMED;
+    0
+}
+
+#[no_mangle]
+pub unsafe extern "C" fn rust_unit(record: *const u64, record_len: usize, answer: *mut u64, answer_len: usize) -> u32 {
+    let words = slice::from_raw_parts(record, record_len);
+    let answer = slice::from_raw_parts_mut(answer, answer_len);
+    if words.len() != RECORD || answer.len() != OWN + 1 {
+        return 2;
+    }
+    answer[..OWN].copy_from_slice(&words[..OWN]);
+    answer[OWN] = PORTS as u64;
     0
 }

@@ -8,9 +8,9 @@
 #include <stdlib.h>
 #include <string.h>
 
-enum kind { POWER_ON, FRAME, TAKE, MESSAGE, START, QUIET, TAKE_QUEUE, KINDS };
+enum kind { POWER_ON, FRAME, TAKE, MESSAGE, START, QUIET, UNIT, TAKE_QUEUE, KINDS };
 
-static const char *const kind_name[KINDS] = {"power-on", "frame", "take", "message", "Start", "Quiet", "take on a queue"};
+static const char *const kind_name[KINDS] = {"power-on", "frame", "take", "message", "Start", "Quiet", "unit", "take on a queue"};
 
 /* The numbers that each call can give. */
 static const uint32_t allowed[KINDS] = {
@@ -20,6 +20,7 @@ static const uint32_t allowed[KINDS] = {
     0x7u | 0x3FFC0u,
     1u << 0 | 1u << 2 | 1u << 8 | 1u << 18,
     1u << 0 | 1u << 2 | 1u << 18,
+    1u << 0 | 1u << 2,
     1u << 0 | 1u << 2,
 };
 

@@ -198,6 +198,15 @@ static void fuzz_start(size_t length, uint64_t *record)
     judge(START, number, 1, length == RECORD && words == DEORASAENG_START_ANSWER);
 }
 
+static void fuzz_unit(size_t length, uint64_t *record)
+{
+    size_t words = some_size(DEORASAENG_UNIT_ANSWER, 20);
+    uint64_t *answer = lend(1, 8 * words);
+    uint32_t number = deorasaeng_unit(record, length, answer, words);
+    judge(UNIT, number, 1, length == RECORD && words == DEORASAENG_UNIT_ANSWER);
+    check(unchanged(0), "reading the unit changed the record");
+}
+
 static void fuzz(void)
 {
     enum kind kind = below(4) ? FRAME + below(3) : below(KINDS);
@@ -208,6 +217,7 @@ static void fuzz(void)
     case FRAME: fuzz_frame(length, record); break;
     case MESSAGE: fuzz_message(length, record); break;
     case START: fuzz_start(length, record); break;
+    case UNIT: fuzz_unit(length, record); break;
     case QUIET: judge(kind, deorasaeng_quiet(record, length), 1, length == RECORD); break;
     default: fuzz_take(length, record, kind == TAKE_QUEUE); break;
     }

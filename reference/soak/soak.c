@@ -184,14 +184,16 @@ static void start(void)
     lend(0);
     uint32_t number = deorasaeng_start(record, RECORD, answer, DEORASAENG_START_ANSWER);
     count(START, number);
-    check_lent(number == 0, 0, 0);
+    check_lent(number == 0 ? DEORASAENG_START_ANSWER : 0, 0, 0);
     if (number != 0) {
         check_same(0, RECORD, "a refused Start changed the record");
         return;
     }
     check_same(PAIRS_AT, QUEUES_AT, "Start changed a list");
     for (uint32_t q = 1; q <= 4; q++)
-        check(waiting(record, q) == waiting(before, q) + !(answer[0] >> (q - 1) & 1), "Start's frame");
+        check(waiting(record, q) == waiting(before, q) + !(answer[DEORASAENG_START_OWN_LOST] >> (q - 1) & 1), "Start's frame");
+    uint64_t state = answer[DEORASAENG_START_STATE];
+    check(state == record[0] && (state == DEORASAENG_STATE_CLAIMING || state == DEORASAENG_STATE_LOST), "what became of the unit");
 }
 
 static void quiet(void)
@@ -202,6 +204,21 @@ static void quiet(void)
     check_lent(0, 0, 0);
     check(number != 0 || (before[0] == 1 && record[0] == 2), "Quiet");
     check_same(number == 0, RECORD, "Quiet changed another word");
+}
+
+/* The unit is what its own words say; its address is the preferred one or none. */
+static void unit(void)
+{
+    lend(0);
+    uint32_t number = deorasaeng_unit(record, RECORD, answer, DEORASAENG_UNIT_ANSWER);
+    count(UNIT, number);
+    check_lent(DEORASAENG_UNIT_ANSWER, 0, 0);
+    check_same(0, RECORD, "reading the unit changed the record");
+    int has = record[0] == DEORASAENG_STATE_CLAIMING || record[0] == DEORASAENG_STATE_CLAIMED;
+    check(number == 0 && answer[DEORASAENG_UNIT_STATE] == record[0], "claim state");
+    check(answer[DEORASAENG_UNIT_ADDRESS] == (has ? record[2] : DEORASAENG_NO_ADDRESS), "address");
+    check(answer[DEORASAENG_UNIT_PREFERRED] == record[2] && answer[DEORASAENG_UNIT_NAME] == record[3], "preferred address, NAME");
+    check(answer[DEORASAENG_UNIT_PORTS] == PORTS, "number of ports");
 }
 
 int main(int argc, char **argv)
@@ -218,6 +235,8 @@ int main(int argc, char **argv)
             power_on();
         else if (below(record[0] == 0 || record[0] == 1 ? 50 : 2000) == 0)
             (record[0] == 1) == (below(10) != 0) ? quiet() : start();
+        else if (below(500) == 0)
+            unit();
         else if (pick < takes)
             take();
         else if (pick < takes + 12)

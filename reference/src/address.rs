@@ -12,6 +12,23 @@ pub enum ClaimState {
     Lost,
 }
 
+/// What Start answers: what became of the unit, Claiming or Lost, and the ports where its frame was lost.
+#[derive(Clone, Debug, PartialEq, Eq)]
+pub struct StartAnswer {
+    pub state: ClaimState,
+    pub own_lost: Vec<u32>,
+}
+
+/// What the unit tells of itself. The address is none when Unstarted or Lost.
+#[derive(Clone, Debug, PartialEq, Eq)]
+pub struct UnitAnswer {
+    pub state: ClaimState,
+    pub address: Option<u32>,
+    pub preferred: u32,
+    pub name: u64,
+    pub ports: u32,
+}
+
 /// Who holds an address: the NAME, and the port its claim arrived at.
 #[derive(Clone, Copy, Debug, PartialEq, Eq)]
 pub struct Holder {
@@ -39,6 +56,17 @@ impl Unit {
         match self.state {
             ClaimState::Claiming | ClaimState::Claimed => Some(self.preferred),
             ClaimState::Unstarted | ClaimState::Lost => None,
+        }
+    }
+
+    /// What the unit is; reading it changes nothing.
+    pub fn tell(&self) -> UnitAnswer {
+        UnitAnswer {
+            state: self.state,
+            address: self.address(),
+            preferred: self.preferred,
+            name: self.name,
+            ports: PORTS.len() as u32,
         }
     }
 
@@ -113,8 +141,8 @@ impl Unit {
         }
     }
 
-    /// Start. The answer is the ports where the unit's frame was lost; 18 comes before 8.
-    pub fn start(&mut self) -> Result<Vec<u32>, Number> {
+    /// Start; 18 comes before 8.
+    pub fn start(&mut self) -> Result<StartAnswer, Number> {
         if self.state != ClaimState::Unstarted {
             return Err(18);
         }
@@ -128,7 +156,8 @@ impl Unit {
                 self.state = ClaimState::Claiming;
             }
         }
-        Ok(self.send_own_frame())
+        let own_lost = self.send_own_frame();
+        Ok(StartAnswer { state: self.state, own_lost })
     }
 
     /// Quiet, called once the 250 ms are over.
@@ -150,6 +179,18 @@ impl Unit {
     fn send_own_frame(&mut self) -> Vec<u32> {
         let own = self.own_frame();
         PORTS.into_iter().filter(|&port| !self.join(port, &own)).collect()
+    }
+}
+
+impl ClaimState {
+    /// The state's number.
+    pub fn number(self) -> u32 {
+        match self {
+            ClaimState::Unstarted => 0,
+            ClaimState::Claiming => 1,
+            ClaimState::Claimed => 2,
+            ClaimState::Lost => 3,
+        }
     }
 }
 

@@ -2,14 +2,14 @@
 
 use std::collections::{BTreeMap, BTreeSet};
 
-use crate::address::{is_claim, is_request_for_address_claimed, name_of, ClaimState, Event};
+use crate::address::{is_claim, is_request_for_address_claimed, name_of, ClaimState, Event, StartAnswer};
 use crate::frame::{self, Frame};
 use crate::pair::{Pair, LONGEST_LIST};
 use crate::script::{apply, is_passed_over, lines_of, read_call, Answer, Call};
 use crate::unit::{other_ports, FrameAnswer, Unit, LONGEST_QUEUE};
 
 /// The call letters of a script.
-pub const LETTERS: [&str; 6] = ["P", "S", "Q", "F", "T", "M"];
+pub const LETTERS: [&str; 7] = ["P", "S", "Q", "F", "T", "M", "U"];
 /// The rows of the event count.
 pub const EVENTS: [&str; 8] = ["-", "Withdrew", "Defended", "Displaced", "Recorded", "Refreshed", "TookOver", "Beaten"];
 /// The rows of the state count.
@@ -115,11 +115,12 @@ impl Coverage {
                 let frame = Frame { id: *id, bytes: bytes.clone() };
                 self.count_frame(before, *port, &frame, answer);
             }
-            (Call::Start, Answer::Start(Ok(own_lost))) => self.count_start(before, own_lost, after),
+            (Call::Start, Answer::Start(Ok(answer))) => self.count_start(before, answer),
             (Call::Take { port }, Answer::Take(Ok(given))) => self.count_take(before, *port, given, after),
             (Call::Message { port, payload, .. }, Answer::Message(..)) => {
                 self.count_message(before, *port, payload, answer, after)
             }
+            (Call::Unit, Answer::Unit(answer)) => self.add(&format!("told {:?}", answer.state)),
             _ => {}
         }
     }
@@ -168,14 +169,14 @@ impl Coverage {
         }
     }
 
-    fn count_start(&mut self, before: &Unit, own_lost: &[u32], after: &Unit) {
+    fn count_start(&mut self, before: &Unit, answer: &StartAnswer) {
         let held = before.table.contains_key(&before.preferred);
-        self.add(match (after.state, held) {
+        self.add(match (answer.state, held) {
             (ClaimState::Lost, _) => "start to Lost",
             (_, true) => "start to Claiming, holder dropped",
             (_, false) => "start to Claiming, address free",
         });
-        self.add_if(!own_lost.is_empty(), "start with own frame lost");
+        self.add_if(!answer.own_lost.is_empty(), "start with own frame lost");
     }
 
     fn count_take(&mut self, before: &Unit, port: u32, given: &Option<Frame>, after: &Unit) {
@@ -240,6 +241,7 @@ impl Coverage {
         }
         lines.push(self.line_of("events", &EVENTS, "event "));
         lines.push(self.line_of("calls in state", &STATES, "state "));
+        lines.push(self.line_of("unit told in state", &STATES, "told "));
         lines.push(self.line_of("pairs asked in mode", &MODES, "mode "));
         lines.push(self.line_of("done by function", &["0", "2", "3", "4", "6", "64"], "done "));
         for row in DEEP {
@@ -268,6 +270,7 @@ fn letter(call: &Call) -> &'static str {
         Call::Frame { .. } => "F",
         Call::Take { .. } => "T",
         Call::Message { .. } => "M",
+        Call::Unit => "U",
     }
 }
 

@@ -199,8 +199,11 @@ impl Generator {
         self.stuck = self.random.below(5);
     }
 
-    /// Start and Quiet, in their place and out of it.
+    /// Start and Quiet, in their place and out of it, and now and then a look at the unit.
     fn claim_calls(&mut self, start_after: u32, quiet_after: u32) {
+        if self.random.once_in(60) {
+            self.make(Call::Unit);
+        }
         let stray = self.random.once_in(150);
         let start_due = self.unit.state == ClaimState::Unstarted && self.random.once_in(start_after);
         let quiet_due = self.unit.state == ClaimState::Claiming && self.random.once_in(quiet_after);

@@ -5,7 +5,6 @@
 
 use std::ops::Range;
 
-use crate::address::ClaimState;
 use crate::frame::{Frame, NULL};
 use crate::pair::{Pair, LONGEST_LIST};
 use crate::unit::{other_ports, Unit, LONGEST_QUEUE, PORTS};
@@ -17,7 +16,8 @@ pub const QUEUE_WORDS: usize = 1 + 2 * LONGEST_QUEUE;
 pub const FRAME_ANSWER: usize = 7;
 pub const TAKE_ANSWER: usize = 3;
 pub const MESSAGE_ANSWER: usize = 2;
-pub const START_ANSWER: usize = 1;
+pub const START_ANSWER: usize = 2;
+pub const UNIT_ANSWER: usize = 5;
 /// The length of a frame's bytes in a take.
 pub const FRAME_BYTES: usize = 8;
 
@@ -65,6 +65,7 @@ extern "C" {
     ) -> u32;
     fn deorasaeng_start(record: *mut u64, record_len: usize, answer: *mut u64, answer_len: usize) -> u32;
     fn deorasaeng_quiet(record: *mut u64, record_len: usize) -> u32;
+    fn deorasaeng_unit(record: *const u64, record_len: usize, answer: *mut u64, answer_len: usize) -> u32;
     fn deorasaeng_take_queue(
         queue: *mut u64,
         answer: *mut u64,
@@ -116,6 +117,10 @@ impl Record<'_> {
     pub fn quiet(&mut self) -> u32 {
         unsafe { deorasaeng_quiet(self.0.as_mut_ptr(), self.0.len()) }
     }
+
+    pub fn unit(&self, answer: &mut [u64]) -> u32 {
+        unsafe { deorasaeng_unit(self.0.as_ptr(), self.0.len(), answer.as_mut_ptr(), answer.len()) }
+    }
 }
 
 /// The take on one port's queue.
@@ -140,12 +145,7 @@ pub fn difference(words: &[u64], unit: &Unit) -> Option<String> {
 
 /// Claim state, address, preferred address, NAME.
 fn own_difference(words: &[u64], unit: &Unit) -> Option<String> {
-    let state = match unit.state {
-        ClaimState::Unstarted => 0,
-        ClaimState::Claiming => 1,
-        ClaimState::Claimed => 2,
-        ClaimState::Lost => 3,
-    };
+    let state = u64::from(unit.state.number());
     let address = unit.address().unwrap_or(NULL);
     let expected = [state, u64::from(address), u64::from(unit.preferred), unit.name];
     (words != expected).then(|| format!("own words {words:X?}, expected {expected:X?}"))

@@ -2,7 +2,7 @@
 
 use std::fmt;
 
-use crate::address::Event;
+use crate::address::{Event, StartAnswer, UnitAnswer};
 use crate::frame::Frame;
 use crate::message::{MessageAnswer, LONGEST_MESSAGE};
 use crate::unit::{FrameAnswer, Number, Unit};
@@ -16,24 +16,26 @@ pub enum Call {
     Frame { port: u32, id: u32, bytes: Vec<u8> },
     Take { port: u32 },
     Message { port: u32, requester: u32, payload: Vec<u8> },
+    Unit,
 }
 
 /// The answer to a call; a message's answer carries the bytes written.
 #[derive(Clone, Debug, PartialEq, Eq)]
 pub enum Answer {
     PowerOn,
-    Start(Result<Vec<u32>, Number>),
+    Start(Result<StartAnswer, Number>),
     Quiet(Result<(), Number>),
     Frame(Result<FrameAnswer, Number>),
     Take(Result<Option<Frame>, Number>),
     Message(MessageAnswer, Vec<u8>),
+    Unit(UnitAnswer),
 }
 
 impl Answer {
     /// The number of a refusal, 0 for none.
     pub fn number(&self) -> Number {
         match self {
-            Answer::PowerOn => 0,
+            Answer::PowerOn | Answer::Unit(_) => 0,
             Answer::Start(result) => result.as_ref().err().copied().unwrap_or(0),
             Answer::Quiet(result) => result.as_ref().err().copied().unwrap_or(0),
             Answer::Frame(result) => result.as_ref().err().copied().unwrap_or(0),
@@ -61,7 +63,7 @@ impl fmt::Display for Wrong {
     fn fmt(&self, out: &mut fmt::Formatter) -> fmt::Result {
         match self {
             Wrong::TooLong => out.write_str("longer than 4,096 bytes"),
-            Wrong::NoLetter => out.write_str("the first word is none of P S Q F T M"),
+            Wrong::NoLetter => out.write_str("the first word is none of P S Q F T M U"),
             Wrong::Missing(field) => write!(out, "{field} missing"),
             Wrong::Malformed(field, form) => write!(out, "{field}: not {form}"),
             Wrong::MoreWords => out.write_str("more words than the call has"),
@@ -88,6 +90,7 @@ pub fn apply(unit: &mut Option<Unit>, call: &Call) -> Option<Answer> {
             let answer = unit.message(*port, *requester, payload, &mut reply);
             Answer::Message(answer, reply[..answer.length].to_vec())
         }
+        Call::Unit => Answer::Unit(unit.tell()),
     })
 }
 
@@ -186,6 +189,7 @@ pub fn read_call(line: impl AsRef<[u8]>) -> Result<Call, Wrong> {
             requester: words.decimal("requester")?,
             payload: words.bytes("payload")?,
         },
+        b"U" => Call::Unit,
         _ => return Err(Wrong::NoLetter),
     };
     words.end().map(|()| call)
@@ -228,6 +232,7 @@ pub fn write_call(call: &Call) -> String {
         Call::Message { port, requester, payload } => {
             format!("M {port} {requester} {}", print_bytes(payload))
         }
+        Call::Unit => "U".to_string(),
     }
 }
 
@@ -235,7 +240,7 @@ pub fn write_call(call: &Call) -> String {
 pub fn print_answer(answer: &Answer) -> String {
     match answer {
         Answer::PowerOn => "P".to_string(),
-        Answer::Start(Ok(own_lost)) => format!("S {}", print_ports(own_lost)),
+        Answer::Start(Ok(answer)) => format!("S {:?} {}", answer.state, print_ports(&answer.own_lost)),
         Answer::Start(Err(number)) => format!("S R {number}"),
         Answer::Quiet(Ok(())) => "Q".to_string(),
         Answer::Quiet(Err(number)) => format!("Q R {number}"),
@@ -249,6 +254,7 @@ pub fn print_answer(answer: &Answer) -> String {
         Answer::Message(answer, written) => {
             format!("M {} {} {} {}", answer.number, answer.pgn, answer.length, print_bytes(written))
         }
+        Answer::Unit(answer) => print_unit_answer(answer),
     }
 }
 
@@ -263,6 +269,12 @@ fn print_frame_answer(answer: &FrameAnswer) -> String {
         print_ports(&answer.own_lost),
         answer.compared
     )
+}
+
+/// State, address, `-` for none, preferred address, NAME, number of ports.
+fn print_unit_answer(answer: &UnitAnswer) -> String {
+    let address = answer.address.map_or("-".to_string(), |address| address.to_string());
+    format!("U {:?} {address} {} {:016X} {}", answer.state, answer.preferred, answer.name, answer.ports)
 }
 
 /// The event's word, `-` for none.

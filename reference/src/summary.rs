@@ -16,6 +16,7 @@ pub struct Summary {
     frames: Outcomes,
     takes: Outcomes,
     messages: Outcomes,
+    units: Outcomes,
     consumed: u64,
     given: u64,
     accepted: ByPort,
@@ -78,9 +79,11 @@ impl Summary {
     pub fn add(&mut self, call: &Call, answer: &Answer) {
         let number = answer.number();
         match (call, answer) {
-            (Call::Start, Answer::Start(own_lost)) => {
+            (Call::Start, Answer::Start(answer)) => {
                 self.starts.add(number);
-                self.own_lost.add(own_lost.as_deref().unwrap_or_default());
+                if let Ok(answer) = answer {
+                    self.own_lost.add(&answer.own_lost);
+                }
             }
             (Call::Quiet, _) => self.quiets.add(number),
             (Call::Frame { port, .. }, Answer::Frame(answer)) => {
@@ -94,6 +97,7 @@ impl Summary {
                 self.given += u64::from(matches!(taken, Ok(Some(_))));
             }
             (Call::Message { .. }, _) => self.messages.add(number),
+            (Call::Unit, _) => self.units.add(number),
             _ => self.power_ons += 1,
         }
     }
@@ -118,6 +122,7 @@ impl Summary {
         let mut lines = vec![format!("power-on {}, lines that are no call {}", self.power_ons, self.not_calls)];
         lines.extend(outcome_lines("Start", &format!("done {}", self.starts.done()), &self.starts));
         lines.extend(outcome_lines("Quiet", &format!("done {}", self.quiets.done()), &self.quiets));
+        lines.extend(outcome_lines("unit", &format!("told {}", self.units.done()), &self.units));
         lines.extend(outcome_lines("frames", &format!("consumed {}", self.consumed), &self.frames));
         lines.extend(PORTS.map(|port| self.port_line(port)));
         let given = format!("given {}, nothing waiting {nothing}", self.given);

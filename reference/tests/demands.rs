@@ -41,6 +41,22 @@ fn demand_1_refusals_change_nothing() {
     });
 }
 
+/// Reading the unit changes nothing, and it tells what its calls made of it: Start's state is the unit's from then on.
+#[test]
+fn start_and_the_unit_tell_the_same() {
+    each_call(108, |before, call, answer, after| match (call, answer) {
+        (Call::Unit, Answer::Unit(told)) => {
+            assert_eq!(before, after);
+            assert_eq!((told.state, told.address, told.name), (after.state, after.address(), after.name));
+        }
+        (Call::Start, Answer::Start(Ok(told))) => {
+            assert_eq!(told.state, after.tell().state);
+            assert_eq!(told.state == ClaimState::Lost, after.address().is_none());
+        }
+        _ => {}
+    });
+}
+
 #[test]
 fn demand_2_no_frame_back_and_no_other_pair() {
     each_call(102, |before, call, answer, after| match (call, answer) {
@@ -230,11 +246,12 @@ fn generator_reaches_deep_states() {
     }
     for number in (0..=18).filter(|&number| number != 2) {
         let reached: u64 =
-            ["S", "Q", "F", "T", "M"].iter().map(|letter| coverage.reached(&format!("number {number} {letter}"))).sum();
+            ["S", "Q", "F", "T", "M", "U"].iter().map(|letter| coverage.reached(&format!("number {number} {letter}"))).sum();
         assert!(reached > 0, "number {number}");
     }
     assert!(EVENTS.iter().all(|row| coverage.reached(&format!("event {row}")) > 0));
     assert!(STATES.iter().all(|row| coverage.reached(&format!("state {row}")) > 0));
+    assert!(STATES.iter().all(|row| coverage.reached(&format!("told {row}")) > 0));
     assert!(MODES.iter().all(|row| coverage.reached(&format!("mode {row}")) > 0));
     for row in DEEP {
         assert!(coverage.reached(row) > 0, "{row}");

@@ -3,7 +3,7 @@
 mod common;
 
 use common::*;
-use reference::address::{ClaimState, Event};
+use reference::address::{ClaimState, Event, UnitAnswer};
 use reference::pair::Pair;
 use reference::unit::{Unit, PORTS};
 
@@ -178,7 +178,7 @@ fn start_judges_the_holder() {
         claim(&mut unit, 2, ADDRESS, name);
         claim(&mut unit, 2, ADDRESS + 1, 1);
         drain(&mut unit);
-        assert_eq!(unit.start(), Ok(vec![]));
+        assert_eq!(unit.start(), started(state, &[]));
         assert_eq!(unit.state, state);
         let stays = state == ClaimState::Lost;
         assert_eq!(holder(&unit, ADDRESS), if stays { Some((name, 2)) } else { None });
@@ -196,9 +196,27 @@ fn start_with_full_queues() {
     fill(&mut unit, 2, 32);
     fill(&mut unit, 3, 31);
     fill(&mut unit, 4, 32);
-    assert_eq!(unit.start(), Ok(vec![2, 4]));
+    assert_eq!(unit.start(), started(ClaimState::Claiming, &[2, 4]));
     assert_eq!(unit.state, ClaimState::Claiming);
     assert_eq!(PORTS.map(|port| waiting(&unit, port)), [1, 32, 32, 32]);
+}
+
+/// What the unit tells in each claim state; it has an address in Claiming and Claimed alone.
+#[test]
+fn the_unit_tells_what_it_is() {
+    let cases = [
+        (unstarted(), ClaimState::Unstarted, None),
+        (claiming(), ClaimState::Claiming, Some(ADDRESS)),
+        (claimed(), ClaimState::Claimed, Some(ADDRESS)),
+        (lost(), ClaimState::Lost, None),
+    ];
+    for (number, (unit, state, address)) in cases.into_iter().enumerate() {
+        assert_eq!(unit.tell(), UnitAnswer { state, address, preferred: ADDRESS, name: NAME, ports: 4 });
+        assert_eq!(state.number() as usize, number);
+    }
+    let bad = Unit::power_on(u64::MAX, u32::MAX).tell();
+    assert_eq!((bad.state, bad.address), (ClaimState::Unstarted, None));
+    assert_eq!((bad.preferred, bad.name), (u32::MAX, u64::MAX));
 }
 
 #[test]

@@ -55,11 +55,13 @@ fn recorded() {
 /// The lines of the format's description.
 #[test]
 fn printed_forms() {
-    let script = "P 20001C000AC00123 200\nS\nQ\nQ\nS\nF 1 18FEF100 -\nF 1 20000000 -\nT 3\nT 3\nT 3\nT 9\n\
+    let script = "P 20001C000AC00123 200\nU\nS\nU\nQ\nQ\nS\nF 1 18FEF100 -\nF 1 20000000 -\nT 3\nT 3\nT 3\nT 9\n\
         M 1 33 061201F1FE00FFFF\nM 3 33 0012FFFFFFFFFFFF\nM 1 33 0012\nM 1 33 0612\n";
     let printed = [
         "P",
-        "S -",
+        "U Unstarted - 200 20001C000AC00123 4",
+        "S Claiming -",
+        "U Claiming 200 200 20001C000AC00123 4",
         "Q",
         "Q R 18",
         "S R 18",
@@ -79,9 +81,9 @@ fn printed_forms() {
 
 /// Each line that is no call, and what is said of it.
 const NO_CALLS: &[(&str, &str)] = &[
-    ("X", "the first word is none of P S Q F T M"),
-    ("s", "the first word is none of P S Q F T M"),
-    ("SS", "the first word is none of P S Q F T M"),
+    ("X", "the first word is none of P S Q F T M U"),
+    ("s", "the first word is none of P S Q F T M U"),
+    ("SS", "the first word is none of P S Q F T M U"),
     ("P", "NAME missing"),
     ("P 1", "preferred address missing"),
     ("P 1 2 3", "more words than the call has"),
@@ -110,6 +112,8 @@ const NO_CALLS: &[(&str, &str)] = &[
     ("M 1 33", "payload missing"),
     ("M 1 33 é", "payload: not pairs of hex digits, or - for none"),
     ("M 1 33 00 12", "more words than the call has"),
+    ("U 1", "more words than the call has"),
+    ("u", "the first word is none of P S Q F T M U"),
 ];
 
 #[test]
@@ -123,7 +127,7 @@ fn lines_that_are_no_call() {
 
 #[test]
 fn comments_empty_lines_and_no_unit() {
-    let printed = ["? line 4: no unit yet: a power-on, P, comes first", "P", "S -"];
+    let printed = ["? line 4: no unit yet: a power-on, P, comes first", "P", "S Claiming -"];
     assert_eq!(run_script("# S\n\n\nS\nP ff 0\n#\nS\n"), printed);
 }
 
@@ -133,7 +137,7 @@ fn harmless_bytes() {
     let scripts = ["P ff 0\nF 1 18FEF100 0102\nS\nT 2\n", "\u{feff}P ff 0\r\n F\t1  18FEF100 \t0102 \r\n\tS\n  # no call\n T\r 2"];
     assert_eq!(run_script(scripts[0]), run_script(scripts[1]));
     assert_eq!(run_script(" \u{feff}\u{feff} P ff 0\n \t\r\n"), ["P"]);
-    assert_eq!(run_script("P ff 0\n\u{feff}S"), ["P", "? line 2: the first word is none of P S Q F T M"]);
+    assert_eq!(run_script("P ff 0\n\u{feff}S"), ["P", "? line 2: the first word is none of P S Q F T M U"]);
 }
 
 /// A call stands beside its answer, a refusal with its words; what is passed over stands as it is.
@@ -146,10 +150,10 @@ fn beside() {
         "# morning",
         "",
         "P 20001C000AC00123 200                P",
-        "S                                     S -",
+        "S                                     S Claiming -",
         "M 3 33 0012FFFFFFFFFFFF               M 6 0 0 -  (6 unit not Claimed)",
         "F 9 18FEF100 -                        F R 1  (1 port not 1 to 4)",
-        "x                                     ? line 7: the first word is none of P S Q F T M",
+        "x                                     ? line 7: the first word is none of P S Q F T M U",
         "",
     ];
     assert_eq!(lines, expected);
@@ -191,7 +195,7 @@ fn longest_line() {
 /// Frames that two ports stop, that are consumed and that are refused; each take; each number.
 #[test]
 fn summary() {
-    let script = "S\nP 20001C000AC00123 200\nS\nQ\nQ\nx\nM 1 33 061201F1FE00FFFF\nM 1 33 061201F1FE00FFFF\n\
+    let script = "S\nP 20001C000AC00123 200\nS\nQ\nQ\nU\nx\nU\nM 1 33 061201F1FE00FFFF\nM 1 33 061201F1FE00FFFF\n\
         M 3 33 0012FFFFFFFFFFFF\nF 1 18FEE300 -\nF 1 18EFC800 -\nF 1 20000000 -\nF 9 18FEE300 -\nF 9 18FEE300 -\n\
         T 2\nT 2\nT 9\n";
     let lines = [
@@ -199,6 +203,7 @@ fn summary() {
         "Start 1: done 1, refused 0",
         "Quiet 2: done 1, refused 1",
         "    18 Start not in Unstarted, Quiet not in Claiming: 1",
+        "unit 2: told 2, refused 0",
         "frames 5: consumed 1, refused 3",
         "    1 port not 1 to 4: 2",
         "    3 identifier 2^29 or more: 1",
@@ -220,8 +225,8 @@ fn summary_of_a_full_port() {
     let frames = "F 3 18FEF100 -\n".repeat(33);
     let lines = Run::of(&format!("P 1 2\n{frames}S\n")).summary.lines();
     assert_eq!(lines[1], "Start 1: done 1, refused 0");
-    assert_eq!(lines[4], "  port 1: accepted 32, stopped 0, lost 1, own lost 1");
-    assert_eq!(lines[6], "  port 3: accepted 0, stopped 0, lost 0, own lost 0");
+    assert_eq!(lines[5], "  port 1: accepted 32, stopped 0, lost 1, own lost 1");
+    assert_eq!(lines[7], "  port 3: accepted 0, stopped 0, lost 0, own lost 0");
 }
 
 #[test]

@@ -6,7 +6,7 @@ use mathlib.Core.List.{List, [], _∷_, _++_, List·Memᴰ, List·Memᴰ·head, 
 use Prim.Native.Nat.{ℕ, _<_}
 use borrow.Author.Tests.{le-leb, lt-leb}
 use Rattle.unit.specs.Model.{modelOf}
-use Rattle.bridge.specs.Calls.{Call, FrameIn, TakeOut, Message, Start, Quiet}
+use Rattle.bridge.specs.Calls.{Call, FrameIn, TakeOut, Message, Start, Quiet, ReadUnit}
 use Rattle.demand_3.specs.Demand3.{ports, modelAfter}
 use Rattle.demand_3.proofs.Demand3.{demand-3}
 use Rattle.any_order.specs.Claimants.{Same}
@@ -33,6 +33,7 @@ never preferred (TakeOut port ∷ ks) n = never preferred ks (λ m. n (List·Mem
 never preferred (Message port requester payload lentReply ∷ ks) n = never preferred ks (λ m. n (List·Memᴰ·tail m))
 never preferred (Start ∷ ks) n = lt-leb preferred 253 (n (List·Memᴰ·head refl))
 never preferred (Quiet ∷ ks) n = never preferred ks (λ m. n (List·Memᴰ·tail m))
+never preferred (ReadUnit ∷ ks) n = never preferred ks (λ m. n (List·Memᴰ·tail m))
 
 once : (js later : List Call) → callsStart (js ++ Start ∷ later) ≡ true
 once [] later = refl
@@ -41,6 +42,7 @@ once (TakeOut port ∷ js) later = once js later
 once (Message port requester payload lentReply ∷ js) later = once js later
 once (Start ∷ js) later = refl
 once (Quiet ∷ js) later = once js later
+once (ReadUnit ∷ js) later = once js later
 
 begins : {preferred : ℕ} {ks : List Call} {b : Bool} → Begins preferred ks b → hasStarted preferred ks ≡ b
 begins {preferred = preferred} {ks = ks} (unstarted n) = never preferred ks n

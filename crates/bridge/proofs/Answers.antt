@@ -12,10 +12,11 @@ use Rattle.queue.specs.Queue.{priority}
 use Rattle.unit.specs.declared.Claim.the-variants.{Claimed}
 use Rattle.unit.specs.declared.Unit.{Unit}
 use Rattle.bridge.specs.declared.TakeAnswer.{TakeAnswer}
+use Rattle.bridge.specs.declared.UnitAnswer.{UnitAnswer}
 use Rattle.unit.specs.Model.{modelOf, recordLength, withOwn, withRest}
 use Rattle.unit.specs.Own.{isClaiming, moved}
-use Rattle.refusals.specs.Refusals.{takeRefusal, quietRefusal}
-use Rattle.bridge.specs.Calls.{Call, refusal, restAfter, asks, sends, performed, next, takeAnswer, Calling, TakingOut, Quieting}
+use Rattle.refusals.specs.Refusals.{takeRefusal, quietRefusal, unitRefusal}
+use Rattle.bridge.specs.Calls.{Call, refusal, restAfter, asks, sends, performed, next, takeAnswer, unitAnswer, Calling, TakingOut, Quieting, Reading}
 use Rattle.record.specs.Steps.{RowTaking}
 use Rattle.unit.proofs.Ports.{each-none, each-one}
 use Rattle.record.proofs.Regions.{rows-four}
@@ -98,3 +99,23 @@ module _ {words : List ℕ} where
               (state ∙ rw (u, each-none 4 (modelOf 4 words .rows)));
           answer = e;
         }
+
+-- ---- the unit is read
+module _ {words : List ℕ} where
+  pub unit-short : (length words ≡ recordLength 4 → ⊥) → Reading 4 words (UnitAnswer.Refused 2)
+  unfolding unitRefusal unitAnswer refusal
+  unit-short h =
+      let e : 2 ≡ unitRefusal 4 (length words) = rw (ne-eqb (length words) (recordLength 4) h) in
+      record { call = call-refused (λ z. two (e ∙ z)); answer = rw (ne-eqb (length words) (recordLength 4) h) }
+    where
+      two : _≡_ {A = ℕ} 2 0 → ⊥
+      two z = omega arith
+
+  pub unit-read : {own : Unit} → length words ≡ recordLength 4 → own ≡ modelOf 4 words .rest .own → Reading 4 words (UnitAnswer.Told own 4)
+  unfolding unitRefusal unitAnswer refusal performed restAfter asks sends
+  unit-read full o =
+      let e : 0 ≡ unitRefusal 4 (length words) = rw (eq-eqb (length words) (recordLength 4) full) in
+      record {
+        call = call-done (sym e) refl (rw (each-none 4 (modelOf 4 words .rows)));
+        answer = rw (eq-eqb (length words) (recordLength 4) full, o);
+      }

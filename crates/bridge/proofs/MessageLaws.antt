@@ -1,5 +1,5 @@
 -- A message as a whole call: refused, or what it asks done and answered. Assumes nothing.
-use mathlib.Core.Path.{_≡_, sym, ap, _∙_}
+use mathlib.Core.Path.{_≡_, refl, sym, ap, _∙_}
 use mathlib.Core.List.{List}
 use Prim.Native.Nat.{ℕ}
 use native.Mathlib.Decide.{ℕ-discrete}
@@ -9,7 +9,7 @@ use Rattle.network_message.specs.declared.Command.{Command}
 use Rattle.network_message.specs.Decoding.{decoded}
 use Rattle.message_answers.specs.declared.MessageAnswer.{MessageAnswer}
 use Rattle.unit.specs.Model.{modelOf}
-use Rattle.message_answers.specs.Messages.{Replied, performedBy}
+use Rattle.message_answers.specs.Messages.{Replied, performedBy, Untouched}
 use Rattle.bridge.specs.Calls.{silentReply, messaged, Message, refusal, restAfter, asks, sends, performed, Calling, Messaging}
 use Rattle.refusals.specs.Refusals.{messageRefusal}
 use Rattle.message_answers.specs.Steps.{Replying}
@@ -21,11 +21,11 @@ module _ (words lent : List ℕ) (port requester : ℕ) (payload : List ℕ) whe
   abbrev outcome : Replied
   outcome = messaged 4 (length words) (length lent) (modelOf 4 words .rest) port requester payload
 
-  done : {after back : List ℕ} {r : MessageAnswer} → outcome .number ≡ 0 → length after ≡ length words → Replying 4 words after lent back outcome r → Calling 4 words after (Message port requester payload (length lent))
+  done : {after back : List ℕ} {Still : ℕ → Type 0} {r : MessageAnswer} → outcome .number ≡ 0 → length after ≡ length words → Replying 4 words after lent back outcome Still r → Calling 4 words after (Message port requester payload (length lent))
   unfolding refusal performed restAfter asks sends
   done z long S = call-done z long (S .state ∙ rw (each-none 4 (modelOf 4 words .rows)))
 
-  undone : {after back : List ℕ} {r : MessageAnswer} → (outcome .number ≡ 0 → ⊥) → Replying 4 words after lent back outcome r → Calling 4 words after (Message port requester payload (length lent))
+  undone : {after back : List ℕ} {Still : ℕ → Type 0} {r : MessageAnswer} → (outcome .number ≡ 0 → ⊥) → Replying 4 words after lent back outcome Still r → Calling 4 words after (Message port requester payload (length lent))
   unfolding refusal
   undone h S = rw (S .refused h) (call-refused h)
 
@@ -40,13 +40,14 @@ module _ (words lent : List ℕ) (port requester : ℕ) (payload : List ℕ) whe
       call = call-refused (λ z. h (sym (ap (λ (r : Replied). r .number) (silenced h)) ∙ z));
       answer = rw (silenced h);
       written = rw (silenced h);
+      others = λ _ _. refl;
     }
 
     outcome-is : {command : Command} → n ≡ 0 → command ≡ decoded 4 port payload → outcome ≡ performedBy 4 (modelOf 4 words .rest) requester payload command
     unfolding messaged
     outcome-is z c = rw (← e, eq-eqb n 0 z, c)
 
-    called : {after back : List ℕ} {r : MessageAnswer} → length after ≡ length words → Replying 4 words after lent back outcome r → Calling 4 words after (Message port requester payload (length lent))
+    called : {after back : List ℕ} {Still : ℕ → Type 0} {r : MessageAnswer} → length after ≡ length words → Replying 4 words after lent back outcome Still r → Calling 4 words after (Message port requester payload (length lent))
     called long S =
         elim (ℕ-discrete (outcome .number) 0) [
           | yes z ↦ done z long S
@@ -54,7 +55,7 @@ module _ (words lent : List ℕ) (port requester : ℕ) (payload : List ℕ) whe
         ]
 
     pub message-done : {after back : List ℕ} {command : Command} {r : MessageAnswer} → n ≡ 0 → command ≡ decoded 4 port payload → length after ≡ length words
-        → Replying 4 words after lent back (performedBy 4 (modelOf 4 words .rest) requester payload command) r → Messaging 4 words after port requester payload lent back r
+        → Replying 4 words after lent back (performedBy 4 (modelOf 4 words .rest) requester payload command) (Untouched 4 command) r → Messaging 4 words after port requester payload lent back r
     message-done z c long R =
         let S = rw (← (outcome-is z c)) at R in
-        record { call = called long S; answer = S .answer; written = S .written }
+        record { call = called long S; answer = S .answer; written = S .written; others = rw c at (R .others) }

@@ -13,6 +13,8 @@ use Rattle.queue.specs.declared.Frame.{Frame}
 use Rattle.queue.specs.Queue.{size}
 use Rattle.bridge.specs.declared.FrameAnswer.{FrameAnswer}
 use Rattle.bridge.specs.declared.Response.{Response}
+use Rattle.bridge.specs.declared.StartAnswer.{StartAnswer}
+use Rattle.unit.specs.declared.Unit.{Unit}
 use Rattle.forwarding.specs.declared.Share.{Share}
 use Rattle.claims.specs.declared.Acted.{Acted as Done}
 use Rattle.unit.specs.Ports.{each, mask}
@@ -20,7 +22,7 @@ use Rattle.unit.specs.Model.{modelOf, recordLength, rowAt, withRows}
 use Rattle.unit.specs.Own.{startChecks, consumes, framesSent}
 use Rattle.refusals.specs.Refusals.{frameRefusal, startRefusal}
 use Rattle.checks.specs.Checks.{first}
-use Rattle.bridge.specs.Calls.{frameOf, offered, refusal, restAfter, asks, sends, performed, frameRefused, framePassed, frameAnswer, startAnswer, Framing, Starting}
+use Rattle.bridge.specs.Calls.{frameOf, offered, refusal, restAfter, asks, sends, performed, frameRefused, framePassed, frameAnswer, startRefused, startAnswer, Framing, Starting}
 use Rattle.forwarding.specs.Forwarding.{verdict, sentIf, losesOwn}
 use Rattle.claims.specs.Claims.{Acted, frameActed, started}
 use Rattle.forwarding.specs.Steps.{forwardedTo, sharesTo, Forwarding, announcedTo, unsentTo, Announcing}
@@ -137,11 +139,11 @@ module _ {words : List ℕ} (port id : ℕ) (bytes : List ℕ) {n : ℕ} (e : n 
 
 -- ---- the call of Start
 module _ (words : List ℕ) where
-  pub start-short : (length words ≡ recordLength 4 → ⊥) → Starting 4 words words (record { refusal = 2; unsent = 0 })
+  pub start-short : {r : StartAnswer} → (length words ≡ recordLength 4 → ⊥) → r ≡ startRefused 2 → Starting 4 words words r
   unfolding startAnswer startRefusal refusal
-  start-short h = record {
+  start-short h s = record {
     call = call-refused (λ z. two (rw (ne-eqb (length words) (recordLength 4) h) at z));
-    answer = rw (ne-eqb (length words) (recordLength 4) h);
+    answer = rw (ne-eqb (length words) (recordLength 4) h) s;
   }
     where
       two : _≡_ {A = ℕ} 2 0 → ⊥
@@ -152,17 +154,17 @@ module _ (words : List ℕ) where
     unfolding startRefusal
     number = rw (eq-eqb (length words) (recordLength 4) full) (sym e)
 
-    pub start-refused : (n ≡ 0 → ⊥) → Starting 4 words words (record { refusal = n; unsent = 0 })
+    pub start-refused : {r : StartAnswer} → (n ≡ 0 → ⊥) → r ≡ startRefused n → Starting 4 words words r
     unfolding startAnswer refusal
-    start-refused h = record {
+    start-refused h s = record {
       call = call-refused (λ z. h (sym number ∙ z));
-      answer = rw (number, ne-eqb n 0 h);
+      answer = rw (number, ne-eqb n 0 h) s;
     }
 
-    pub start-done : {mid after : List ℕ} {d : Done} {u : ℕ} → n ≡ 0 → length after ≡ length words → Acting 4 words mid (started (modelOf 4 words .rest)) d → Announcing 4 mid after (d .sent) u
-        → Starting 4 words after (record { refusal = 0; unsent = u })
+    pub start-done : {mid after : List ℕ} {d : Done} {u : ℕ} {own : Unit} → n ≡ 0 → length after ≡ length words → Acting 4 words mid (started (modelOf 4 words .rest)) d
+        → Announcing 4 mid after (d .sent) u → own ≡ modelOf 4 after .rest .own → Starting 4 words after (record { refusal = 0; unsent = u; claim = own .claim })
     unfolding startAnswer refusal performed restAfter asks sends announcedTo unsentTo
-    start-done z long A B = record {
+    start-done z long A B o = record {
       call = call-done (number ∙ z) long (responded A B .state);
-      answer = rw (number, eq-eqb n 0 z, responded A B .unsent);
+      answer = rw (number, eq-eqb n 0 z, responded A B .unsent, o, responded A B .state);
     }

@@ -6,7 +6,7 @@ use mathlib.Core.Bool.{false, cond}
 use mathlib.Core.Path.{_≡_}
 use mathlib.Core.List.{List, [], _++_}
 use mathlib.Core.Option.{Option, none, some}
-use lib.ListN.{length, take, drop}
+use lib.ListN.{length, getD, take, drop}
 use lib.Dec.{eqb}
 use Rattle.identifier.specs.Identifier.{pgnOf}
 use Rattle.delivery.specs.Row.{pull, given}
@@ -14,10 +14,11 @@ use Rattle.delivery.specs.Unit.{joinAll, rowNext}
 use Rattle.filter.specs.declared.Asked.{Asked}
 use Rattle.filter.specs.Filter.{Filter}
 use Rattle.queue.specs.declared.Frame.{Frame}
+use Rattle.queue.specs.declared.Taken.{Taken}
 use Rattle.queue.specs.Queue.{size, priority, takenOf, blockLength as queueLength}
 use Rattle.address_claims.specs.declared.Event.{Event}
 use Rattle.network_message.specs.Decoding.{decoded}
-use Rattle.unit.specs.declared.Claim.the-variants.{Claimed}
+use Rattle.unit.specs.declared.Claim.the-variants.{Unstarted, Claimed}
 use Rattle.unit.specs.Ports.{each, mask, total}
 use Rattle.unit.specs.Model.{Rest, Model, rowAt, withOwn, withPairs, rowsFrom, modelOf}
 use Rattle.unit.specs.Own.{consumes, moved, framesSent}
@@ -25,11 +26,12 @@ use Rattle.forwarding.specs.Forwarding.{sentIf, accepts, loses, losesOwn, silen
 use Rattle.claims.specs.Claims.{Acted, frameActed, started}
 pub use Rattle.claims.specs.Claims.{frameOf}
 use Rattle.message_answers.specs.declared.MessageAnswer.{MessageAnswer}
-use Rattle.message_answers.specs.Messages.{Replied, messageAnswer, performedBy}
-use Rattle.refusals.specs.Refusals.{frameRefusal, takeRefusal, startRefusal, quietRefusal, messageRefusal}
+use Rattle.message_answers.specs.Messages.{Replied, messageAnswer, performedBy, Untouched}
+use Rattle.refusals.specs.Refusals.{frameRefusal, takeRefusal, startRefusal, quietRefusal, unitRefusal, messageRefusal}
 use Rattle.bridge.specs.declared.FrameAnswer.{FrameAnswer}
 use Rattle.bridge.specs.declared.TakeAnswer.{TakeAnswer}
 use Rattle.bridge.specs.declared.StartAnswer.{StartAnswer}
+use Rattle.bridge.specs.declared.UnitAnswer.{UnitAnswer}
 
 -- a call, by its arguments
 pub data Call : Type 0 where
@@ -38,6 +40,7 @@ pub data Call : Type 0 where
   Message : (port requester : ℕ) (payload : List ℕ) (lentReply : ℕ) → Call
   Start : Call
   Quiet : Call
+  ReadUnit : Call
 
 -- ---- a frame
 -- what is answered for port q: the pair is asked (rule 2), but a consumed frame is not forwarded (rule 1)
@@ -63,6 +66,7 @@ refusal ports lent rest (TakeOut port) = takeRefusal ports lent port
 refusal ports lent rest (Message port requester payload lentReply) = messaged ports lent lentReply rest port requester payload .number
 refusal ports lent rest Start = startRefusal ports lent (rest .own)
 refusal ports lent rest Quiet = quietRefusal ports lent (rest .own)
+refusal ports lent rest ReadUnit = unitRefusal ports lent
 
 -- a frame that came in is acted on where it is a claim or a request
 abbrev pub frameDone : Rest → ℕ → Frame → Acted
@@ -75,6 +79,7 @@ restAfter ports lent rest (TakeOut port) = rest
 restAfter ports lent rest (Message port requester payload lentReply) = withPairs rest (messaged ports lent lentReply rest port requester payload .pairs)
 restAfter ports lent rest Start = started rest .rest
 restAfter ports lent rest Quiet = withOwn rest (moved (rest .own) Claimed (rest .own .address))
+restAfter ports lent rest ReadUnit = rest
 
 -- the port that a take is made on
 unfoldable pub asks : Call → Option ℕ
@@ -83,6 +88,7 @@ asks (TakeOut port) = some (port - 1)
 asks (Message port requester payload lentReply) = none
 asks Start = none
 asks Quiet = none
+asks ReadUnit = none
 
 -- the frames sent to port q, in order: the forwarded, then the unit's own
 abbrev pub frameSends : ℕ → Rest → ℕ → Frame → ℕ → List Frame
@@ -94,6 +100,7 @@ sends ports rest (TakeOut port) q = []
 sends ports rest (Message port requester payload lentReply) q = []
 sends ports rest Start q = framesSent (started rest .sent)
 sends ports rest Quiet q = []
+sends ports rest ReadUnit q = []
 
 -- each row by itself: frames join under rule 3, or a take is made under rule 4
 unfoldable pub performed : ℕ → ℕ → Model → Call → Model
@@ -147,11 +154,30 @@ takeAnswer ports lent m port =
     (TakeAnswer.Took (takenOf (given (pull priority (rowAt m (port - 1))))))
     (TakeAnswer.Refused (takeRefusal ports lent port))
 
+-- a take's answer by document 01's words: the number that refused it, 0 for none, and what it gave
+abbrev pub takeNumber : TakeAnswer → ℕ
+takeNumber (TakeAnswer.Refused number) = number
+takeNumber (TakeAnswer.Took taken) = 0
+
+abbrev pub gave : TakeAnswer → Taken
+gave (TakeAnswer.Refused number) = Taken.Nothing
+gave (TakeAnswer.Took taken) = taken
+
+-- a refused Start tells nothing: no port, and Unstarted
+abbrev pub startRefused : ℕ → StartAnswer
+startRefused number = record { refusal = number; unsent = 0; claim = Unstarted }
+
+-- what became of the unit, and the ports where its own frame was lost
 unfoldable pub startAnswer : ℕ → ℕ → Model → StartAnswer
 startAnswer ports lent m =
     cond (eqb (startRefusal ports lent (m .rest .own)) 0)
-    (record { refusal = 0; unsent = mask (λ q. losesOwn (started (m .rest) .sent) (rowAt m q)) ports })
-    (record { refusal = startRefusal ports lent (m .rest .own); unsent = 0 })
+    (record { refusal = 0; unsent = mask (λ q. losesOwn (started (m .rest) .sent) (rowAt m q)) ports; claim = started (m .rest) .rest .own .claim })
+    (startRefused (startRefusal ports lent (m .rest .own)))
+
+-- the unit, and how many ports it has
+unfoldable pub unitAnswer : ℕ → ℕ → Model → UnitAnswer
+unitAnswer ports lent m =
+    cond (eqb (unitRefusal ports lent) 0) (UnitAnswer.Told (m .rest .own) ports) (UnitAnswer.Refused (unitRefusal ports lent))
 
 -- ---- the contracts
 -- a call k on the record
@@ -182,6 +208,8 @@ pub record Messaging (ports : ℕ) (before after : List ℕ) (port requester : �
   pub written : back
       ≡ messaged ports (length before) (length lent) (modelOf ports before .rest) port requester payload .written (modelOf ports before .seen)
       ++ drop (length (messaged ports (length before) (length lent) (modelOf ports before .rest) port requester payload .written (modelOf ports before .seen))) lent
+  -- every word outside the blocks of the pairs that a command changes is as it was
+  pub others : (n : ℕ) → Untouched ports (decoded ports port payload) n → getD after n 0 ≡ getD before n 0
 
 pub record Starting (ports : ℕ) (before after : List ℕ) (r : StartAnswer) : Type 0 where
   pub call : Calling ports before after Start
@@ -190,3 +218,8 @@ pub record Starting (ports : ℕ) (before after : List ℕ) (r : StartAnswer) : 
 pub record Quieting (ports : ℕ) (before after : List ℕ) (r : ℕ) : Type 0 where
   pub call : Calling ports before after Quiet
   pub answer : r ≡ quietRefusal ports (length before) (modelOf ports before .rest .own)
+
+-- the unit is read: no word changes
+pub record Reading (ports : ℕ) (words : List ℕ) (r : UnitAnswer) : Type 0 where
+  pub call : Calling ports words words ReadUnit
+  pub answer : r ≡ unitAnswer ports (length words) (modelOf ports words)

@@ -14,7 +14,7 @@ ghost use Rattle.identifier.specs.Identifier.{saOf};
 ghost use Rattle.unit.specs.Model.{modelOf, recordLength};
 ghost use Rattle.unit.specs.Own.{consumes};
 ghost use Rattle.claims.specs.Claims.{frameActed};
-ghost use Rattle.bridge.specs.Calls.{frameRefused, Framing, TakingOut, Messaging, Starting, Quieting};
+ghost use Rattle.bridge.specs.Calls.{frameRefused, startRefused, Framing, TakingOut, Messaging, Starting, Quieting, Reading};
 ghost use Rattle.bridge.specs.Steps.{Responding, Sharing, Passing};
 
 // What came of a frame. Ports are masks, bit p - 1 for port p. A refusal of 0 is none; refused, the rest is empty.
@@ -34,10 +34,18 @@ pub enum TakeAnswer {
     Took(Taken),
 }
 
-// The number that refused Start, or 0, and the ports where the unit's own frame was lost.
+// The number that refused Start, or 0, the ports where the unit's own frame was lost, and what became of the unit: Claiming or Lost. Refused, the rest is
+// empty.
 pub struct StartAnswer {
     pub refusal: u32,
     pub unsent: u32,
+    pub claim: Claim,
+}
+
+// The unit as it is, and how many ports it has, or the number that refused the call.
+pub enum UnitAnswer {
+    Refused(u32),
+    Told { unit: Unit, ports: u32 },
 }
 
 // The claim event, and the ports where the unit's own frame was lost.
@@ -152,28 +160,39 @@ pub fn take(words: &mut [u64], port: u32) -> TakeAnswer
     TakeAnswer::Took(taken)
 }
 
+// A refused Start's answer.
+fn start_refused(number: u32) -> StartAnswer
+    ensures { λ r. ⌜ r ≡ startRefused number ⌝ }
+{
+    StartAnswer {
+        refusal: number,
+        unsent: 0,
+        claim: Claim::Unstarted,
+    }
+}
+
 // The unit claims its preferred address.
 pub fn start(words: &mut [u64]) -> StartAnswer
     ensures { λ r. ⌜ Starting 4 (now (words .entry)) (now (words .exit)) r ⌝ }
 {
     if words.len() != Unit::RECORD_LENGTH {
-        return StartAnswer {
-            refusal: 2,
-            unsent: 0,
-        };
+        return start_refused(2);
     }
     let unit = unit::read_unit(words);
     let number = unit.start_refusal();
     if number != 0 {
-        return StartAnswer {
-            refusal: number,
-            unsent: 0,
-        };
+        return start_refused(number);
     }
     let a = claims::start(words);
     let sent = a.sent;
     let unsent = forwarding::announce(words, sent);
-    StartAnswer { refusal: 0, unsent }
+    let after = unit::read_unit(words);
+    let claim = after.claim;
+    StartAnswer {
+        refusal: 0,
+        unsent,
+        claim,
+    }
 }
 
 // The 250 ms after the unit's claim are over.
@@ -191,6 +210,20 @@ pub fn quiet(words: &mut [u64]) -> u32
         return 0;
     }
     18
+}
+
+// The unit is read: its claim state, its addresses, its NAME, and how many ports it has.
+pub fn unit(words: &[u64]) -> UnitAnswer
+    ensures { λ r. ⌜ Reading 4 (now (words .entry)) r ⌝ }
+{
+    if words.len() != Unit::RECORD_LENGTH {
+        return UnitAnswer::Refused(2);
+    }
+    let unit = unit::read_unit(words);
+    UnitAnswer::Told {
+        unit,
+        ports: Unit::PORTS as u32,
+    }
 }
 
 // A network message to the unit, handed in whole, with a buffer for what is to be sent back.

@@ -18,17 +18,19 @@ use Rattle.bridge.specs.declared.FrameAnswer.{FrameAnswer}
 use Rattle.bridge.specs.declared.TakeAnswer.{TakeAnswer}
 use Rattle.message_answers.specs.declared.MessageAnswer.{MessageAnswer}
 use Rattle.bridge.specs.declared.StartAnswer.{StartAnswer}
+use Rattle.bridge.specs.declared.UnitAnswer.{UnitAnswer}
+use Rattle.unit.specs.declared.Unit.{Unit}
 use Rattle.unit.specs.Model.{Rest, Seen, modelOf}
 use Rattle.unit.specs.PowerOn.{notLong, powerOnRefusal}
 use Rattle.unit.specs.Own.{isUnstarted}
-use Rattle.refusals.specs.Refusals.{frameRefusal, takeRefusal, startRefusal, quietRefusal}
+use Rattle.refusals.specs.Refusals.{frameRefusal, takeRefusal, startRefusal, quietRefusal, unitRefusal}
 use Rattle.message_answers.specs.Messages.{Replied, acknowledged, performedBy}
 use Rattle.bridge.specs.Calls.{silentReply, messaged}
 use Rattle.refusals.specs.Refusals.{messageChecks, messageRefusal}
-use Rattle.bridge.specs.Calls.{refusal, framePassed, frameRefused, frameAnswer, takeAnswer, startAnswer, Framing, TakingOut, Messaging, Starting, Quieting}
+use Rattle.bridge.specs.Calls.{refusal, framePassed, frameRefused, frameAnswer, takeAnswer, takeNumber, startRefused, startAnswer, unitAnswer, Framing, TakingOut, Messaging, Starting, Quieting, Reading}
 use Rattle.message_answers.specs.Messages.{messageAnswer}
 use Rattle.unit.specs.PowerOn.{PoweringOn}
-use Rattle.demand_1.specs.Demand1.{powerOnNumbers, frameNumbers, takeNumbers, startNumbers, quietNumbers, messageNumbers, Exact, Unchanged, Writes, takeNumber, Demand1}
+use Rattle.demand_1.specs.Demand1.{powerOnNumbers, frameNumbers, takeNumbers, startNumbers, quietNumbers, unitNumbers, messageNumbers, Exact, Unchanged, Writes, unitNumber, Demand1}
 use Rattle.delivery.specs.Row.{pull, given}
 use Rattle.queue.specs.Queue.{priority, takenOf}
 use Rattle.unit.specs.Ports.{mask}
@@ -51,7 +53,7 @@ use Rattle.list_commands.specs.Commands.{listChecks, listRefusal, commanded}
 use Rattle.filter_commands.specs.Pairs.{holdsOf}
 use Rattle.message_answers.specs.Messages.{changedBy, replied}
 use Rattle.refusals.proofs.Checks.{message-goes}
-use Rattle.made.proofs.Made.{powering, framing, taking, messaging, starting, quieting}
+use Rattle.made.proofs.Made.{powering, framing, taking, messaging, starting, quieting, reading}
 use Rattle.demand_1.proofs.Numbers.{exact, message-number}
 
 -- ---- power-on and Quiet
@@ -102,7 +104,7 @@ take-exact {words = words} {after = after} {port = port} {r = r} T = go (eqb n 0
     go false e a = numbers (ap takeNumber a)
 
 -- ---- Start
-start-exact : {words after : List ℕ} {r : StartAnswer} → Starting 4 words after r → Exact (startNumbers (length words) (modelOf 4 words .rest)) (r .refusal) × Unchanged (r .refusal) words after × ((r .refusal ≡ 0 → ⊥) → r .unsent ≡ 0)
+start-exact : {words after : List ℕ} {r : StartAnswer} → Starting 4 words after r → Exact (startNumbers (length words) (modelOf 4 words .rest)) (r .refusal) × Unchanged (r .refusal) words after × ((r .refusal ≡ 0 → ⊥) → r ≡ startRefused (r .refusal))
 unfolding startAnswer refusal startRefusal
 start-exact {words = words} {after = after} {r = r} S = go (eqb n 0) refl (S .answer)
   where
@@ -115,15 +117,28 @@ start-exact {words = words} {after = after} {r = r} S = go (eqb n 0) refl (S .an
     numbers : r .refusal ≡ n → Exact (startNumbers (length words) (modelOf 4 words .rest)) (r .refusal) × Unchanged (r .refusal) words after
     numbers e = (rw e (exact (startNumbers (length words) (modelOf 4 words .rest)) refl), λ h. S .call .refused (λ z. h (e ∙ z)))
 
-    go : (t : Bool) → eqb n 0 ≡ t → r ≡ cond t (record { refusal = 0; unsent = mask (λ q. losesOwn (started (modelOf 4 words .rest) .sent) (rowAt (modelOf 4 words) q)) 4 }) (record { refusal = n; unsent = 0 })
-        → Exact (startNumbers (length words) (modelOf 4 words .rest)) (r .refusal) × Unchanged (r .refusal) words after × ((r .refusal ≡ 0 → ⊥) → r .unsent ≡ 0)
+    go : (t : Bool) → eqb n 0 ≡ t → r ≡ cond t (record { refusal = 0; unsent = mask (λ q. losesOwn (started (modelOf 4 words .rest) .sent) (rowAt (modelOf 4 words) q)) 4; claim = started (modelOf 4 words .rest) .rest .own .claim }) (startRefused n)
+        → Exact (startNumbers (length words) (modelOf 4 words .rest)) (r .refusal) × Unchanged (r .refusal) words after × ((r .refusal ≡ 0 → ⊥) → r ≡ startRefused (r .refusal))
     go true e a =
         let z : r .refusal ≡ 0 = ap (λ (x : StartAnswer). x .refusal) a in
         let b = numbers (z ∙ sym (eqb-true n 0 e)) in
         (b .0, b .1, λ h. absurd (h z))
     go false e a =
-        let b = numbers (ap (λ (x : StartAnswer). x .refusal) a) in
-        (b .0, b .1, λ _. ap (λ (x : StartAnswer). x .unsent) a)
+        let z : r .refusal ≡ n = ap (λ (x : StartAnswer). x .refusal) a in
+        let b = numbers z in
+        (b .0, b .1, λ _. a ∙ ap startRefused (sym z))
+
+-- ---- the unit is read
+unit-exact : {words : List ℕ} {r : UnitAnswer} → Reading 4 words r → Exact (unitNumbers (length words)) (unitNumber r)
+unfolding unitAnswer unitRefusal
+unit-exact {words = words} {r = r} R = rw (number (notLong 4 (length words)) (R .answer)) (exact (unitNumbers (length words)) refl)
+  where
+    own : Unit
+    own = modelOf 4 words .rest .own
+
+    number : (b : Bool) → r ≡ cond (eqb (cond b 2 0) 0) (UnitAnswer.Told own 4) (UnitAnswer.Refused (cond b 2 0)) → unitNumber r ≡ cond b 2 0
+    number true a = ap unitNumber a
+    number false a = ap unitNumber a
 
 -- ---- a message
 -- what is written goes by the number
@@ -204,11 +219,12 @@ message-exact {words = words} {payload = payload} {lent = lent} {port = port} {r
 -- ---- the whole
 pub demand-1 : Demand1
 demand-1 = record {
-  defined = ((λ κs w name preferred. tt), (λ κs w b port id. tt), (λ κs w port. tt), (λ κs w p b port requester. tt), (λ κs w. tt), (λ κs w. tt));
+  defined = ((λ κs w name preferred. tt), (λ κs w b port id. tt), (λ κs w port. tt), (λ κs w p b port requester. tt), (λ κs w. tt), (λ κs w. tt), (λ κs w. tt));
   power-on = λ h. power-on-exact (powering h);
   frame = λ h. frame-exact (framing h);
   take = λ h. take-exact (taking h);
   message = λ h. message-exact (messaging h);
   start = λ h. start-exact (starting h);
   quiet = λ h. quiet-exact (quieting h);
+  unit = λ h. unit-exact (reading h);
 }

@@ -18,22 +18,24 @@ use Rattle.network_message.specs.Decoding.{functionOf, pairOf, fromOf, toOf, is
 use Rattle.replies.specs.Replies.{controlOf, acknowledgment}
 use Rattle.bridge.specs.declared.FrameAnswer.{FrameAnswer}
 use Rattle.bridge.specs.declared.TakeAnswer.{TakeAnswer}
-use Rattle.bridge.specs.declared.TakeAnswer.the-variants.{Refused, Took}
 use Rattle.message_answers.specs.declared.MessageAnswer.{MessageAnswer}
 use Rattle.bridge.specs.declared.StartAnswer.{StartAnswer}
+use Rattle.bridge.specs.declared.UnitAnswer.{UnitAnswer}
+use Rattle.bridge.specs.declared.UnitAnswer.the-variants.{Told}
 use Rattle.unit.specs.Model.{Rest, modelOf}
 use Rattle.checks.specs.Ports.{noPort}
 use Rattle.unit.specs.PowerOn.{notLong}
 use Rattle.unit.specs.Own.{isUnstarted, isClaiming}
 use Rattle.unit.specs.Own.{isClaimed}
 use Rattle.list_commands.specs.Commands.{anyNamed}
-use Rattle.bridge.specs.Calls.{frameRefused}
+use Rattle.bridge.specs.Calls.{frameRefused, takeNumber, startRefused}
 use Rattle.unit.proofs.Unit.power_on.Reads as power-on
 use Rattle.bridge.proofs.frame.Reads as frame
 use Rattle.bridge.proofs.take.Reads as take
 use Rattle.bridge.proofs.message.Reads as message
 use Rattle.bridge.proofs.start.Reads as start
 use Rattle.bridge.proofs.quiet.Reads as quiet
+use Rattle.bridge.proofs.unit.Reads as unit
 use Rattle.made.specs.Made as made
 
 -- ---- the table "Numbers given back": the numbers of each call with their conditions, in the order in which they are given
@@ -59,6 +61,9 @@ startNumbers lent rest =
 
 abbrev pub quietNumbers : ℕ → Rest → List Check
 quietNumbers lent rest = check (notLong 4 lent) 2 ∷ check (not (isClaiming (rest .own .claim))) 18 ∷ []
+
+abbrev pub unitNumbers : ℕ → List Check
+unitNumbers lent = check (notLong 4 lent) 2 ∷ []
 
 -- what a payload says, bad or not: its function, From and To, its entries
 abbrev pub function : List ℕ → ℕ
@@ -120,10 +125,10 @@ pub record Writes (lent back payload : List ℕ) (requester : ℕ) (r : MessageA
   pub acknowledged : acknowledges (r .refusal) ≡ true
       → (back ≡ acknowledgment (controlOf (r .refusal)) (functionOf payload) requester ++ drop 8 lent) × (r .pgn ≡ 59392) × (r .length ≡ 8)
 
--- the number in a take's answer
-abbrev pub takeNumber : TakeAnswer → ℕ
-takeNumber (Refused n) = n
-takeNumber (Took taken) = 0
+-- the number in the answer of the call that reads the unit
+abbrev pub unitNumber : UnitAnswer → ℕ
+unitNumber (UnitAnswer.Refused n) = n
+unitNumber (Told own ports) = 0
 
 -- ---- the whole
 pub record Demand1 : Type 0 where
@@ -134,6 +139,7 @@ pub record Demand1 : Type 0 where
       × ((κs : Lfts 3) (w p b : RefT (List ℕ)) (port requester : ℕ) → message.Pre κs (w, (port, (requester, (p, (b, tt))))))
       × ((κs : Lfts 1) (w : RefT (List ℕ)) → start.Pre κs (w, tt))
       × ((κs : Lfts 1) (w : RefT (List ℕ)) → quiet.Pre κs (w, tt))
+      × ((κs : Lfts 1) (w : RefT (List ℕ)) → unit.Pre κs (w, tt))
   pub power-on : {words after : List ℕ} {name preferred r : ℕ} → made.Powered words name preferred r after
       → Exact (powerOnNumbers (length words)) r × Unchanged r words after
   -- "A refused frame has no ports, no event, is not consumed and compares 0"
@@ -146,5 +152,6 @@ pub record Demand1 : Type 0 where
       → Exact (messageNumbers (length words) (length lent) (modelOf 4 words .rest) port requester payload) (r .refusal)
       × Unchanged (r .refusal) words after × Writes lent back payload requester r
   pub start : {words after : List ℕ} {r : StartAnswer} → made.Started words r after
-      → Exact (startNumbers (length words) (modelOf 4 words .rest)) (r .refusal) × Unchanged (r .refusal) words after × ((r .refusal ≡ 0 → ⊥) → r .unsent ≡ 0)
+      → Exact (startNumbers (length words) (modelOf 4 words .rest)) (r .refusal) × Unchanged (r .refusal) words after × ((r .refusal ≡ 0 → ⊥) → r ≡ startRefused (r .refusal))
   pub quiet : {words after : List ℕ} {r : ℕ} → made.Quieted words r after → Exact (quietNumbers (length words) (modelOf 4 words .rest)) r × Unchanged r words after
+  pub unit : {words : List ℕ} {r : UnitAnswer} → made.Told words r → Exact (unitNumbers (length words)) (unitNumber r)

@@ -15,6 +15,7 @@ use Rattle.queue.specs.declared.Frame.{Frame}
 use Rattle.queue.specs.Queue.{size}
 use Rattle.pgn_list.specs.PgnList.{listSize}
 use Rattle.addresses.specs.declared.Place.{Place}
+use Rattle.addresses.specs.declared.Place.the-variants.{Free}
 use Rattle.addresses.specs.Table.{places}
 use Rattle.address_claims.specs.declared.Event.{Event}
 use Rattle.address_claims.specs.Events.{eventNumber}
@@ -22,11 +23,12 @@ use Rattle.checks.specs.Checks.{acknowledges}
 use Rattle.checks.specs.Ports.{isPort}
 use Rattle.network_message.specs.Decoding.{functionOf, pairOf, fromOf, toOf, isKnown, hasWrongMode, longest}
 use Rattle.replies.specs.Replies.{controlOf, acknowledgment, listReply, addressReply}
+use Rattle.unit.specs.declared.Claim.the-variants.{Unstarted, Claiming, Claimed, Lost}
 use Rattle.unit.specs.declared.Unit.{Unit}
-use Rattle.unit.specs.Model.{recordLength}
+use Rattle.unit.specs.Model.{Rest, recordLength}
 use Rattle.unit.specs.PowerOn.{notLong}
-use Rattle.unit.specs.Own.{claimFrame, cannotClaimFrame}
-use Rattle.claims.specs.Claims.{isClaim, isRequest}
+use Rattle.unit.specs.Own.{claimFrame, cannotClaimFrame, claimWord}
+use Rattle.claims.specs.Claims.{isClaim, isRequest, heldUnder, started}
 
 pub record Literals : Type 0 where
   -- "Ports 1 to 4", "a list of at most 32 PGNs", "one queue of at most 32 frames"; the published length of the record
@@ -72,6 +74,9 @@ pub record Literals : Type 0 where
   -- "18EEFF00 (hex) plus its address, or 18EEFFFE, length 8, its NAME"
   pub claims : (own : Unit) → claimFrame own ≡ record { id = 0x18EEFF00 + own .address; len = 8; bytes = own .name }
   pub cannot : (own : Unit) → cannotClaimFrame own ≡ record { id = 0x18EEFFFE; len = 8; bytes = own .name }
+  -- Start: "if the table holds the preferred address under a lower NAME, the unit becomes Lost; else .. Claiming"; Unstarted, Claiming, Claimed, Lost as words
+  pub starts : (rest : Rest) → started rest .rest .own .claim ≡ cond (heldUnder (rest .own .name) (getD (rest .table) (rest .own .preferred) Free)) Lost Claiming
+  pub states : claimWord Unstarted ∷ claimWord Claiming ∷ claimWord Claimed ∷ claimWord Lost ∷ [] ≡ 0 ∷ 1 ∷ 2 ∷ 3 ∷ []
   -- none, Withdrew, Defended, Displaced, Recorded, Refreshed, TookOver, Beaten
   pub events : (old : ℕ)
       → eventNumber Event.Nothing ∷ eventNumber Event.Withdrew ∷ eventNumber Event.Defended ∷ eventNumber Event.Displaced ∷ eventNumber Event.Recorded

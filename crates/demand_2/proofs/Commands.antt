@@ -5,7 +5,7 @@ use mathlib.Core.Bool.{Bool, true, false, cond, not, _&&_, _||_, true≢false}
 use mathlib.Core.List.{List, [], _∷_}
 use Prim.Native.Nat.{ℕ, _-_, _≤_}
 use native.Mathlib.Omega.{arith}
-use borrow.Author.Tests.{eqb-true}
+use borrow.Author.Tests.{eqb-true, eq-eqb}
 use lib.ListN.{length, getD}
 use lib.Dec.{eqb}
 use Rattle.filter.specs.Filter.{Filter, clear}
@@ -20,14 +20,14 @@ use Rattle.network_message.proofs.Decoding.{decoded-good}
 use Rattle.filter_commands.specs.declared.pairs.Change.{Change}
 use Rattle.filter_commands.specs.declared.pairs.Change.the-variants.{Adds, Deletes, Clears, Creates}
 use Rattle.unit.specs.Model.{Rest, pairAt}
-use Rattle.message_answers.specs.Messages.{Replied, performedBy}
+use Rattle.message_answers.specs.Messages.{Replied, performedBy, Untouched}
 use Rattle.filter_commands.specs.Pairs.{changeOf}
-use Rattle.list_commands.specs.Commands.{changeNamed, listRefusal, commanded}
+use Rattle.list_commands.specs.Commands.{Beside, changeNamed, listRefusal, commanded}
 use Rattle.refusals.specs.Refusals.{messageRefusal}
 use Rattle.bridge.specs.Calls.{messaged}
 use Rattle.refusals.proofs.Checks.{message-goes}
-use Rattle.demand_2.specs.Demand2.{IsPair, namesPair}
-use Rattle.demand_2.proofs.Pairs.{changed-pair}
+use Rattle.demand_2.specs.Demand2.{IsPair, namesPair, Outside}
+use Rattle.demand_2.proofs.Pairs.{names-is, target, target-pair, target-rank, target-at, changed-pair}
 
 -- ---- what a decoded command changes is what the payload's bytes name
 -- whether a command may change the pair from a to b
@@ -60,6 +60,31 @@ unnamed a b port payload h =
     (λ e. not-reached a b (fromOf (pairOf payload)) (toOf (pairOf payload)) (rw e at h))
     (λ _ e. not-reached a b (fromOf (pairOf payload)) (toOf (pairOf payload)) (rw e at h))
     (λ e. refl))
+
+-- and a word outside the blocks of those pairs is one that the command leaves as it was
+module _ (payload : List ℕ) (n : ℕ) where
+  beside : (from to : ℕ) → Ports 4 from to → ((a b : ℕ) → IsPair a b → (eqb a from && reaches 4 from to b) ≡ true → Outside a b n) → Beside 4 from to n
+  beside from to ps H k l e =
+      let b = target from k (ps .least) (ps .most) l in
+      let P = target-pair from k (ps .least) (ps .most) l in
+      let reached : reaches 4 from to b ≡ true = sym (names-is from b P to) ∙ rw (target-rank from k (ps .least) (ps .most) l) e in
+      rw (target-at from k (ps .least) (ps .most) l) at (H from b P (rw (eq-eqb from from refl) reached))
+
+  untouched-by : (c : Command) → Good 4 payload c → ((a b : ℕ) → IsPair a b → changes c a b ≡ true → Outside a b n) → Untouched 4 c n
+  untouched-by (Refused number) g H = tt
+  untouched-by (Request from to) g H = tt
+  untouched-by (Add from to start end) g H = beside from to (g .0) H
+  untouched-by (Delete from to start end) g H = beside from to (g .0) H
+  untouched-by (Clear from to) g H = beside from to g H
+  untouched-by (Create from to passing start end) g H = beside from to (g .0) H
+  untouched-by (AddressList port) g H = tt
+
+  pub untouched : (port : ℕ) → 8 ≤ length payload → ((a b : ℕ) → IsPair a b → namesPair payload a b ≡ true → Outside a b n) → Untouched 4 (decoded 4 port payload) n
+  untouched port long H = untouched-by (decoded 4 port payload) (decoded-good 4 port payload long) (λ a b P e. H a b P (go a b e (namesPair payload a b) refl))
+    where
+      go : (a b : ℕ) → changes (decoded 4 port payload) a b ≡ true → (t : Bool) → namesPair payload a b ≡ t → namesPair payload a b ≡ true
+      go a b e true h = h
+      go a b e false h = absurd (true≢false (sym e ∙ unnamed a b port payload h))
 
 -- a command on the pairs
 module _ (change : Change) (xs : List ℕ) (from to : ℕ) (pairs : List Filter) (long : length pairs ≡ 12) (low : 1 ≤ from) (high : from ≤ 4) (a b : ℕ) (P : IsPair a b) where

@@ -3,7 +3,7 @@ use mathlib.Core.Path.{_≡_, refl, sym, ap, _∙_}
 use mathlib.Core.Logic.{_⊎_, inl, inr}
 use mathlib.Core.Bool.{Bool, true, false, cond}
 use mathlib.Core.List.{List, [], _∷_, _++_}
-use Prim.Native.Nat.{ℕ, _-_, _^_, _<_, _≤_}
+use Prim.Native.Nat.{ℕ, _+_, _-_, _*_, _^_, _<_, _≤_}
 use native.Mathlib.Nat.{zero-div}
 use native.Mathlib.Omega.{arith}
 use borrow.Author.Tests.{eqb-true, eqb-false, eq-eqb}
@@ -11,37 +11,33 @@ use lib.ListN.{length, take, drop, getD}
 use lib.Seq.{take-at}
 use lib.Dec.{eqb}
 use Rattle.filter.specs.Filter.{clear}
-use Rattle.entries.specs.Entries.{every}
 use Rattle.delivery.specs.Unit.{joinAll, rowNext}
 use Rattle.queue.specs.Queue.{size, priority}
-use Rattle.network_message.specs.Decoding.{functionOf, pairOf, fromOf, toOf, mayName, longest}
-use Rattle.checks.specs.Ports.{isPort}
-use Rattle.replies.specs.SentBack.{asCreate}
+use Rattle.network_message.specs.Decoding.{functionOf, pairOf, fromOf, toOf}
 use Rattle.replies.specs.Replies.{listReply}
 use Rattle.bridge.specs.declared.FrameAnswer.{FrameAnswer}
 use Rattle.message_answers.specs.declared.MessageAnswer.{MessageAnswer}
-use Rattle.unit.specs.declared.Claim.the-variants.{Claimed}
 use Rattle.unit.specs.Ports.{each, bitAt}
-use Rattle.unit.specs.Model.{Model, Rest, Seen, rowAt, pairAt, withPairs, modelOf, recordLength}
+use Rattle.unit.specs.Model.{Model, Rest, Seen, rowAt, pairAt, withPairs, modelOf}
 use Rattle.bridge.specs.Calls.{offered, frameOf}
 use Rattle.forwarding.specs.Forwarding.{silent}
-use Rattle.refusals.specs.Refusals.{frameRefusal}
+use Rattle.refusals.specs.Refusals.{frameRefusal, messageRefusal}
 use Rattle.message_answers.specs.Messages.{Replied}
 use Rattle.bridge.specs.Calls.{messaged}
 use Rattle.unit.specs.Own.{framesSent}
 use Rattle.bridge.specs.Calls.{Call, FrameIn, Message, refusal, restAfter, asks, sends, performed, next, frameDone, framePassed, frameRefused, frameAnswer, Framing, Messaging}
 use Rattle.message_answers.specs.Messages.{messageAnswer}
-use Rattle.refusals.proofs.Checks.{frame-goes}
+use Rattle.refusals.proofs.Checks.{frame-goes, message-goes}
 use Rattle.unit.proofs.Ports.{each-at, each-none}
 use Rattle.record.proofs.Regions.{rows-four}
 use Rattle.list_commands.proofs.PairLoop.{pairs-twelve}
 use Rattle.bridge.proofs.Laws.{not-offered-back, not-sent-back, not-accepted-back, lost-at}
-use Rattle.demand_2.specs.Demand2.{restOf, pairOn, IsPair, NotBack, OnlyNamed, SameTo, Kept, Demand2}
+use Rattle.demand_2.specs.Demand2.{restOf, pairOn, IsPair, NotBack, namesPair, Outside, OnlyNamed, SameTo, listOf, MayCreate, Demand2}
 use Rattle.made.proofs.Made.{framing, messaging}
-use Rattle.demand_2.proofs.Commands.{messaged-other}
+use Rattle.demand_2.proofs.Commands.{untouched, messaged-other}
 use Rattle.demand_2.proofs.Privacy.{messaged-told}
 use Rattle.demand_2.proofs.RoundTrip.{request-reported, sent-back}
-use Rattle.demand_2.proofs.Kept.{always-kept}
+use Rattle.demand_2.proofs.Kept.{Standing, stands}
 
 -- ---- no frame goes back
 no-bit : (q : ℕ) → bitAt 0 q ≡ false
@@ -86,6 +82,21 @@ module _ {words payload lent after back : List ℕ} {port requester : ℕ} {r : 
   abbrev outcome : Replied
   outcome = messaged 4 (length words) (length lent) (modelOf 4 words .rest) port requester payload
 
+  -- a message that 1 to 8 refuse changes no word at all
+  message-words : (n : ℕ) → ((a b : ℕ) → IsPair a b → namesPair payload a b ≡ true → Outside a b n) → getD after n 0 ≡ getD words n 0
+  unfolding refusal messaged
+  message-words n H = go (eqb number 0) refl
+    where
+      number : ℕ
+      number = messageRefusal 4 (length words) (length lent) (restOf words) port requester (length payload)
+
+      silent : eqb number 0 ≡ false → outcome .number ≡ number
+      silent z = rw z
+
+      go : (t : Bool) → eqb number 0 ≡ t → getD after n 0 ≡ getD words n 0
+      go true z = M .others n (untouched payload n port (message-goes (length words) (length lent) (restOf words) port requester (length payload) (eqb-true number 0 z) .2) H)
+      go false z = ap (λ (w : List ℕ). getD w n 0) (M .call .refused (λ e. eqb-false number 0 z (sym (silent z) ∙ e)))
+
   message-named : OnlyNamed words port payload after
   unfolding refusal next performed restAfter asks sends
   message-named = go (eqb (outcome .number) 0) refl
@@ -93,6 +104,8 @@ module _ {words payload lent after back : List ℕ} {port requester : ℕ} {r : 
       still : modelOf 4 after ≡ modelOf 4 words → OnlyNamed words port payload after
       still s = record {
         pairs = λ a b P e. ap (λ (w : Model). pairOn (w .rest) a b) s;
+        others = message-words;
+        long = M .call .long;
         own = ap (λ (w : Model). w .rest .own) s;
         table = ap (λ (w : Model). w .rest .table) s;
         rows = ap (λ (w : Model). w .rows) s;
@@ -103,6 +116,8 @@ module _ {words payload lent after back : List ℕ} {port requester : ℕ} {r : 
         pairs = λ a b P e.
             ap (λ (w : Model). pairOn (w .rest) a b) s
             ∙ messaged-other (restOf words) (pairs-twelve words) a b P (length words) (length lent) port requester payload e;
+        others = message-words;
+        long = M .call .long;
         own = ap (λ (w : Model). w .rest .own) s;
         table = ap (λ (w : Model). w .rest .table) s;
         rows = ap (λ (w : Model). w .rows) s ∙ each-none 4 (modelOf 4 words .rows);
@@ -122,44 +137,35 @@ module _ {words other payload lent after back after₂ back₂ : List ℕ} {p re
       (M .answer ∙ rw (t .0, t .1, t .2 (modelOf 4 words .seen), long) (sym (N .answer)), M .written ∙ rw (t .2 (modelOf 4 words .seen), long) (sym (N .written)))
 
 -- ---- the round trip
-module _ {words payload lent after back other lent₂ after₂ back₂ : List ℕ} {port requester port₂ requester₂ : ℕ} {r r₂ : MessageAnswer}
-    (K : Kept (restOf words)) (request : functionOf payload ≡ 0)
-    (M : Messaging 4 words after port requester payload lent back r) (answered : r .refusal ≡ 0)
-    (some : 1 ≤ length (pairOn (restOf words) (fromOf (pairOf payload)) (toOf (pairOf payload)) .entries))
-    (long : length other ≡ recordLength 4) (claimed : restOf other .own .claim ≡ Claimed)
-    (empty : pairOn (restOf other) (fromOf (pairOf payload)) (toOf (pairOf payload)) ≡ clear)
-    (port-is : isPort 4 port₂ ≡ true) (may : mayName port₂ 6 (fromOf (pairOf payload)) (toOf (pairOf payload)) ≡ true) (tool : requester₂ < 254) (room : longest ≤ length lent₂)
-    (N : Messaging 4 other after₂ port₂ requester₂ (asCreate (take (r .length) back)) lent₂ back₂ r₂) where
-  abbrev from : ℕ
-  from = fromOf (pairOf payload)
-
-  abbrev to : ℕ
-  to = toOf (pairOf payload)
-
+module _ {words payload lent after back other lent₂ after₂ back₂ : List ℕ} {port requester port₂ requester₂ a b : ℕ} {r r₂ : MessageAnswer}
+    (S : Standing words) (M : Messaging 4 words after port requester payload lent back r) (request : functionOf payload ≡ 0) (answered : r .refusal ≡ 0)
+    (some : 1 ≤ length (listOf words payload .entries))
+    (T : Standing other) (P : IsPair a b) (empty : pairOn (restOf other) a b ≡ clear) (may : MayCreate other port₂ requester₂ a b lent₂)
+    (N : Messaging 4 other after₂ port₂ requester₂ (6 ∷ (16 * a + b) ∷ drop 2 (take (r .length) back)) lent₂ back₂ r₂) where
   abbrev first-outcome : Replied
   first-outcome = messaged 4 (length words) (length lent) (restOf words) port requester payload
 
   answered-by : (o : Replied) (seen : Seen) → r ≡ messageAnswer o seen → back ≡ o .written seen ++ drop (length (o .written seen)) lent → take (r .length) back ≡ o .written seen
   answered-by o seen a b = rw (a, b) (take-at (o .written seen) (drop (length (o .written seen)) lent) (length (o .written seen)) refl)
 
-  restored-pair : (r₂ .refusal ≡ 0) × (pairOn (restOf after₂) from to ≡ pairOn (restOf words) from to)
+  restored-pair : (r₂ .refusal ≡ 0) × (pairOn (restOf after₂) a b ≡ listOf words payload)
   unfolding refusal next performed restAfter
   restored-pair =
       let z : first-outcome .number ≡ 0 = sym (ap (λ (a : MessageAnswer). a .refusal) (M .answer)) ∙ answered in
       let R = request-reported (restOf words) requester payload (length words) (length lent) port request z in
-      let f = pairOn (restOf words) from to in
-      let i = pairAt 4 (from - 1) (to - 1) in
+      let f = listOf words payload in
+      let G = S .good (pairAt 4 (fromOf (pairOf payload) - 1) (toOf (pairOf payload) - 1)) in
       let e : take (r .length) back ≡ listReply (pairOf payload) f = answered-by first-outcome (modelOf 4 words .seen) (M .answer) (M .written) ∙ R .written (modelOf 4 words .seen) in
-      let B = sent-back (restOf other) (pairs-twelve other) f (K .sound i) (K .pgns i) some (pairOf payload) (R .ports) (R .one) empty (length other) (length lent₂) port₂ requester₂ long room port-is claimed tool may in
-      finish (asCreate (listReply (pairOf payload) f)) (rw e at N) (B .0) (B .1)
+      let B = sent-back (restOf other) (pairs-twelve other) f (G .sound) (G .pgns) some (pairOf payload) a b P empty (length other) (length lent₂) port₂ requester₂ (T .long) (may .room) (may .port-is) (may .claimed) (may .address) (may .right) in
+      finish (6 ∷ (16 * a + b) ∷ drop 2 (listReply (pairOf payload) f)) (rw e at N) (B .0) (B .1)
     where
       finish : (payload₂ : List ℕ) → Messaging 4 other after₂ port₂ requester₂ payload₂ lent₂ back₂ r₂
           → messaged 4 (length other) (length lent₂) (restOf other) port₂ requester₂ payload₂ .number ≡ 0
-          → getD (messaged 4 (length other) (length lent₂) (restOf other) port₂ requester₂ payload₂ .pairs) (pairAt 4 (from - 1) (to - 1)) clear ≡ pairOn (restOf words) from to
-          → (r₂ .refusal ≡ 0) × (pairOn (restOf after₂) from to ≡ pairOn (restOf words) from to)
+          → getD (messaged 4 (length other) (length lent₂) (restOf other) port₂ requester₂ payload₂ .pairs) (pairAt 4 (a - 1) (b - 1)) clear ≡ listOf words payload
+          → (r₂ .refusal ≡ 0) × (pairOn (restOf after₂) a b ≡ listOf words payload)
       finish payload₂ N′ z p = (
         ap (λ (a : MessageAnswer). a .refusal) (N′ .answer) ∙ z,
-        ap (λ (w : Model). pairOn (w .rest) from to) (rw z at (N′ .call .state)) ∙ p,
+        ap (λ (w : Model). pairOn (w .rest) a b) (rw z at (N′ .call .state)) ∙ p,
       )
 
 -- ---- the whole
@@ -168,7 +174,6 @@ demand-2 = record {
   not-back = λ h. frame-back (framing h);
   only-named = λ h. message-named (messaging h);
   private = λ least most long S h g. same-told least most long S (messaging h) (messaging g);
-  kept = always-kept (recordLength 4);
-  again = λ K request h answered some long claimed empty port-is may tool room g.
-      restored-pair K request (messaging h) answered some long claimed empty port-is may tool room (messaging g);
+  again = λ R h request answered some T P empty may g.
+      restored-pair (stands R) (messaging h) request answered some (stands T) P empty may (messaging g);
 }

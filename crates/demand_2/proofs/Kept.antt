@@ -1,4 +1,4 @@
--- Every list of calls from power-on keeps the pairs sound: no call but a command of a message changes a pair, and each command keeps it. Assumes nothing.
+-- Every list of calls from power-on keeps the pairs sound (no PGN twice, no more than 32, nothing but PGNs): no call but a command of a message changes a pair, and each command keeps it. Assumes nothing.
 use mathlib.Core.Path.{_≡_, refl, sym, ap, _∙_}
 use mathlib.Core.Bool.{Bool, true, false, cond}
 use mathlib.Core.List.{List, [], _∷_}
@@ -26,7 +26,7 @@ use Rattle.network_message.proofs.Decoding.{decoded-good}
 use Rattle.filter_commands.specs.declared.pairs.Change.{Change}
 use Rattle.filter_commands.specs.declared.pairs.Change.the-variants.{Adds, Deletes, Clears, Creates}
 use Rattle.unit.specs.Ports.{each}
-use Rattle.unit.specs.Model.{Rest, Model}
+use Rattle.unit.specs.Model.{Rest, Model, modelOf, recordLength}
 use Rattle.unit.specs.Own.{isOwn, consumes}
 use Rattle.bridge.specs.Calls.{frameOf}
 use Rattle.claims.specs.Claims.{heldUnder, Acted, isClaim, isRequestToUnit, contested, claimActed, frameActed, started}
@@ -35,11 +35,16 @@ use Rattle.filter_commands.specs.Pairs.{changeOf}
 use Rattle.message_answers.specs.Messages.{Replied, performedBy}
 use Rattle.bridge.specs.Calls.{silentReply, messaged}
 use Rattle.refusals.specs.Refusals.{messageRefusal}
-use Rattle.bridge.specs.Calls.{Call, FrameIn, TakeOut, Message, Start, Quiet, refusal, restAfter, performed, next}
+use Rattle.bridge.specs.Calls.{Call, FrameIn, TakeOut, Message, Start, Quiet, ReadUnit, refusal, restAfter, performed, next}
 use Rattle.unit.specs.PowerOn.{fresh}
 use Rattle.unit.proofs.Ports.{length-each}
 use Rattle.refusals.proofs.Checks.{message-goes}
-use Rattle.demand_2.specs.Demand2.{Kept}
+use Rattle.delivery.proofs.Calls.{every-list}
+use Rattle.made.proofs.Made.{powering}
+use Rattle.demand_3.specs.Demand3.{Made, answer, next as nextIn}
+use Rattle.demand_3.proofs.OneCall.{Good as Long, simulates}
+use Rattle.demand_3.proofs.Demand3.{power-on-goes}
+use Rattle.demand_2.specs.Demand2.{restOf, Reached, reached}
 use Rattle.demand_2.proofs.Pairs.{changed-at, else-still}
 
 -- ---- what is kept of one pair
@@ -59,7 +64,7 @@ changed-good Clears xs h f G = clear-good
 changed-good (Creates passing) xs h f G = record { sound = created-sound (G .sound) passing xs; pgns = created-pgns f xs (G .pgns) passing h }
 
 -- ---- of all pairs, and that there are twelve
-pub record All (pairs : List Filter) : Type 0 where
+record All (pairs : List Filter) : Type 0 where
   pub twelve : length pairs ≡ 12
   pub each-good : (i : ℕ) → Good-pair (getD pairs i clear)
 
@@ -68,7 +73,7 @@ fresh-good zero i = clear-good
 fresh-good (suc n) zero = clear-good
 fresh-good (suc n) (suc i) = fresh-good n i
 
-pub fresh-all : All (replicate 12 clear)
+fresh-all : All (replicate 12 clear)
 fresh-all = record { twelve = refl; each-good = fresh-good 12 }
 
 module _ (pairs : List Filter) (all : All pairs) where
@@ -171,6 +176,7 @@ rest-all lent rest (TakeOut port) A = A
 rest-all lent rest (Message port requester payload lentReply) A = messaged-all rest A lent lentReply port requester payload
 rest-all lent rest Start A = rw (started-pairs rest) A
 rest-all lent rest Quiet A = A
+rest-all lent rest ReadUnit A = A
 
 next-all : (lent : ℕ) (m : Model) (k : Call) → All (m .rest .pairs) → All (next 4 lent m k .rest .pairs)
 unfolding next performed
@@ -184,7 +190,19 @@ calls-all : (lent : ℕ) (m : Model) (ks : List Call) → All (m .rest .pairs) �
 calls-all lent m [] A = A
 calls-all lent m (k ∷ ks) A = calls-all lent (next 4 lent m k) ks (next-all lent m k A)
 
-pub always-kept : (lent name preferred : ℕ) (ks : List Call) → Kept (afterCalls (next 4 lent) (fresh 4 name preferred) ks .rest)
-always-kept lent name preferred ks =
-    let A = calls-all lent (fresh 4 name preferred) ks fresh-all in
-    record { sound = λ i. A .each-good i .sound; pgns = λ i. A .each-good i .pgns }
+always-good : (lent name preferred : ℕ) (ks : List Call) (i : ℕ) → Good-pair (getD (afterCalls (next 4 lent) (fresh 4 name preferred) ks .rest .pairs) i clear)
+always-good lent name preferred ks = calls-all lent (fresh 4 name preferred) ks fresh-all .each-good
+
+-- ---- a record that a list of calls led to
+pub record Standing (words : List ℕ) : Type 0 where
+  pub long : length words ≡ recordLength 4
+  pub good : (i : ℕ) → Good-pair (getD (restOf words .pairs) i clear)
+
+good-in : {m m′ : Model} → m ≡ m′ → (i : ℕ) → Good-pair (getD (m′ .rest .pairs) i clear) → Good-pair (getD (m .rest .pairs) i clear)
+good-in e i G = rw e G
+
+pub stands : {words : List ℕ} → Reached words → Standing words
+stands (reached {w = w} {name = name} {preferred = preferred} {ks = ks} P run) =
+    let p = powering P in
+    let all = every-list Made Long (modelOf 4) nextIn answer simulates (p .long ∙ power-on-goes (length w) (sym (p .answer))) run in
+    record { long = all .good; good = λ i. good-in (all .moved ∙ ap (λ (m : Model). afterCalls nextIn m ks) (p .state refl)) i (always-good (recordLength 4) name preferred ks i) }

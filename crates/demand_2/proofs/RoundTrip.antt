@@ -1,7 +1,8 @@
 -- A list that a Request is answered with, sent back as Create, is created again: the reply is decoded to the pair, the mode and the list that it reports
 -- (`round-trip` of network_message), a cleared pair takes any sound list, and what is created is the list (`restored` of filter). Assumes nothing.
 use mathlib.Core.Path.{_≡_, refl, sym, ap, _∙_}
-use mathlib.Core.Bool.{Bool, true, false, cond, not, _&&_, _||_, true≢false}
+use mathlib.Core.Bool.{Bool, true, false, cond, not, _&&_, _||_, or-true, true≢false}
+use mathlib.Core.Logic.{_⊎_, inl, ⊎-elim}
 use mathlib.Core.List.{List, [], _∷_, _++_}
 use Prim.Native.Nat.{ℕ, zero, suc, _+_, _-_, _*_, _≤_, _<_}
 use native.Mathlib.Omega.{arith}
@@ -24,7 +25,7 @@ use Rattle.network_message.specs.Decoding.{functionOf, pairOf, fromOf, toOf, is
 use Rattle.checks.specs.Ports.{isPort, noPort}
 use Rattle.network_message.specs.Commands.{reaches, Ports, Good}
 use Rattle.replies.specs.SentBack.{asCreate, SentBack}
-use Rattle.replies.specs.Replies.{listReply}
+use Rattle.replies.specs.Replies.{filled, listBody, listReply}
 use Rattle.network_message.proofs.Decoding.{decoded-good}
 use Rattle.replies.proofs.RoundTrip.{round-trip}
 use Rattle.unit.specs.declared.Claim.the-variants.{Claimed}
@@ -39,7 +40,7 @@ use Rattle.refusals.specs.Refusals.{messageRefusal}
 use Rattle.refusals.proofs.Checks.{message-goes}
 use Rattle.message_answers.proofs.Replies.{one-port}
 use Rattle.demand_2.specs.Demand2.{IsPair, pairOn}
-use Rattle.demand_2.proofs.Pairs.{names-is, target, target-pair, target-rank, target-at}
+use Rattle.demand_2.proofs.Pairs.{port-in, names-is, target, target-pair, target-rank, target-at}
 use Rattle.demand_2.proofs.Commands.{commanded-named}
 
 -- ---- the Request
@@ -167,14 +168,47 @@ goes other lent lentReply port requester n l b p c q least most =
       le-ltb 253 requester (omega arith),
     )
 
-module _ (other : Rest) (long : length (other .pairs) ≡ 12) (f : Filter) (S : Sound f) (pgns : every isPgn (f .entries) ≡ true) (some : 1 ≤ length (f .entries)) (pair : ℕ) (ps : Ports 4 (fromOf pair) (toOf pair)) (one : toOf pair ≤ 4) (empty : pairOn other (fromOf pair) (toOf pair) ≡ clear) where
-  pub sent-back : (lent lentReply port requester : ℕ) → lent ≡ recordLength 4 → longest ≤ lentReply → isPort 4 port ≡ true → other .own .claim ≡ Claimed → requester < 254 → mayName port 6 (fromOf pair) (toOf pair) ≡ true
+-- a tool that may name the pair
+may-name : (port a b : ℕ) → (port ≡ 1) ⊎ ((a ≡ port) ⊎ (b ≡ port)) → mayName port 6 a b ≡ true
+unfolding mayName
+may-name port a b =
+    ⊎-elim (λ e. rw (eq-eqb port 1 e)) (⊎-elim (λ e. rw (eq-eqb a port e) (last (eqb port 1) (eqb b port))) (λ e. rw (eq-eqb b port e) (or-true (eqb port 1))))
+  where
+    last : (x y : Bool) → (x || (y || true)) ≡ true
+    last true y = refl
+    last false y = or-true y
+
+pair-ports : {a b : ℕ} → IsPair a b → Ports 4 a b
+pair-ports {a} {b} P =
+    let f = port-in a (P .from) in
+    record { least = f .0; most = f .1; other = inl (port-in b (P .to)); apart = P .apart }
+
+-- the list f was reported by a Request with the pair byte `asked`, and is sent for the pair from a to b
+module _ (other : Rest) (long : length (other .pairs) ≡ 12) (f : Filter) (S : Sound f) (pgns : every isPgn (f .entries) ≡ true) (some : 1 ≤ length (f .entries)) (asked a b : ℕ) (P : IsPair a b) (empty : pairOn other a b ≡ clear) where
+  abbrev pair : ℕ
+  pair = 16 * a + b
+
+  -- the pair byte of the reply is not sent back
+  sent-is : 6 ∷ pair ∷ drop 2 (listReply asked f) ≡ asCreate (listReply pair f)
+  unfolding asCreate listReply filled listBody
+  sent-is = refl
+
+  create-sent : (lent lentReply port requester : ℕ) → lent ≡ recordLength 4 → longest ≤ lentReply → isPort 4 port ≡ true → other .own .claim ≡ Claimed → requester < 254 → (port ≡ 1) ⊎ ((a ≡ port) ⊎ (b ≡ port))
       → (messaged 4 lent lentReply other port requester (asCreate (listReply pair f)) .number ≡ 0)
-      × (getD (messaged 4 lent lentReply other port requester (asCreate (listReply pair f)) .pairs) (pairAt 4 (fromOf pair - 1) (toOf pair - 1)) clear ≡ f)
+      × (getD (messaged 4 lent lentReply other port requester (asCreate (listReply pair f)) .pairs) (pairAt 4 (a - 1) (b - 1)) clear ≡ f)
   unfolding messaged performedBy
-  sent-back lent lentReply port requester l b p c q may =
-      let B = round-trip 4 port pair f (pair-named (fromOf pair) (toOf pair) ps one) may some pgns in
+  create-sent lent lentReply port requester l t p c q may =
+      let to = port-in b (P .to) in
+      let from-is : fromOf pair ≡ a = omega arith in
+      let to-is : toOf pair ≡ b = omega arith in
+      let ps = pair-ports P in
+      let B = round-trip 4 port pair f (rw (from-is, to-is) (pair-named a b ps (to .1))) (rw (from-is, to-is) (may-name port a b may)) some pgns in
       let least : 8 ≤ length (asCreate (listReply pair f)) = omega (arith, B .long) in
       let most : length (asCreate (listReply pair f)) ≤ longest = omega (arith, B .long, S .few) in
-      rw (goes other lent lentReply port requester (length (asCreate (listReply pair f))) l b p c q least most, B .command, B .list)
-      (create-allowed other long f S pgns some (fromOf pair) (toOf pair) ps one empty, create-done other long f S pgns some (fromOf pair) (toOf pair) ps one empty)
+      rw (goes other lent lentReply port requester (length (asCreate (listReply pair f))) l t p c q least most, B .command, from-is, to-is, B .list)
+      (create-allowed other long f S pgns some a b ps (to .1) empty, create-done other long f S pgns some a b ps (to .1) empty)
+
+  pub sent-back : (lent lentReply port requester : ℕ) → lent ≡ recordLength 4 → longest ≤ lentReply → isPort 4 port ≡ true → other .own .claim ≡ Claimed → requester < 254 → (port ≡ 1) ⊎ ((a ≡ port) ⊎ (b ≡ port))
+      → (messaged 4 lent lentReply other port requester (6 ∷ pair ∷ drop 2 (listReply asked f)) .number ≡ 0)
+      × (getD (messaged 4 lent lentReply other port requester (6 ∷ pair ∷ drop 2 (listReply asked f)) .pairs) (pairAt 4 (a - 1) (b - 1)) clear ≡ f)
+  sent-back lent lentReply port requester l t p c q may = rw sent-is (create-sent lent lentReply port requester l t p c q may)

@@ -1,34 +1,30 @@
--- Demand 2 about any records, by the contracts of the functions `frame` and `message` alone: no frame goes back, a command changes the pairs that it names,
--- a tool sees its own, and a list that is reported and sent back is that list. Proved in proofs/Demand2.antt. The quoted words are the customer's.
+-- Demand 2, by the contracts of the functions alone. About any records: no frame goes back, a command changes the pairs that it names, a tool sees its own.
+-- About records that calls from power-on led to: a list that is reported and sent back is that list. Proved in proofs/Demand2.antt. The quoted words are
+-- the customer's.
 use mathlib.Core.Path.{_≡_}
 use mathlib.Core.Logic.{_⊎_, _↔_}
 use mathlib.Core.Bool.{Bool, true, false, _&&_, _||_}
 use mathlib.Core.List.{List, [], _∷_}
-use Prim.Native.Nat.{ℕ, _-_, _/_, _%_, _≤_, _<_}
-use lib.ListN.{length, take, getD}
+use Prim.Native.Nat.{ℕ, _+_, _-_, _*_, _/_, _%_, _≤_, _<_}
+use lib.ListN.{length, take, drop, getD}
 use lib.Dec.{eqb}
-use Rattle.identifier.specs.Identifier.{isPgn}
-use Rattle.delivery.specs.Calls.{afterCalls}
+use Rattle.delivery.specs.Calls.{Run}
 use Rattle.delivery.specs.Unit.{joinAll}
-use Rattle.filter.specs.Filter.{Filter, clear, isCleared}
-use Rattle.entries.specs.Entries.{listed, every}
-use Rattle.filter_commands.specs.Changes.{Sound}
-use Rattle.queue.specs.declared.Frame.{Frame}
+use Rattle.filter.specs.Filter.{Filter, clear, blockSize as filterLength}
+use Rattle.entries.specs.Entries.{listed}
 use Rattle.queue.specs.Queue.{size}
 use Rattle.addresses.specs.declared.Place.the-variants.{Free, Held}
-use Rattle.network_message.specs.Decoding.{functionOf, pairOf, fromOf, toOf, mayName, longest}
 use Rattle.checks.specs.Ports.{isPort}
-use Rattle.replies.specs.SentBack.{asCreate}
 use Rattle.bridge.specs.declared.FrameAnswer.{FrameAnswer}
 use Rattle.message_answers.specs.declared.MessageAnswer.{MessageAnswer}
 use Rattle.unit.specs.declared.Claim.the-variants.{Claimed}
 use Rattle.unit.specs.Ports.{bitAt}
-use Rattle.unit.specs.Model.{Rest, rowAt, pairAt, modelOf, recordLength}
+use Rattle.unit.specs.Model.{Rest, rowAt, pairAt, pairsFrom, modelOf}
 use Rattle.bridge.specs.Calls.{frameOf}
 use Rattle.unit.specs.Own.{framesSent}
-use Rattle.bridge.specs.Calls.{Call, frameDone, next}
-use Rattle.unit.specs.PowerOn.{fresh}
-use Rattle.made.specs.Made.{Arrived, Handed}
+use Rattle.bridge.specs.Calls.{Call, frameDone}
+use Rattle.made.specs.Made.{Powered, Arrived, Handed}
+use Rattle.demand_3.specs.Demand3.{Made, Answer}
 
 -- what a record means besides its rows
 abbrev pub restOf : List ℕ → Rest
@@ -60,8 +56,16 @@ abbrev pub namesPair : List ℕ → ℕ → ℕ → Bool
 namesPair payload a b =
     listed (getD payload 0 0) (2 ∷ 3 ∷ 4 ∷ 6 ∷ []) && (eqb a (getD payload 1 0 / 16) && (eqb (getD payload 1 0 % 16) 15 || eqb b (getD payload 1 0 % 16)))
 
+-- word n of the record lies outside the block of the pair from a to b
+abbrev pub Outside : ℕ → ℕ → ℕ → Type 0
+Outside a b n =
+    (n < pairsFrom + filterLength * pairAt 4 (a - 1) (b - 1)) ⊎ (pairsFrom + filterLength * pairAt 4 (a - 1) (b - 1) + filterLength ≤ n)
+
 pub record OnlyNamed (words : List ℕ) (port : ℕ) (payload after : List ℕ) : Type 0 where
   pub pairs : (a b : ℕ) → IsPair a b → namesPair payload a b ≡ false → pairOn (restOf after) a b ≡ pairOn (restOf words) a b
+  -- word for word: every word outside the blocks of the pairs that are named is as it was, those too that no rule reads
+  pub others : (n : ℕ) → ((a b : ℕ) → IsPair a b → namesPair payload a b ≡ true → Outside a b n) → getD after n 0 ≡ getD words n 0
+  pub long : length after ≡ length words
   -- nor does it change anything else
   pub own : restOf after .own ≡ restOf words .own
   pub table : restOf after .table ≡ restOf words .table
@@ -77,10 +81,21 @@ pub record SameTo (p : ℕ) (x y : Rest) : Type 0 where
   pub table : (a name : ℕ) → a < 254 → (getD (x .table) a Free ≡ Held p name) ↔ (getD (y .table) a Free ≡ Held p name)
 
 -- ---- "A reported list with entries, sent back as Create to a cleared pair, gives that list again."
--- what commands keep of every pair, from power-on on: no PGN twice, no more than 32, and nothing but PGNs
-pub record Kept (rest : Rest) : Type 0 where
-  pub sound : (i : ℕ) → Sound (getD (rest .pairs) i clear)
-  pub pgns : (i : ℕ) → every isPgn (getD (rest .pairs) i clear .entries) ≡ true
+-- a record that a power-on and then any list of calls led to, made by the real functions, of which the contracts alone are known
+pub data Reached : List ℕ → Type 0 where
+  reached : {w u v : List ℕ} {name preferred : ℕ} {ks : List Call} {xs : List Answer} → Powered w name preferred 0 u → Run Made u ks xs v → Reached v
+
+-- the list of the pair that a payload names, which is the one that a Request reports
+abbrev pub listOf : List ℕ → List ℕ → Filter
+listOf words payload = pairOn (restOf words) (getD payload 1 0 / 16) (getD payload 1 0 % 16)
+
+-- A tool that may send a Create for the pair from a to b to this unit: 1, 2, 6, 8 and 11 don't apply.
+pub record MayCreate (words : List ℕ) (port requester a b : ℕ) (lent : List ℕ) : Type 0 where
+  pub port-is : isPort 4 port ≡ true
+  pub room : 1785 ≤ length lent
+  pub claimed : restOf words .own .claim ≡ Claimed
+  pub address : requester < 254
+  pub right : (port ≡ 1) ⊎ ((a ≡ port) ⊎ (b ≡ port))
 
 -- ---- the whole
 pub record Demand2 : Type 0 where
@@ -92,17 +107,11 @@ pub record Demand2 : Type 0 where
       → 2 ≤ p → p ≤ 4 → length words ≡ length other → SameTo p (restOf words) (restOf other)
       → Handed words p requester payload lent r after back → Handed other p requester payload lent r₂ after₂ back₂
       → (r ≡ r₂) × (back ≡ back₂)
-  -- every record that calls lead to from power-on keeps its pairs so
-  pub kept : (name preferred : ℕ) (ks : List Call) → Kept (afterCalls (next 4 (recordLength 4)) (fresh 4 name preferred) ks .rest)
-  -- A Request for a pair was answered with a list that has entries. What was written is sent back, with 6 for the 1 at its head, by a tool that may name
-  -- the pair, to a unit that is Claimed and whose pair is cleared: it is done, and the pair has that list and that mode.
-  pub again : {words payload lent after back other lent₂ after₂ back₂ : List ℕ} {port requester port₂ requester₂ : ℕ} {r r₂ : MessageAnswer}
-      → Kept (restOf words) → functionOf payload ≡ 0
-      → Handed words port requester payload lent r after back → r .refusal ≡ 0
-      → 1 ≤ length (pairOn (restOf words) (fromOf (pairOf payload)) (toOf (pairOf payload)) .entries)
-      → length other ≡ recordLength 4 → restOf other .own .claim ≡ Claimed
-      → pairOn (restOf other) (fromOf (pairOf payload)) (toOf (pairOf payload)) ≡ clear
-      → isPort 4 port₂ ≡ true → mayName port₂ 6 (fromOf (pairOf payload)) (toOf (pairOf payload)) ≡ true → requester₂ < 254 → longest ≤ length lent₂
-      → Handed other port₂ requester₂ (asCreate (take (r .length) back)) lent₂ r₂ after₂ back₂
-      → (r₂ .refusal ≡ 0)
-      × (pairOn (restOf after₂) (fromOf (pairOf payload)) (toOf (pairOf payload)) ≡ pairOn (restOf words) (fromOf (pairOf payload)) (toOf (pairOf payload)))
+  -- A unit, after any list of calls, answered a Request with a list that has entries. What it wrote is sent back to a unit, this or another, after any list
+  -- of calls, as Create for a pair, that one or another, which is cleared there: 6, the pair byte, and the mode and the PGNs as they were reported. It is
+  -- done, and the pair has that list and that mode.
+  pub again : {words payload lent after back other lent₂ after₂ back₂ : List ℕ} {port requester port₂ requester₂ a b : ℕ} {r r₂ : MessageAnswer}
+      → Reached words → Handed words port requester payload lent r after back → getD payload 0 0 ≡ 0 → r .refusal ≡ 0 → 1 ≤ length (listOf words payload .entries)
+      → Reached other → IsPair a b → pairOn (restOf other) a b ≡ clear → MayCreate other port₂ requester₂ a b lent₂
+      → Handed other port₂ requester₂ (6 ∷ (16 * a + b) ∷ drop 2 (take (r .length) back)) lent₂ r₂ after₂ back₂
+      → (r₂ .refusal ≡ 0) × (pairOn (restOf after₂) a b ≡ listOf words payload)

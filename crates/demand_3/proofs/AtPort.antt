@@ -17,7 +17,7 @@ use Rattle.unit.specs.Model.{Rest, Model, rowAt}
 use Rattle.unit.specs.PowerOn.{fresh}
 use Rattle.checks.specs.Ports.{isPort}
 use Rattle.refusals.specs.Refusals.{takeRefusal}
-use Rattle.bridge.specs.Calls.{Call, FrameIn, TakeOut, Message, Start, Quiet, refusal, takeAnswer}
+use Rattle.bridge.specs.Calls.{Call, FrameIn, TakeOut, Message, Start, Quiet, ReadUnit, refusal, takeAnswer}
 use Rattle.bridge.specs.Calls.{asks as asksOf}
 use Rattle.refusals.proofs.Checks.{take-goes}
 use Rattle.demand_3.specs.Demand3.{ToTake, ports, words, answer, goes, asks, bridge}
@@ -50,6 +50,7 @@ asks-take rest (TakeOut port) q e = go (goes rest (TakeOut port)) refl e
 asks-take rest (Message port requester payload lentReply) q e = absurd (none-asks (goes rest (Message port requester payload lentReply)) q e)
 asks-take rest Start q e = absurd (none-asks (goes rest Start) q e)
 asks-take rest Quiet q e = absurd (none-asks (goes rest Quiet) q e)
+asks-take rest ReadUnit q e = absurd (none-asks (goes rest ReadUnit) q e)
 
 -- and it asks
 take-asks : (rest : Rest) (q : ℕ) → q < ports → asks rest (TakeOut (suc q)) ≡ some q

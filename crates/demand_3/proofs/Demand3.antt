@@ -18,7 +18,7 @@ use Rattle.bridge.specs.Calls.{next as nextOf}
 use Rattle.refusals.proofs.Checks.{none, long-in}
 use Rattle.made.specs.Made.{Powered}
 use Rattle.made.proofs.Made.{powering}
-use Rattle.demand_3.specs.Demand3.{Made, frame-made, take-made, message-made, start-made, quiet-made, Answer, ports, words, next, answer, bridge, modelAfter, Demand3, EveryList}
+use Rattle.demand_3.specs.Demand3.{Made, frame-made, take-made, message-made, start-made, quiet-made, unit-made, Answer, ports, words, next, answer, bridge, modelAfter, Demand3, EveryList}
 use Rattle.demand_3.proofs.OneCall.{Good, simulates}
 use Rattle.demand_3.proofs.Named.{number-is, rule-3}
 use Rattle.demand_3.proofs.Unchanged.{unchanged, named-so}
@@ -57,7 +57,7 @@ power-on-number lent = two-or-none (notLong ports lent)
 
 from-power-on : (w u : List ℕ) (name preferred r : ℕ) → PoweringOn ports w u name preferred r → EveryList w u name preferred r
 from-power-on w u name preferred r p = record {
-  calls = record { frames = frame-made; takes = take-made; messages = message-made; starts = start-made; quiets = quiet-made };
+  calls = record { frames = frame-made; takes = take-made; messages = message-made; starts = start-made; quiets = quiet-made; tells = unit-made };
   every = λ z ks xs v run.
       let good : Good u = p .long ∙ power-on-goes (length w) (sym (p .answer) ∙ z) in
       let all = every-list Made Good (modelOf ports) next answer simulates good run in

@@ -9,7 +9,7 @@ use lib.ListN.{length}
 use Rattle.delivery.specs.Unit.{rowNext}
 use Rattle.queue.specs.Queue.{size, priority}
 use Rattle.unit.specs.Model.{Rest, Model, rowAt}
-use Rattle.bridge.specs.Calls.{Call, FrameIn, TakeOut, Message, Start, Quiet, restAfter, performed}
+use Rattle.bridge.specs.Calls.{Call, FrameIn, TakeOut, Message, Start, Quiet, ReadUnit, restAfter, performed}
 use Rattle.bridge.specs.Calls.{next as nextOf, asks as asksOf, sends as sendsOf}
 use Rattle.unit.proofs.Ports.{each-at, length-each}
 use Rattle.demand_3.specs.Demand3.{ports, words, next, goes, restNext, asks, forwarded, forwards, announced, announces, sends}
@@ -22,6 +22,7 @@ sends-is rest (TakeOut port) q = refl
 sends-is rest (Message port requester payload lentReply) q = refl
 sends-is rest Start q = refl
 sends-is rest Quiet q = refl
+sends-is rest ReadUnit q = refl
 
 module _ (m : Model) (k : Call) where
   pub rest-moves : next m k .rest ≡ restNext (m .rest) k

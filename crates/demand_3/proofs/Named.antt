@@ -19,15 +19,15 @@ use Rattle.bridge.specs.declared.FrameAnswer.{FrameAnswer}
 use Rattle.bridge.specs.declared.StartAnswer.{StartAnswer}
 use Rattle.unit.specs.Ports.{mask, bitAt}
 use Rattle.unit.specs.Model.{Model, rowAt}
-use Rattle.refusals.specs.Refusals.{frameRefusal, takeRefusal, startRefusal}
+use Rattle.refusals.specs.Refusals.{frameRefusal, takeRefusal, startRefusal, unitRefusal}
 use Rattle.bridge.specs.Calls.{frameOf, offered}
 use Rattle.forwarding.specs.Forwarding.{sentIf, accepts, loses}
 use Rattle.unit.specs.Own.{framesSent}
 use Rattle.claims.specs.Claims.{started}
-use Rattle.bridge.specs.Calls.{Call, FrameIn, TakeOut, Message, Start, Quiet, refusal, frameDone, framePassed, frameAnswer, takeAnswer, startAnswer}
+use Rattle.bridge.specs.Calls.{Call, FrameIn, TakeOut, Message, Start, Quiet, ReadUnit, refusal, frameDone, framePassed, frameAnswer, takeAnswer, startAnswer, unitAnswer}
 use Rattle.forwarding.specs.Forwarding.{losesOwn}
 use Rattle.unit.proofs.Ports.{mask-none, mask-small, mask-bit}
-use Rattle.demand_3.specs.Demand3.{ports, words, answer, Answer, ToTake, goes, forwarded, forwards, announced, announces, numberIn, acceptedPorts, lostPorts, ownLostPorts, Rule3}
+use Rattle.demand_3.specs.Demand3.{ports, words, answer, Answer, ToTake, ToUnit, goes, forwarded, forwards, announced, announces, numberIn, acceptedPorts, lostPorts, ownLostPorts, Rule3}
 
 -- ---- the number
 chosen : {A : Type 0} (number : A → ℕ) (n : ℕ) (done refused : A) → number done ≡ 0 → number refused ≡ n → number (cond (eqb n 0) done refused) ≡ n
@@ -38,12 +38,13 @@ chosen number n done refused d r = go (eqb n 0) refl
     go false e = r
 
 pub number-is : (m : Model) (k : Call) → numberIn (answer m k) ≡ refusal ports words (m .rest) k
-unfolding answer refusal frameAnswer takeAnswer startAnswer framePassed
+unfolding answer refusal frameAnswer takeAnswer startAnswer unitAnswer framePassed
 number-is m (FrameIn port id bytes) = chosen (λ (r : FrameAnswer). r .refusal) (frameRefusal ports words port id (length bytes)) _ _ refl refl
 number-is m (TakeOut port) = chosen (λ r. numberIn (ToTake r)) (takeRefusal ports words port) _ _ refl refl
 number-is m (Message port requester payload lentReply) = refl
 number-is m Start = chosen (λ (r : StartAnswer). r .refusal) (startRefusal ports words (m .rest .own)) _ _ refl refl
 number-is m Quiet = refl
+number-is m ReadUnit = chosen (λ r. numberIn (ToUnit r)) (unitRefusal ports words) _ _ refl refl
 
 -- ---- rule 3
 clash : true ≡ false → ⊥
@@ -147,3 +148,4 @@ module _ (m : Model) (q : ℕ) where
   rule-3 (Message port requester payload lentReply) = no-ports (Message port requester payload lentReply) _ refl refl refl refl refl
   rule-3 Start = start-ports (eqb (startRefusal ports words (m .rest .own)) 0) refl
   rule-3 Quiet = no-ports Quiet _ refl refl refl refl refl
+  rule-3 ReadUnit = no-ports ReadUnit _ refl refl refl refl refl

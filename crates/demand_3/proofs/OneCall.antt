@@ -11,8 +11,8 @@ use Rattle.bridge.specs.Calls.{messaged}
 use Rattle.bridge.specs.Calls.{Call}
 use Rattle.message_answers.specs.Messages.{messageAnswer}
 use Rattle.message_answers.specs.declared.MessageAnswer.{MessageAnswer}
-use Rattle.made.proofs.Made.{framing, taking, messaging, starting, quieting}
-use Rattle.demand_3.specs.Demand3.{Answer, ToFrame, ToTake, ToMessage, ToStart, ToQuiet, Made, frame-made, take-made, message-made, start-made, quiet-made, ports, words, next, answer}
+use Rattle.made.proofs.Made.{framing, taking, messaging, starting, quieting, reading}
+use Rattle.demand_3.specs.Demand3.{Answer, ToFrame, ToTake, ToMessage, ToStart, ToQuiet, ToUnit, Made, frame-made, take-made, message-made, start-made, quiet-made, unit-made, ports, words, next, answer}
 
 -- what every call keeps: the record's length
 abbrev pub Good : List ℕ → Type 0
@@ -39,6 +39,8 @@ one-call g (start-made h) =
     let l = starting h in record { good = l .call .long ∙ g; said = ap ToStart (rw g at (l .answer)); moved = rw g at (l .call .state) }
 one-call g (quiet-made h) =
     let l = quieting h in record { good = l .call .long ∙ g; said = ap ToQuiet (rw g at (l .answer)); moved = rw g at (l .call .state) }
+one-call g (unit-made h) =
+    let l = reading h in record { good = g; said = ap ToUnit (rw g at (l .answer)); moved = rw g at (l .call .state) }
 
 pub simulates : Simulates Made Good (modelOf ports) next answer
 simulates = record { step = one-call }

@@ -24,7 +24,7 @@ use Rattle.unit.specs.Own.{isOwn, consumes, requestAnswer, framesSent}
 use Rattle.unit.specs.PowerOn.{fresh}
 use Rattle.forwarding.specs.Forwarding.{sentIf}
 use Rattle.claims.specs.Claims.{frameOf, Acted, isClaim, isRequestToUnit, contested, claimActed, frameActed, heldUnder, started}
-use Rattle.bridge.specs.Calls.{Call, FrameIn, TakeOut, Message, Start, Quiet, offered, frameDone, restAfter}
+use Rattle.bridge.specs.Calls.{Call, FrameIn, TakeOut, Message, Start, Quiet, ReadUnit, offered, frameDone, restAfter}
 use Rattle.demand_3.specs.Demand3.{ports, words, next, goes, restNext, forwarded, forwards, announced, announces, sends, AsHandedIn, handed, ofUnit, bytesIn, modelAfter}
 use Rattle.demand_3.proofs.Moves.{rest-moves}
 
@@ -95,6 +95,7 @@ module _ (rest : Rest) where
   kept-name (Message port requester payload lentReply) = refl
   kept-name Start = start-ours .keeps
   kept-name Quiet = refl
+  kept-name ReadUnit = refl
 
   -- the frame that was handed in
   as-bytes : (bytes : List ℕ) → ((i : ℕ) → getD bytes i 0 < 256) → bytesOf (length bytes) (packed bytes) ≡ bytes
@@ -114,6 +115,7 @@ module _ (rest : Rest) where
   forwarded-so own (Message port requester payload lentReply) q f small m = none-sent (Message port requester payload lentReply) f m
   forwarded-so own Start q f small m = none-sent Start f m
   forwarded-so own Quiet q f small m = none-sent Quiet f m
+  forwarded-so own ReadUnit q f small m = none-sent ReadUnit f m
 
   announced-so : (k : Call) (f : Frame) → List·Memᴰ f (announced rest k) → AsHandedIn (restAfter ports words rest k .own) k f
   unfolding restAfter
@@ -122,6 +124,7 @@ module _ (rest : Rest) where
   announced-so (Message port requester payload lentReply) f m = none-sent (Message port requester payload lentReply) f m
   announced-so Start f m = start-ours .frame Start f m
   announced-so Quiet f m = none-sent Quiet f m
+  announced-so ReadUnit f m = none-sent ReadUnit f m
 
   sent-so : (k : Call) (q : ℕ) (f : Frame) → ((i : ℕ) → getD (bytesIn k) i 0 < 256) → List·Memᴰ f (sends rest k q) → AsHandedIn (restNext rest k .own) k f
   unfolding forwards announces restNext

@@ -24,9 +24,11 @@ use Rattle.queue.specs.declared.Frame.{Frame}
 use Rattle.queue.specs.Queue.{size, priority, takenOf}
 use Rattle.bridge.specs.declared.FrameAnswer.{FrameAnswer}
 use Rattle.bridge.specs.declared.TakeAnswer.{TakeAnswer}
-use Rattle.bridge.specs.declared.TakeAnswer.the-variants.{Refused, Took}
+use Rattle.bridge.specs.declared.TakeAnswer.the-variants.{Took}
 use Rattle.message_answers.specs.declared.MessageAnswer.{MessageAnswer}
 use Rattle.bridge.specs.declared.StartAnswer.{StartAnswer}
+use Rattle.bridge.specs.declared.UnitAnswer.{UnitAnswer}
+use Rattle.bridge.specs.declared.UnitAnswer.the-variants.{Told}
 use Rattle.unit.specs.declared.Unit.{Unit}
 use Rattle.unit.specs.Ports.{bitAt}
 use Rattle.unit.specs.Model.{Rest, Model, rowAt, recordLength, modelOf}
@@ -36,14 +38,14 @@ use Rattle.forwarding.specs.Forwarding.{sentIf}
 use Rattle.bridge.specs.Calls.{messaged}
 use Rattle.unit.specs.Own.{framesSent}
 use Rattle.claims.specs.Claims.{started}
-use Rattle.bridge.specs.Calls.{Call, FrameIn, TakeOut, Message, Start, Quiet, refusal, restAfter, frameDone, frameAnswer, takeAnswer, startAnswer}
+use Rattle.bridge.specs.Calls.{Call, FrameIn, TakeOut, Message, Start, Quiet, ReadUnit, refusal, restAfter, frameDone, frameAnswer, takeAnswer, takeNumber, startAnswer, unitAnswer}
 use Rattle.message_answers.specs.Messages.{messageAnswer}
 use Rattle.unit.specs.PowerOn.{fresh}
 use Rattle.bridge.specs.Calls.{next as nextOf, asks as asksOf}
 use Rattle.made.specs.Made as made
 
 -- ---- 1. the calls
--- `Call` of the bridge is a call by its arguments: FrameIn, TakeOut, Message, Start, Quiet. This is what it was answered; of a message also the reply,
+-- `Call` of the bridge is a call by its arguments: FrameIn, TakeOut, Message, Start, Quiet, ReadUnit. This is what it was answered; of a message also the reply,
 -- the bytes that were written to the buffer. (That those behind it are untouched is in the contract of `message`.)
 pub data Answer : Type 0 where
   ToFrame : FrameAnswer → Answer
@@ -51,6 +53,7 @@ pub data Answer : Type 0 where
   ToMessage : MessageAnswer → (reply : List ℕ) → Answer
   ToStart : StartAnswer → Answer
   ToQuiet : ℕ → Answer
+  ToUnit : UnitAnswer → Answer
 
 -- A call was made on the record w by the real function, of which the contract alone is known (Made.antt), and left the record as w′.
 pub data Made : List ℕ → Call → Answer → List ℕ → Type 0 where
@@ -60,6 +63,7 @@ pub data Made : List ℕ → Call → Answer → List ℕ → Type 0 where
       → Made w (Message port requester payload (length lent)) (ToMessage r (take (r .length) back)) w′
   start-made : {w w′ : List ℕ} {r : StartAnswer} → made.Started w r w′ → Made w Start (ToStart r) w′
   quiet-made : {w w′ : List ℕ} {r : ℕ} → made.Quieted w r w′ → Made w Quiet (ToQuiet r) w′
+  unit-made : {w : List ℕ} {r : UnitAnswer} → made.Told w r → Made w ReadUnit (ToUnit r) w
 
 -- No call is missing: whatever the unit's functions were called with is such a call.
 pub record EveryCall : Type 0 where
@@ -69,6 +73,7 @@ pub record EveryCall : Type 0 where
       → Made w (Message port requester payload (length lent)) (ToMessage r (take (r .length) back)) w′
   pub starts : {w w′ : List ℕ} {r : StartAnswer} → made.Started w r w′ → Made w Start (ToStart r) w′
   pub quiets : {w w′ : List ℕ} {r : ℕ} → made.Quieted w r w′ → Made w Quiet (ToQuiet r) w′
+  pub tells : {w : List ℕ} {r : UnitAnswer} → made.Told w r → Made w ReadUnit (ToUnit r) w
 
 -- ---- 2. the book
 abbrev pub ports : ℕ
@@ -91,6 +96,7 @@ answer m (Message port requester payload lentReply) =
     (messaged ports words lentReply (m .rest) port requester payload .written (m .seen))
 answer m Start = ToStart (startAnswer ports words m)
 answer m Quiet = ToQuiet (quietRefusal ports words (m .rest .own))
+answer m ReadUnit = ToUnit (unitAnswer ports words m)
 
 -- ---- 3. what a call sends and asks
 -- What the book keeps besides the rows has all the say; a refused call asks nothing, sends nothing and changes nothing.
@@ -111,6 +117,7 @@ forwarded rest (TakeOut port) q = []
 forwarded rest (Message port requester payload lentReply) q = []
 forwarded rest Start q = []
 forwarded rest Quiet q = []
+forwarded rest ReadUnit q = []
 
 unfoldable pub forwards : Rest → Call → ℕ → List Frame
 forwards rest k q = cond (goes rest k) (forwarded rest k q) []
@@ -122,6 +129,7 @@ announced rest (TakeOut port) = []
 announced rest (Message port requester payload lentReply) = []
 announced rest Start = framesSent (started rest .sent)
 announced rest Quiet = []
+announced rest ReadUnit = []
 
 unfoldable pub announces : Rest → Call → List Frame
 announces rest k = cond (goes rest k) (announced rest k) []
@@ -150,11 +158,12 @@ bridge = record {
 -- The number in an answer, 0 where the call isn't refused.
 abbrev pub numberIn : Answer → ℕ
 numberIn (ToFrame r) = r .refusal
-numberIn (ToTake (Refused number)) = number
-numberIn (ToTake (Took taken)) = 0
+numberIn (ToTake r) = takeNumber r
 numberIn (ToMessage r reply) = r .refusal
 numberIn (ToStart r) = r .refusal
 numberIn (ToQuiet number) = number
+numberIn (ToUnit (UnitAnswer.Refused number)) = number
+numberIn (ToUnit (Told own ports)) = 0
 
 -- The ports that an answer names, as bits: bit q for port q.
 abbrev pub acceptedPorts : Answer → ℕ
@@ -163,6 +172,7 @@ acceptedPorts (ToTake r) = 0
 acceptedPorts (ToMessage r reply) = 0
 acceptedPorts (ToStart r) = 0
 acceptedPorts (ToQuiet number) = 0
+acceptedPorts (ToUnit r) = 0
 
 abbrev pub lostPorts : Answer → ℕ
 lostPorts (ToFrame r) = r .lost
@@ -170,6 +180,7 @@ lostPorts (ToTake r) = 0
 lostPorts (ToMessage r reply) = 0
 lostPorts (ToStart r) = 0
 lostPorts (ToQuiet number) = 0
+lostPorts (ToUnit r) = 0
 
 abbrev pub ownLostPorts : Answer → ℕ
 ownLostPorts (ToFrame r) = r .unsent
@@ -177,6 +188,7 @@ ownLostPorts (ToTake r) = 0
 ownLostPorts (ToMessage r reply) = 0
 ownLostPorts (ToStart r) = r .unsent
 ownLostPorts (ToQuiet number) = 0
+ownLostPorts (ToUnit r) = 0
 
 -- Something was sent.
 abbrev pub Sent : List Frame → Type 0
@@ -207,6 +219,7 @@ bytesIn (TakeOut port) = []
 bytesIn (Message port requester payload lentReply) = []
 bytesIn Start = []
 bytesIn Quiet = []
+bytesIn ReadUnit = []
 
 module _ (name preferred : ℕ) where
   -- 01: "Power-on, with any NAME and preferred address, makes it fresh." "The book is fed the calls' arguments alone, no answer and nothing of the

@@ -15,12 +15,15 @@ use Rattle.bridge.specs.declared.TakeAnswer.{TakeAnswer}
 use Rattle.bridge.specs.declared.TakeAnswer.the-variants.{Refused, Took}
 use Rattle.message_answers.specs.declared.MessageAnswer.{MessageAnswer}
 use Rattle.bridge.specs.declared.StartAnswer.{StartAnswer}
+use Rattle.bridge.specs.declared.UnitAnswer.{UnitAnswer}
+use Rattle.bridge.specs.declared.UnitAnswer.the-variants.{Told}
+use Rattle.unit.specs.declared.Unit.{Unit}
 use Rattle.unit.specs.Model.{Model, modelOf}
-use Rattle.refusals.specs.Refusals.{frameRefusal, takeRefusal, startRefusal}
-use Rattle.bridge.specs.Calls.{Call, next, refusal, framePassed, frameAnswer, takeAnswer, startAnswer, Calling, Framing, TakingOut, Messaging, Starting}
-use Rattle.deorasaeng.specs.Interface.{lentRefusal, Served, messageLength, startLength, takeNumber, gave, FrameCall, TakeCall, MessageCall, StartCall, QueueCall, queueNumber}
-use Rattle.flat_answers.specs.Answers.{frameLength, takeLength, bytesLength, frameWords, takeWords, bytesOfTaken, Telling}
-use Rattle.deorasaeng.proofs.Numbers.{not-0, frame-lent, frame-number, take-lent, take-lent-bytes, take-number, silent, replied-as, start-lent, start-number, queue-lent, queue-lent-bytes, queue-number}
+use Rattle.refusals.specs.Refusals.{frameRefusal, takeRefusal, startRefusal, unitRefusal}
+use Rattle.bridge.specs.Calls.{Call, next, refusal, framePassed, frameAnswer, takeAnswer, gave, startAnswer, unitAnswer, Calling, Framing, TakingOut, Messaging, Starting, Reading}
+use Rattle.deorasaeng.specs.Interface.{lentRefusal, Served, messageLength, startLength, startWords, takeNumber, FrameCall, TakeCall, MessageCall, StartCall, UnitCall, QueueCall, queueNumber}
+use Rattle.flat_answers.specs.Answers.{frameLength, takeLength, bytesLength, unitLength, frameWords, takeWords, bytesOfTaken, unitWords, Telling, TellingUnit}
+use Rattle.deorasaeng.proofs.Numbers.{not-0, frame-lent, frame-number, take-lent, take-lent-bytes, take-number, silent, replied-as, start-lent, start-number, unit-lent, unit-number, queue-lent, queue-lent-bytes, queue-number}
 
 -- ---- the record
 -- refused before the record is touched
@@ -39,7 +42,7 @@ served {before} {after} {k} {r} e C = record { long = C .long; state = state; re
         ]
 
 -- ---- the numbers in the core's answers
-frame-refusal : (lent : ℕ) (m : Model) (port id : ℕ) (bytes : List ℕ) → frameAnswer 4 lent m port id bytes .refusal ≡ frameRefusal 4 lent port id (length bytes)
+pub frame-refusal : (lent : ℕ) (m : Model) (port id : ℕ) (bytes : List ℕ) → frameAnswer 4 lent m port id bytes .refusal ≡ frameRefusal 4 lent port id (length bytes)
 unfolding frameAnswer framePassed
 frame-refusal lent m port id bytes =
     elim (ℕ-discrete (frameRefusal 4 lent port id (length bytes)) 0) [
@@ -63,7 +66,7 @@ take-done lent m port taken e =
       | no h ↦ let d = rw (ne-eqb (takeRefusal 4 lent port) 0 h) at e in absurd (let x : _≡_ {A = ℕ} 0 1 = cc in omega arith)
     ]
 
-start-refusal : (lent : ℕ) (m : Model) → startAnswer 4 lent m .refusal ≡ startRefusal 4 lent (m .rest .own)
+pub start-refusal : (lent : ℕ) (m : Model) → startAnswer 4 lent m .refusal ≡ startRefusal 4 lent (m .rest .own)
 unfolding startAnswer
 start-refusal lent m =
     elim (ℕ-discrete (startRefusal 4 lent (m .rest .own)) 0) [
@@ -136,7 +139,7 @@ module _ {before : List ℕ} {port requester : ℕ} {payload reply answer : List
   message-wrong {r} e h =
       let n : r ≡ 0 → ⊥ = λ z. not-0 port (sym e ∙ z) in
       let S = silent (length before) (length answer) port (length reply) (modelOf 4 before .rest) requester payload h in
-      record { number = rw S e; served = untouched n; writes = rw S; tells = rw (ne-eqb (length answer) messageLength h) }
+      record { number = rw S e; served = untouched n; writes = rw S; tells = rw (ne-eqb (length answer) messageLength h); called = λ z. absurd (h z) }
 
   pub message-done : {after back told : List ℕ} {a : MessageAnswer} → Messaging 4 before after port requester payload reply back a → length answer ≡ messageLength
       → told ≡ a .pgn ∷ a .length ∷ [] → MessageCall 4 before after port requester payload reply back answer told (a .refusal)
@@ -148,6 +151,7 @@ module _ {before : List ℕ} {port requester : ℕ} {payload reply answer : List
         served = served (rw (M .answer)) (M .call);
         writes = rw S (M .written);
         tells = rw (eq-eqb (length answer) messageLength e, S) (t ∙ rw (M .answer));
+        called = λ _. rw (M .answer) at M;
       }
 
 -- ---- deorasaeng_start
@@ -156,7 +160,7 @@ module _ {before answer : List ℕ} where
   start-wrong h = record { number = start-lent (length before) (length answer) (modelOf 4 before .rest .own) h; served = untouched (λ z. omega arith); tells = refl }
 
   module _ {after : List ℕ} {a : StartAnswer} (S : Starting 4 before after a) (e : length answer ≡ startLength) where
-    start-called : {told : List ℕ} {r : ℕ} → r ≡ a .refusal → told ≡ cond (eqb r 0) (a .unsent ∷ []) answer → StartCall 4 before after answer told r
+    start-called : {told : List ℕ} {r : ℕ} → r ≡ a .refusal → told ≡ cond (eqb r 0) (startWords a) answer → StartCall 4 before after answer told r
     unfolding refusal
     start-called {r = r} z t =
         let n : r ≡ startRefusal 4 (length before) (modelOf 4 before .rest .own) = z ∙ rw (S .answer) (start-refusal (length before) (modelOf 4 before)) in
@@ -169,8 +173,48 @@ module _ {before answer : List ℕ} where
     pub start-refused : (a .refusal ≡ 0 → ⊥) → StartCall 4 before after answer answer (a .refusal)
     start-refused h = start-called refl (rw (ne-eqb (a .refusal) 0 h))
 
-    pub start-done : {told : List ℕ} → a .refusal ≡ 0 → told ≡ a .unsent ∷ [] → StartCall 4 before after answer told 0
+    pub start-done : {told : List ℕ} → a .refusal ≡ 0 → told ≡ startWords a → StartCall 4 before after answer told 0
     start-done z t = start-called (sym z) t
+
+-- ---- deorasaeng_unit
+unit-refused : (lent : ℕ) (m : Model) (number : ℕ) → UnitAnswer.Refused number ≡ unitAnswer 4 lent m → (number ≡ unitRefusal 4 lent) × (number ≡ 0 → ⊥)
+unfolding unitAnswer
+unit-refused lent m number e =
+    elim (ℕ-discrete (unitRefusal 4 lent) 0) [
+      | yes z ↦ let d = rw (eq-eqb (unitRefusal 4 lent) 0 z) at e in absurd (let x : _≡_ {A = ℕ} 0 1 = cc in omega arith)
+      | no h ↦ let d = rw (ne-eqb (unitRefusal 4 lent) 0 h) at e in let same : number ≡ unitRefusal 4 lent = cc in (same, λ z. h (sym same ∙ z))
+    ]
+
+unit-done : (lent : ℕ) (m : Model) (own : Unit) (ports : ℕ) → Told own ports ≡ unitAnswer 4 lent m → (unitRefusal 4 lent ≡ 0) × (own ≡ m .rest .own) × (ports ≡ 4)
+unfolding unitAnswer
+unit-done lent m own ports e =
+    elim (ℕ-discrete (unitRefusal 4 lent) 0) [
+      | yes z ↦ let d = rw (eq-eqb (unitRefusal 4 lent) 0 z) at e in (z, cc, cc)
+      | no h ↦ let d = rw (ne-eqb (unitRefusal 4 lent) 0 h) at e in absurd (let x : _≡_ {A = ℕ} 0 1 = cc in omega arith)
+    ]
+
+module _ {words answer : List ℕ} where
+  pub unit-wrong : (length answer ≡ unitLength → ⊥) → UnitCall 4 words answer answer 2
+  unit-wrong h = record { number = unit-lent (length words) (length answer) h; served = untouched (λ z. omega arith); tells = refl }
+
+  module _ {a : UnitAnswer} (R : Reading 4 words a) (e : length answer ≡ unitLength) where
+    unit-called : {told : List ℕ} {r : ℕ} → r ≡ unitRefusal 4 (length words) → told ≡ cond (eqb r 0) (unitWords (modelOf 4 words .rest .own) 4) answer → UnitCall 4 words answer told r
+    unfolding refusal
+    unit-called n t = record {
+      number = n ∙ sym (unit-number (length words) (length answer) e);
+      served = served n (R .call);
+      tells = t;
+    }
+
+    pub unit-left : {number : ℕ} → a ≡ UnitAnswer.Refused number → UnitCall 4 words answer answer number
+    unit-left {number} is =
+        let N = unit-refused (length words) (modelOf 4 words) number (sym is ∙ R .answer) in
+        unit-called (N .0) (rw (ne-eqb number 0 (N .1)))
+
+    pub unit-told : {own : Unit} {ports : ℕ} {told : List ℕ} {r : ℕ} → a ≡ Told own ports → TellingUnit told own ports r → UnitCall 4 words answer told r
+    unit-told {own} {ports} {r = r} is G =
+        let D = unit-done (length words) (modelOf 4 words) own ports (sym is ∙ R .answer) in
+        unit-called (G .number ∙ sym (D .0)) (rw (eq-eqb r 0 (G .number), ← (D .1), ← (D .2)) (G .tells))
 
 -- ---- deorasaeng_take_queue
 module _ {before answer bytes : List ℕ} where

@@ -11,11 +11,11 @@ use Rattle.network_message.specs.Decoding.{longest}
 use Rattle.unit.specs.declared.Unit.{Unit}
 use Rattle.unit.specs.Model.{Rest}
 use Rattle.checks.specs.Ports.{noPort}
-use Rattle.refusals.specs.Refusals.{frameRefusal, takeRefusal, startRefusal, messageRefusal}
+use Rattle.refusals.specs.Refusals.{frameRefusal, takeRefusal, startRefusal, unitRefusal, messageRefusal}
 use Rattle.unit.specs.PowerOn.{notLong}
 use Rattle.bridge.specs.Calls.{silentReply, messaged}
-use Rattle.deorasaeng.specs.Interface.{notOf, lentRefusal, messageLength, startLength, frameNumber, takeNumber, messageNumber, repliedTo, startNumber, queueNumber}
-use Rattle.flat_answers.specs.Answers.{frameLength, takeLength, bytesLength}
+use Rattle.deorasaeng.specs.Interface.{notOf, lentRefusal, messageLength, startLength, frameNumber, takeNumber, messageNumber, repliedTo, startNumber, unitNumber, queueNumber}
+use Rattle.flat_answers.specs.Answers.{frameLength, takeLength, bytesLength, unitLength}
 
 wrong : {published lent : ℕ} → (lent ≡ published → ⊥) → notOf published lent ≡ true
 wrong {published} {lent} h = rw (ne-eqb lent published h)
@@ -90,6 +90,15 @@ module _ (lent lentAnswer : ℕ) (own : Unit) where
   pub start-number : lentAnswer ≡ startLength → startNumber 4 lent lentAnswer own ≡ startRefusal 4 lent own
   unfolding startNumber startRefusal
   start-number e = rw (or-false (notLong 4 lent) (right e))
+
+module _ (lent lentAnswer : ℕ) where
+  pub unit-lent : (lentAnswer ≡ unitLength → ⊥) → 2 ≡ unitNumber 4 lent lentAnswer
+  unfolding unitNumber
+  unit-lent h = rw (or-true (notLong 4 lent) (wrong h))
+
+  pub unit-number : lentAnswer ≡ unitLength → unitNumber 4 lent lentAnswer ≡ unitRefusal 4 lent
+  unfolding unitNumber unitRefusal
+  unit-number e = rw (or-false (notLong 4 lent) (right e))
 
 module _ (lentAnswer lentBytes : ℕ) where
   pub queue-lent : (lentAnswer ≡ takeLength → ⊥) → 2 ≡ queueNumber lentAnswer lentBytes

@@ -11,23 +11,21 @@ use lib.Dec.{ltb, eqb}
 use Rattle.identifier.specs.Identifier.{tooWide, wrongSource}
 use Rattle.delivery.specs.Row.{pull, given}
 use Rattle.queue.specs.declared.Taken.{Taken}
-use Rattle.queue.specs.declared.Taken.the-variants.{Nothing}
 use Rattle.queue.specs.Queue.{blockLength, rowOf, priority, takenOf, Taking}
 use Rattle.checks.specs.Checks.{check, first}
 use Rattle.network_message.specs.Decoding.{decoded, longest}
-use Rattle.bridge.specs.declared.TakeAnswer.{TakeAnswer}
-use Rattle.bridge.specs.declared.TakeAnswer.the-variants.{Refused, Took}
+use Rattle.bridge.specs.declared.StartAnswer.{StartAnswer}
 use Rattle.unit.specs.declared.Unit.{Unit}
 use Rattle.unit.specs.Model.{Rest, Seen, modelOf}
 use Rattle.checks.specs.Ports.{noPort}
-use Rattle.flat_answers.specs.Answers.{frameLength, takeLength, bytesLength, frameWords, takeWords, bytesOfTaken}
+use Rattle.flat_answers.specs.Answers.{frameLength, takeLength, bytesLength, unitLength, frameWords, takeWords, bytesOfTaken, unitWords}
 use Rattle.unit.specs.PowerOn.{notLong}
-use Rattle.unit.specs.Own.{startChecks}
+use Rattle.unit.specs.Own.{startChecks, claimWord}
 use Rattle.unit.specs.Own.{isClaimed}
 use Rattle.refusals.specs.Refusals.{lateChecks}
-use Rattle.message_answers.specs.Messages.{performedBy, Replied}
-use Rattle.bridge.specs.Calls.{silentReply}
-use Rattle.bridge.specs.Calls.{Call, FrameIn, TakeOut, Message, Start, next, queueAt, frameAnswer, takeAnswer, startAnswer}
+use Rattle.message_answers.specs.Messages.{performedBy, Replied, messageAnswer}
+use Rattle.bridge.specs.Calls.{silentReply, messaged, Messaging}
+use Rattle.bridge.specs.Calls.{Call, FrameIn, TakeOut, Message, Start, ReadUnit, next, queueAt, frameAnswer, takeAnswer, gave, startAnswer}
 
 -- ---- what the functions share
 -- 2: lent storage not of its published length
@@ -68,11 +66,6 @@ pub record FrameCall (ports : ℕ) (before after : List ℕ) (port id : ℕ) (by
 unfoldable pub takeNumber : ℕ → ℕ → ℕ → ℕ → ℕ → ℕ
 takeNumber ports lent lentAnswer lentBytes port =
     first (check (noPort ports port) 1 ∷ check (notLong ports lent || notOf takeLength lentAnswer || notOf bytesLength lentBytes) 2 ∷ [])
-
--- what a take that is not refused gave
-abbrev pub gave : TakeAnswer → Taken
-gave (Refused number) = Nothing
-gave (Took taken) = taken
 
 pub record TakeCall (ports : ℕ) (before after : List ℕ) (port : ℕ) (answer told bytes written : List ℕ) (r : ℕ) : Type 0 where
   pub number : r ≡ takeNumber ports (length before) (length answer) (length bytes) port
@@ -116,19 +109,35 @@ pub record MessageCall (ports : ℕ) (before after : List ℕ) (port requester :
   pub served : Served ports before after (Message port requester payload (length reply)) r
   pub writes : back ≡ over (repliedTo ports (length before) (length reply) (length answer) (modelOf ports before .rest) port requester payload .written (modelOf ports before .seen)) reply
   pub tells : told ≡ messageWords (repliedTo ports (length before) (length reply) (length answer) (modelOf ports before .rest) port requester payload) (modelOf ports before .seen) answer
+  -- where the answer is of its length, all that the bridge's own contract says
+  pub called : length answer ≡ messageLength
+      → Messaging ports before after port requester payload reply back
+      (messageAnswer (messaged ports (length before) (length reply) (modelOf ports before .rest) port requester payload) (modelOf ports before .seen))
 
 -- ---- deorasaeng_start
 abbrev pub startLength : ℕ
-startLength = 1
+startLength = 2
 
 unfoldable pub startNumber : ℕ → ℕ → ℕ → Unit → ℕ
 startNumber ports lent lentAnswer own = first (check (notLong ports lent || notOf startLength lentAnswer) 2 ∷ startChecks own)
 
--- ports where the unit's own frame was lost
+-- ports where the unit's own frame was lost, and what became of the unit: 1 Claiming, 3 Lost
+abbrev pub startWords : StartAnswer → List ℕ
+startWords a = a .unsent ∷ claimWord (a .claim) ∷ []
+
 pub record StartCall (ports : ℕ) (before after answer told : List ℕ) (r : ℕ) : Type 0 where
   pub number : r ≡ startNumber ports (length before) (length answer) (modelOf ports before .rest .own)
   pub served : Served ports before after Start r
-  pub tells : told ≡ filled r (startAnswer ports (length before) (modelOf ports before) .unsent ∷ []) answer
+  pub tells : told ≡ filled r (startWords (startAnswer ports (length before) (modelOf ports before))) answer
+
+-- ---- deorasaeng_unit: the record is lent to be read alone
+unfoldable pub unitNumber : ℕ → ℕ → ℕ → ℕ
+unitNumber ports lent lentAnswer = first (check (notLong ports lent || notOf unitLength lentAnswer) 2 ∷ [])
+
+pub record UnitCall (ports : ℕ) (words answer told : List ℕ) (r : ℕ) : Type 0 where
+  pub number : r ≡ unitNumber ports (length words) (length answer)
+  pub served : Served ports words words ReadUnit r
+  pub tells : told ≡ filled r (unitWords (modelOf ports words .rest .own) ports) answer
 
 -- ---- deorasaeng_take_queue: `before` and `after` are the words of one port's queue
 unfoldable pub queueNumber : ℕ → ℕ → ℕ

@@ -1,12 +1,16 @@
 // The C interface of the unit: exported functions over numbers and slices alone. Each gives 0 for done or the number that refuses the call, and requires
 // nothing: a wrong length is refused with 2.
 use bridge::TakeAnswer;
+use bridge::UnitAnswer;
 use queue::Queue;
 use unit::Unit;
 ghost use mathlib.Core.Path.{_≡_};
 ghost use Rattle.unit.specs.PowerOn.{PoweringOn};
 ghost use Rattle.bridge.specs.Calls.{Quieting};
-ghost use Rattle.deorasaeng.specs.Interface.{lentRefusal, FrameCall, TakeCall, MessageCall, StartCall, QueueCall};
+ghost use Rattle.deorasaeng.specs.Interface.{lentRefusal, FrameCall, TakeCall, MessageCall, StartCall, UnitCall, QueueCall};
+
+// The version of the interface, which the header names: it rises with every function, number or word that is added.
+pub const VERSION: u64 = 2;
 
 // The published lengths of the answers.
 pub const FRAME_WORDS: usize = 7;
@@ -15,7 +19,9 @@ pub const TAKE_WORDS: usize = 3;
 
 pub const MESSAGE_WORDS: usize = 2;
 
-pub const START_WORDS: usize = 1;
+pub const START_WORDS: usize = 2;
+
+pub const UNIT_WORDS: usize = 5;
 
 // The number of a call that names a port and lends storage of a wrong length: 1 stands before 2.
 fn lent_refusal(port: u32) -> u32
@@ -115,7 +121,9 @@ pub extern "C" fn deorasaeng_start(words: &mut [u64], answer: &mut [u64]) -> u32
     if refusal != 0 {
         return refusal;
     }
+    let claim = a.claim;
     answer[0] = a.unsent as u64;
+    answer[1] = claim.word();
     0
 }
 
@@ -125,6 +133,21 @@ pub extern "C" fn deorasaeng_quiet(words: &mut [u64]) -> u32
     ensures { λ r. ⌜ Quieting 4 (now (words .entry)) (now (words .exit)) r ⌝ }
 {
     bridge::quiet(words)
+}
+
+// The unit is read: its claim state, its addresses, its NAME, and how many ports it has.
+#[no_mangle]
+pub extern "C" fn deorasaeng_unit(words: &[u64], answer: &mut [u64]) -> u32
+    ensures { λ r. ⌜ UnitCall 4 (now (words .entry)) (now (answer .entry)) (now (answer .exit)) r ⌝ }
+{
+    if answer.len() != UNIT_WORDS {
+        return 2;
+    }
+    let told = bridge::unit(words);
+    match told {
+        UnitAnswer::Refused(number) => number,
+        UnitAnswer::Told { unit, ports } => flat_answers::tell_unit(answer, unit, ports),
+    }
 }
 
 // A queue after a take that was told, and the number that the take gives.

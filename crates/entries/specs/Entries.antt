@@ -25,6 +25,11 @@ threeAt bytes at = packed (take 3 (drop at bytes))
 unfoldable pub entryAt : List ℕ → ℕ → Entry
 entryAt bytes at = cond (leb (at + 3) (length bytes) && isPgn (threeAt bytes at)) (Pgn (threeAt bytes at)) Wrong
 
+-- what an entry is by document 01's numbers: none, or 12
+abbrev pub entryNumber : Entry → ℕ
+entryNumber (Pgn pgn) = 0
+entryNumber Wrong = 12
+
 -- whether x is in a list
 unfoldable pub listed : ℕ → List ℕ → Bool
 listed x [] = false
@@ -38,6 +43,10 @@ every test (x ∷ xs) = test x && every test xs
 -- bytes that "hold entries to the last byte", each of them a PGN
 unfoldable pub wellFormed : List ℕ → Bool
 wellFormed bytes = eqb (length bytes % 3) 0 && every isPgn (entriesOf bytes)
+
+-- the number that refuses bytes which do not, or 0
+unfoldable pub entriesRefusal : List ℕ → ℕ
+entriesRefusal bytes = cond (wellFormed bytes) 0 (entryNumber Wrong)
 
 -- function 0: the bytes that report a list
 unfoldable pub reported : List ℕ → List ℕ

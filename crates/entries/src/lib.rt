@@ -3,7 +3,7 @@ ghost use mathlib.Core.Path.{_≡_};
 ghost use Prim.Native.Nat.{_+_, _≤_, _<_};
 ghost use lib.ListN.{length, getD};
 ghost use Rattle.storage.specs.Bytes.{Packing};
-ghost use Rattle.entries.specs.Entries.{listed, entriesOf, entryAt, wellFormed};
+ghost use Rattle.entries.specs.Entries.{listed, entriesOf, entryAt, entriesRefusal};
 
 // The bytes of an entry.
 pub const ENTRY_SIZE: usize = 3;
@@ -58,18 +58,18 @@ pub fn read_entry(bytes: &[u8], at: usize) -> Entry
     }
 }
 
-// Whether the bytes are entries to the last one, each of them a PGN.
-pub fn well_formed(bytes: &[u8]) -> bool
-    ensures { λ r. ⌜ r ≡ wellFormed (now (bytes .entry)) ⌝ }
+// The number that refuses bytes which are not entries to the last one, each of them a PGN; or 0.
+pub fn refusal(bytes: &[u8]) -> u32
+    ensures { λ r. ⌜ r ≡ entriesRefusal (now (bytes .entry)) ⌝ }
 {
     let mut at = 0;
     while at < bytes.len() {
         let Entry::Pgn(_) = read_entry(bytes, at) else {
-            return false;
+            return 12;
         };
         at += ENTRY_SIZE;
     }
-    true
+    0
 }
 
 // Whether the entries name x.

@@ -142,7 +142,7 @@ fn clear(block: &mut [u64]) {
 // Whether bytes are entries.
 fn entries(text: &[u8], bytes: &[u8]) {
     say(text);
-    if entries::well_formed(bytes) {
+    if entries::refusal(bytes) == 0 {
         say(b": entries\n");
     } else {
         say(b": refused with 12\n");

@@ -11,6 +11,8 @@ use Rattle.queue.specs.declared.Taken.{Taken}
 use Rattle.queue.specs.declared.Taken.the-variants.{Given, Nothing}
 use Rattle.address_claims.specs.Events.{eventNumber, oldName}
 use Rattle.bridge.specs.declared.FrameAnswer.{FrameAnswer}
+use Rattle.unit.specs.declared.Unit.{Unit}
+use Rattle.unit.specs.Own.{claimWord}
 
 -- ---- a frame
 abbrev pub frameLength : ℕ
@@ -46,3 +48,16 @@ pub record Telling (told bytes written : List ℕ) (taken : Taken) (r : ℕ) : T
   pub number : r ≡ 0
   pub tells : told ≡ takeWords taken
   pub writes : written ≡ bytesOfTaken taken bytes
+
+-- ---- the unit
+abbrev pub unitLength : ℕ
+unitLength = 5
+
+-- claim state (0 Unstarted, 1 Claiming, 2 Claimed, 3 Lost), address (254 for none), preferred address, NAME, number of ports
+abbrev pub unitWords : Unit → ℕ → List ℕ
+unitWords own ports = claimWord (own .claim) ∷ own .address ∷ own .preferred ∷ own .name ∷ ports ∷ []
+
+-- the contract of telling it, which is done
+pub record TellingUnit (told : List ℕ) (own : Unit) (ports r : ℕ) : Type 0 where
+  pub number : r ≡ 0
+  pub tells : told ≡ unitWords own ports

@@ -2,11 +2,12 @@
 use bridge::FrameAnswer;
 use queue::Frame;
 use queue::Taken;
+use unit::Unit;
 ghost use mathlib.Core.Path.{_≡_};
 ghost use mathlib.Core.Bool.{cond};
 ghost use lib.ListN.{length};
 ghost use Rattle.storage.specs.Bytes.{bytesOf};
-ghost use Rattle.flat_answers.specs.Answers.{frameLength, takeLength, bytesLength, frameWords, bytesOfFrame, Telling};
+ghost use Rattle.flat_answers.specs.Answers.{frameLength, takeLength, bytesLength, unitLength, frameWords, bytesOfFrame, Telling, TellingUnit};
 
 // The bytes that a take writes.
 pub const FRAME_BYTES: usize = 8;
@@ -83,5 +84,19 @@ pub fn tell_taken(answer: &mut [u64], bytes: &mut [u8], taken: Taken) -> u32
             write_bytes(bytes, f);
         }
     }
+    0
+}
+
+// The unit, read: 0.
+pub fn tell_unit(answer: &mut [u64], unit: Unit, ports: u32) -> u32
+    requires { ⌜ length (now answer) ≡ unitLength ⌝ }
+    ensures { λ r. ⌜ TellingUnit (now (answer .exit)) unit ports r ⌝ }
+{
+    let claim = unit.claim;
+    answer[0] = claim.word();
+    answer[1] = unit.address as u64;
+    answer[2] = unit.preferred as u64;
+    answer[3] = unit.name;
+    answer[4] = ports as u64;
     0
 }

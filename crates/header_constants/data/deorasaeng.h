@@ -25,7 +25,7 @@ extern "C" {
 
 /* The version of this interface. A version may add functions, numbers, and words at the end of an answer, whose published length then grows: a call that lends
    the old length is refused with 2. So callers are compiled again with the header of the library that they link. */
-#define DEORASAENG_VERSION 1
+#define DEORASAENG_VERSION 2
 
 /* What a function gives back: 0 for done, else why the call is refused. */
 enum deorasaeng_number {
@@ -68,7 +68,8 @@ enum deorasaeng_number {
 #define DEORASAENG_FRAME_ANSWER 7
 #define DEORASAENG_TAKE_ANSWER 3
 #define DEORASAENG_MESSAGE_ANSWER 2
-#define DEORASAENG_START_ANSWER 1
+#define DEORASAENG_START_ANSWER 2
+#define DEORASAENG_UNIT_ANSWER 5
 
 /* The words of a frame's answer. */
 enum deorasaeng_frame_word {
@@ -93,6 +94,31 @@ enum deorasaeng_message_word {
     DEORASAENG_PGN = 0,       /* DEORASAENG_NETWORK_MESSAGE_PGN for a reply, DEORASAENG_ACKNOWLEDGMENT_PGN, or 0 for nothing written */
     DEORASAENG_WRITTEN = 1    /* how many bytes were written */
 };
+
+/* The words of Start's answer. */
+enum deorasaeng_start_word {
+    DEORASAENG_START_OWN_LOST = 0, /* ports where the unit's own frame was lost */
+    DEORASAENG_START_STATE = 1     /* what became of the unit: DEORASAENG_STATE_CLAIMING or DEORASAENG_STATE_LOST */
+};
+
+/* The words of the unit's answer. */
+enum deorasaeng_unit_word {
+    DEORASAENG_UNIT_STATE = 0,     /* the claim state */
+    DEORASAENG_UNIT_ADDRESS = 1,   /* its address, DEORASAENG_NO_ADDRESS for none */
+    DEORASAENG_UNIT_PREFERRED = 2, /* the preferred address, as power-on was given it */
+    DEORASAENG_UNIT_NAME = 3,      /* its NAME */
+    DEORASAENG_UNIT_PORTS = 4      /* its number of ports */
+};
+
+/* Claim states. In Claiming and Claimed the unit has an address, the preferred one. */
+enum deorasaeng_state {
+    DEORASAENG_STATE_UNSTARTED = 0,
+    DEORASAENG_STATE_CLAIMING = 1,
+    DEORASAENG_STATE_CLAIMED = 2,
+    DEORASAENG_STATE_LOST = 3
+};
+
+#define DEORASAENG_NO_ADDRESS 254
 
 /* Claim events. */
 enum deorasaeng_event {
@@ -123,11 +149,14 @@ uint32_t deorasaeng_take(uint64_t *record, size_t record_len, uint32_t port, uin
 uint32_t deorasaeng_message(uint64_t *record, size_t record_len, uint32_t port, uint32_t requester, const uint8_t *payload,
                             size_t payload_len, uint8_t *reply, size_t reply_len, uint64_t *answer, size_t answer_len);
 
-/* The unit claims its preferred address. The answer is the ports where its own frame was lost. Numbers 2, 18, 8. */
+/* The unit claims its preferred address: it is Claiming, or Lost where a lower NAME has that address. Numbers 2, 18, 8. */
 uint32_t deorasaeng_start(uint64_t *record, size_t record_len, uint64_t *answer, size_t answer_len);
 
 /* The 250 ms after the unit's claim are over: Claiming becomes Claimed. Numbers 2, 18. */
 uint32_t deorasaeng_quiet(uint64_t *record, size_t record_len);
+
+/* What the unit is: its claim state, address, preferred address, NAME and number of ports. Changes nothing. Number 2. */
+uint32_t deorasaeng_unit(const uint64_t *record, size_t record_len, uint64_t *answer, size_t answer_len);
 
 /* The take on one port's queue by itself, for a transmit routine that is to touch nothing else: `queue` is record + DEORASAENG_QUEUE_AT(port), or a copy of those
    words. Answer and bytes as deorasaeng_take's. Number 2. It copies the queue (1.1 KB of stack); deorasaeng_take works in place. */

@@ -1,6 +1,6 @@
 -- The pairs from a port: one after the other, asked or changed, and the law that only the named ones change. Assumes nothing.
 use mathlib.Core.Path.{_≡_, refl, sym, ap, _∙_}
-use mathlib.Core.Bool.{Bool, true, false, _||_}
+use mathlib.Core.Bool.{Bool, true, false, _||_, true≢false}
 use mathlib.Core.List.{List, [], _∷_, _++_}
 use Prim.Native.Nat.{ℕ, zero, suc, _+_, _-_, _≤_, _<_}
 use native.Mathlib.Decide.{ℕ-discrete}
@@ -15,10 +15,10 @@ use Rattle.filter.specs.Filter.{Filter, filterOf, clear}
 use Rattle.filter_commands.specs.declared.pairs.Change.{Change}
 use Rattle.unit.specs.Ports.{each}
 use Rattle.unit.specs.Model.{modelOf, recordLength, withRest, withPairs}
-use Rattle.list_commands.specs.Commands.{firstPair, names, anyBelow, changeNamed, changeAt, listRefusal, commanded}
+use Rattle.list_commands.specs.Commands.{firstPair, names, anyBelow, changeNamed, changeAt, Beside, listRefusal, commanded}
 use Rattle.filter_commands.specs.Pairs.{changeOf}
 use Rattle.record.specs.Steps.{PairChanging}
-use Rattle.list_commands.specs.Steps.{PairsChanging, Commanding}
+use Rattle.list_commands.specs.Steps.{OneChanging, PairsChanging, Commanding}
 use Rattle.unit.proofs.Ports.{each-step}
 use Rattle.filter.specs.Filter.{blockSize as filterLength}
 
@@ -102,42 +102,62 @@ module _ (from to : ℕ) (change : Filter → Filter) (pairs : List Filter) (lon
 
 -- one pair: changed where it is named, else as it was
 module _ {words : List ℕ} (from to k : ℕ) (change : Filter → Filter) where
-  pub one-named : {after : List ℕ} {i : ℕ} {b : Bool} → b ≡ names from to k → b ≡ true → i ≡ firstPair 4 from + k → PairChanging 4 words after i change → PairChanging 4 words after (firstPair 4 from + k) (changeAt change from to k)
-  one-named n t e P = record { state = rw (← n, t) (rw e at (P .state)) }
+  pub one-named : {after : List ℕ} {i : ℕ} {b : Bool} → b ≡ names from to k → b ≡ true → i ≡ firstPair 4 from + k → PairChanging 4 words after i change → OneChanging 4 words after from to k change
+  one-named n t e P = record {
+    pair = record { state = rw (← n, t) (rw e at (P .state)); others = rw e at (P .others) };
+    passed = λ f. absurd (true≢false (sym t ∙ n ∙ f));
+  }
 
-  pub one-passed : {b : Bool} → b ≡ names from to k → b ≡ false → PairChanging 4 words words (firstPair 4 from + k) (changeAt change from to k)
-  one-passed n f = record { state = rw (← n, f, set-getD (modelOf 4 words .rest .pairs) (firstPair 4 from + k) clear) }
+  pub one-passed : {b : Bool} → b ≡ names from to k → b ≡ false → OneChanging 4 words words from to k change
+  one-passed n f = record {
+    pair = record { state = rw (← n, f, set-getD (modelOf 4 words .rest .pairs) (firstPair 4 from + k) clear); others = λ _ _. refl };
+    passed = λ _. refl;
+  }
 
 -- where the loop stands after n pairs
 pub record Walking (start words : List ℕ) (from to : ℕ) (change : Filter → Filter) (n : ℕ) : Type 0 where
   pub whole : length words ≡ recordLength 4
   pub within : n ≤ 3
   pub state : modelOf 4 words ≡ withRest (modelOf 4 start) (withPairs (modelOf 4 start .rest) (changeNamed 4 n change from to (modelOf 4 start .rest .pairs)))
+  pub others : (m : ℕ) → Beside 4 from to m → getD words m 0 ≡ getD start m 0
 
 module _ {start : List ℕ} (from to : ℕ) (change : Filter → Filter) (low : 1 ≤ from) (high : from ≤ 4) where
   pub walk-start : length start ≡ recordLength 4 → Walking start start from to change 0
-  walk-start h = record { whole = h; within = omega arith; state = rw (change-none from to change (modelOf 4 start .rest .pairs) (pairs-twelve start) low high) }
+  walk-start h = record {
+    whole = h;
+    within = omega arith;
+    state = rw (change-none from to change (modelOf 4 start .rest .pairs) (pairs-twelve start) low high);
+    others = λ _ _. refl;
+  }
 
   module _ {words : List ℕ} {n : ℕ} (W : Walking start words from to change n) (l : n < 3) where
     next : set (changeNamed 4 n change from to (modelOf 4 start .rest .pairs)) (firstPair 4 from + n) (changeAt change from to n (getD (changeNamed 4 n change from to (modelOf 4 start .rest .pairs)) (firstPair 4 from + n) clear)) ≡ changeNamed 4 (n + 1) change from to (modelOf 4 start .rest .pairs)
     next = change-at from to change (modelOf 4 start .rest .pairs) (pairs-twelve start) low high n l
 
-    pub walk-more : {after : List ℕ} → length after ≡ recordLength 4 → PairChanging 4 words after (firstPair 4 from + n) (changeAt change from to n) → Walking start after from to change (n + 1)
+    still : {after : List ℕ} → OneChanging 4 words after from to n change → (m : ℕ) → Beside 4 from to m → getD after m 0 ≡ getD words m 0
+    still {after} P m h = go (names from to n) refl
+      where
+        go : (t : Bool) → names from to n ≡ t → getD after m 0 ≡ getD words m 0
+        go true e = P .pair .others m (h n l e)
+        go false e = ap (λ (w : List ℕ). getD w m 0) (P .passed e)
+
+    pub walk-more : {after : List ℕ} → length after ≡ recordLength 4 → OneChanging 4 words after from to n change → Walking start after from to change (n + 1)
     walk-more h P = record {
       whole = h;
       within = omega arith;
-      state = (rw (W .state) at (P .state)) ∙ ap (λ ps. withRest (modelOf 4 start) (withPairs (modelOf 4 start .rest) ps)) next;
+      others = λ m b. still P m b ∙ W .others m b;
+      state = (rw (W .state) at (P .pair .state)) ∙ ap (λ ps. withRest (modelOf 4 start) (withPairs (modelOf 4 start .rest) ps)) next;
     }
 
 pub walk-done : {start words : List ℕ} (from to : ℕ) (change : Change) (xs : List ℕ) {n : ℕ} → n ≡ 3 → Walking start words from to (changeOf change xs) n → PairsChanging 4 start words from to change xs
-walk-done from to change xs e W = record { state = rw e at (W .state) }
+walk-done from to change xs e W = record { state = rw e at (W .state); others = W .others }
 
 -- ---- a command: refused, or done
 module _ {start : List ℕ} (from to : ℕ) (change : Change) (xs : List ℕ) {n : ℕ} (e : n ≡ listRefusal 4 change xs from to (modelOf 4 start .rest .pairs)) where
   pub command-refused : (n ≡ 0 → ⊥) → Commanding 4 start start from to change xs n
   unfolding commanded
-  command-refused h = record { answer = e; state = rw (← e, ne-eqb n 0 h); refused = λ _. refl }
+  command-refused h = record { answer = e; state = rw (← e, ne-eqb n 0 h); refused = λ _. refl; others = λ _ _. refl }
 
   pub command-done : {after : List ℕ} → n ≡ 0 → PairsChanging 4 start after from to change xs → Commanding 4 start after from to change xs 0
   unfolding commanded
-  command-done z P = record { answer = sym z ∙ e; state = rw (← e, eq-eqb n 0 z) (P .state); refused = λ h. absurd (h refl) }
+  command-done z P = record { answer = sym z ∙ e; state = rw (← e, eq-eqb n 0 z) (P .state); refused = λ h. absurd (h refl); others = P .others }

@@ -1,14 +1,17 @@
 -- Document 01, "Network messages": which pairs a command names, what it is refused with by the lists, and what it does to them.
 -- Assumes nothing.
-use Prim.Native.Nat.{ℕ, zero, suc, _+_, _-_, _*_}
-use mathlib.Core.Bool.{Bool, false, _&&_, _||_, cond}
+use Prim.Native.Nat.{ℕ, zero, suc, _+_, _-_, _*_, _≤_, _<_}
+use mathlib.Core.Bool.{Bool, true, false, _&&_, _||_, cond}
+use mathlib.Core.Logic.{_⊎_}
+use mathlib.Core.Path.{_≡_}
 use mathlib.Core.List.{List, [], _∷_, _++_}
 use lib.ListN.{take, drop, getD}
 use lib.Dec.{ltb, eqb}
-use Rattle.filter.specs.Filter.{Filter, clear}
+use Rattle.filter.specs.Filter.{Filter, clear, blockSize as filterLength}
 use Rattle.checks.specs.Checks.{Check, check, first}
 use Rattle.network_message.specs.Decoding.{allPorts}
 use Rattle.unit.specs.Ports.{each}
+use Rattle.unit.specs.Model.{pairsFrom}
 use Rattle.filter_commands.specs.declared.pairs.Question.the-variants.{IsCleared, IsNotCleared, WouldPass, Lacks}
 use Rattle.filter_commands.specs.declared.pairs.Change.{Change}
 use Rattle.filter_commands.specs.declared.pairs.Change.the-variants.{Adds, Deletes, Clears, Creates}
@@ -37,6 +40,11 @@ holdsAt ports test from to pairs k = names from to k && test (getD pairs (firstP
 -- the kth pair from that port, changed if it is named
 abbrev pub changeAt : (Filter → Filter) → ℕ → ℕ → ℕ → Filter → Filter
 changeAt change from to k f = cond (names from to k) (change f) f
+
+-- word n of the record lies outside the blocks of the pairs that are named
+abbrev pub Beside : ℕ → ℕ → ℕ → ℕ → Type 0
+Beside ports from to n = (k : ℕ) → k < ports - 1 → names from to k ≡ true
+    → (n < pairsFrom + filterLength * (firstPair ports from + k)) ⊎ (pairsFrom + filterLength * (firstPair ports from + k) + filterLength ≤ n)
 
 -- whether a test holds of one of the first n pairs from that port that is named
 unfoldable pub anyNamed : ℕ → ℕ → (Filter → Bool) → ℕ → ℕ → List Filter → Bool

@@ -2,14 +2,13 @@
 use filter_commands::pairs::Change;
 use filter_commands::pairs::Question;
 ghost use mathlib.Core.Path.{_≡_};
-ghost use Prim.Native.Nat.{_+_, _≤_, _<_};
+ghost use Prim.Native.Nat.{_≤_, _<_};
 ghost use lib.ListN.{length};
 ghost use Rattle.entries.specs.Entries.{entriesOf};
 ghost use Rattle.unit.specs.Model.{modelOf, recordLength};
-ghost use Rattle.list_commands.specs.Commands.{names, firstPair, holdsAt, anyNamed, changeAt, listRefusal};
+ghost use Rattle.list_commands.specs.Commands.{names, holdsAt, anyNamed, listRefusal};
 ghost use Rattle.filter_commands.specs.Pairs.{holdsOf, changeOf};
-ghost use Rattle.record.specs.Steps.{PairChanging};
-ghost use Rattle.list_commands.specs.Steps.{PairsChanging, Commanding};
+ghost use Rattle.list_commands.specs.Steps.{OneChanging, PairsChanging, Commanding};
 
 // Whether the kth pair from a port is named by a To, which may be 15.
 fn is_named(from: u32, to: u32, k: usize) -> bool
@@ -55,7 +54,7 @@ fn any(words: &[u64], from: u32, to: u32, question: Question, entries: &[u8]) ->
 // Changes the kth pair from a port, if it is named.
 fn change_one(words: &mut [u64], from: u32, to: u32, k: usize, change: Change, entries: &[u8])
     requires { ⌜ (length (now words) ≡ recordLength 4) × (1 ≤ from) × (from ≤ 4) × (k < 3) ⌝ }
-    ensures { λ _. ⌜ PairChanging 4 (now (words .entry)) (now (words .exit)) (firstPair 4 from + k) (changeAt (changeOf change (entriesOf (now (entries .entry)))) from to k) ⌝ }
+    ensures { λ _. ⌜ OneChanging 4 (now (words .entry)) (now (words .exit)) from to k (changeOf change (entriesOf (now (entries .entry)))) ⌝ }
 {
     if is_named(from, to, k) {
         let i = 3 * (from as usize - 1) + k;

@@ -5,9 +5,10 @@ use Rattle.bridge.specs.declared.FrameAnswer.{FrameAnswer}
 use Rattle.bridge.specs.declared.TakeAnswer.{TakeAnswer}
 use Rattle.message_answers.specs.declared.MessageAnswer.{MessageAnswer}
 use Rattle.bridge.specs.declared.StartAnswer.{StartAnswer}
+use Rattle.bridge.specs.declared.UnitAnswer.{UnitAnswer}
 use Rattle.unit.specs.PowerOn.{PoweringOn}
-use Rattle.bridge.specs.Calls.{Framing, TakingOut, Messaging, Starting, Quieting}
-use Rattle.made.specs.Made.{Powered, powered, Arrived, arrived, Took, took, Handed, handed, Started, started, Quieted, quieted}
+use Rattle.bridge.specs.Calls.{Framing, TakingOut, Messaging, Starting, Quieting, Reading}
+use Rattle.made.specs.Made.{Powered, powered, Arrived, arrived, Took, took, Handed, handed, Started, started, Quieted, quieted, Told, told}
 
 pub powering : {words after : List ℕ} {name preferred r : ℕ} → Powered words name preferred r after → PoweringOn 4 words after name preferred r
 powering (powered κs w w′ name preferred r c) = c tt
@@ -26,3 +27,6 @@ starting (started κs w w′ r c) = c tt
 
 pub quieting : {words after : List ℕ} {r : ℕ} → Quieted words r after → Quieting 4 words after r
 quieting (quieted κs w w′ r c) = c tt
+
+pub reading : {words : List ℕ} {r : UnitAnswer} → Told words r → Reading 4 words r
+reading (told κs w w′ r c) = c tt

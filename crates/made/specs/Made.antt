@@ -10,12 +10,14 @@ use Rattle.bridge.specs.declared.FrameAnswer.{FrameAnswer}
 use Rattle.bridge.specs.declared.TakeAnswer.{TakeAnswer}
 use Rattle.message_answers.specs.declared.MessageAnswer.{MessageAnswer}
 use Rattle.bridge.specs.declared.StartAnswer.{StartAnswer}
+use Rattle.bridge.specs.declared.UnitAnswer.{UnitAnswer}
 use Rattle.unit.proofs.Unit.power_on.Reads as power-on
 use Rattle.bridge.proofs.frame.Reads as frame
 use Rattle.bridge.proofs.take.Reads as take
 use Rattle.bridge.proofs.message.Reads as message
 use Rattle.bridge.proofs.start.Reads as start
 use Rattle.bridge.proofs.quiet.Reads as quiet
+use Rattle.bridge.proofs.unit.Reads as unit
 
 -- power-on, with a NAME and a preferred address
 pub data Powered : (words : List ℕ) (name preferred r : ℕ) (after : List ℕ) → Type 0 where
@@ -53,3 +55,9 @@ pub data Quieted : (words : List ℕ) (r : ℕ) (after : List ℕ) → Type 0 wh
   quieted : (κs : Lfts 1) (w w′ : RefT (List ℕ)) (r : ℕ)
       → (quiet.Pre κs (w, tt) → quiet.Post κs (w, tt) r (w′, tt))
       → Quieted (w .now) r (w′ .now)
+
+-- the unit was read: the record is lent to be read alone, so it is left as it was
+pub data Told : (words : List ℕ) (r : UnitAnswer) → Type 0 where
+  told : (κs : Lfts 1) (w w′ : RefT (List ℕ)) (r : UnitAnswer)
+      → (unit.Pre κs (w, tt) → unit.Post κs (w, tt) r (w′, tt))
+      → Told (w .now) r

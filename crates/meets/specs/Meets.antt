@@ -17,8 +17,9 @@ use Rattle.bridge.specs.declared.FrameAnswer.{FrameAnswer}
 use Rattle.bridge.specs.declared.TakeAnswer.{TakeAnswer}
 use Rattle.message_answers.specs.declared.MessageAnswer.{MessageAnswer}
 use Rattle.bridge.specs.declared.StartAnswer.{StartAnswer}
+use Rattle.bridge.specs.declared.UnitAnswer.{UnitAnswer}
 use Rattle.unit.specs.PowerOn.{PoweringOn}
-use Rattle.bridge.specs.Calls.{Framing, TakingOut, Messaging, Starting, Quieting}
+use Rattle.bridge.specs.Calls.{Framing, TakingOut, Messaging, Starting, Quieting, Reading}
 use Rattle.unit.proofs.Unit.power_on.Statement as power-on
 use Rattle.unit.proofs.Unit.power_on.Met as power-on-met
 use Rattle.unit.proofs.Unit.power_on.Reads as power-on-reads
@@ -43,6 +44,10 @@ use Rattle.bridge.proofs.quiet.Statement as quiet
 use Rattle.bridge.proofs.quiet.Met as quiet-met
 use Rattle.bridge.proofs.quiet.Reads as quiet-reads
 use Rattle.bridge.proofs.quiet as quiet-contract
+use Rattle.bridge.proofs.unit.Statement as unit
+use Rattle.bridge.proofs.unit.Met as unit-met
+use Rattle.bridge.proofs.unit.Reads as unit-reads
+use Rattle.bridge.proofs.unit as unit-contract
 
 -- ---- the code meets its contracts
 pub record Meets (M : Type 1) : Type 2 where
@@ -52,6 +57,7 @@ pub record Meets (M : Type 1) : Type 2 where
   pub messages : message.statement M
   pub starts : start.statement M
   pub quiets : quiet.statement M
+  pub tells : unit.statement M
 
 pub meets : (M : Type 1) → Meets M
 meets M = record {
@@ -61,6 +67,7 @@ meets M = record {
   messages = message-met.met;
   starts = start-met.met;
   quiets = quiet-met.met;
+  tells = unit-met.met;
 }
 
 -- ---- what is cited is the contract
@@ -88,6 +95,9 @@ module _ (w u : RefT (List ℕ)) where
 
   pub quiet-is : (κs : Lfts 1) (r : ℕ) → _≡_ {A = Type 0} (quiet-reads.Post κs (w, tt) r (u, tt)) (Quieting 4 (w .now) (u .now) r)
   quiet-is κs r = refl
+
+  pub unit-is : (κs : Lfts 1) (r : UnitAnswer) → _≡_ {A = Type 0} (unit-reads.Post κs (w, tt) r (u, tt)) (Reading 4 (w .now) r)
+  unit-is κs r = refl
 
 -- and so is the clause inside each theorem of `Meets`
 module _ {M : Type 1} (𝓤 : URA M) (H : Heap 𝓤) (A : Atoms 𝓤) (mem : Memory → SProp 𝓤) (run : Routine → Fun 𝓤) (w u : RefT (List ℕ)) where
@@ -117,3 +127,7 @@ module _ {M : Type 1} (𝓤 : URA M) (H : Heap 𝓤) (A : Atoms 𝓤) (mem : Mem
   pub quiet-clause : (κs : Lfts 1) (r : ℕ)
       → quiet-contract.ensures-1 𝓤 H κs A mem run w (record { entry = w; exit = u }) r ≡ N.connectives 𝓤 .⌜_⌝ (Quieting 4 (w .now) (u .now) r)
   quiet-clause κs r = refl
+
+  pub unit-clause : (κs : Lfts 1) (r : UnitAnswer)
+      → unit-contract.ensures-1 𝓤 H κs A mem run w (record { entry = w; exit = u }) r ≡ N.connectives 𝓤 .⌜_⌝ (Reading 4 (w .now) r)
+  unit-clause κs r = refl

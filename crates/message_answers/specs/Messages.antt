@@ -12,7 +12,7 @@ use Rattle.replies.specs.Replies.{controlOf, acknowledgment, listReply, address
 use Rattle.unit.specs.Model.{Rest, Seen, pairAt}
 use Rattle.filter_commands.specs.declared.pairs.Change.{Change}
 use Rattle.filter_commands.specs.declared.pairs.Change.the-variants.{Adds, Deletes, Clears, Creates}
-use Rattle.list_commands.specs.Commands.{listRefusal, commanded}
+use Rattle.list_commands.specs.Commands.{Beside, listRefusal, commanded}
 use Rattle.message_answers.specs.declared.MessageAnswer.{MessageAnswer}
 
 -- what a message does: the number that it is refused with, the pairs then, the PGN and the bytes that are written. The bytes alone may show what is only
@@ -50,6 +50,16 @@ performedBy ports rest requester payload (Delete from to start end) = changedBy 
 performedBy ports rest requester payload (Clear from to) = changedBy ports rest requester payload Clears from to 2 2
 performedBy ports rest requester payload (Create from to passing start end) = changedBy ports rest requester payload (Creates passing) from to start end
 performedBy ports rest requester payload (AddressList port) = replied (addressReply port (rest .own .address) (rest .table)) (rest .pairs)
+
+-- word n of the record lies outside the blocks of the pairs that a command changes
+abbrev pub Untouched : ℕ → Command → ℕ → Type 0
+Untouched ports (Refused number) = λ n. Unit {0}
+Untouched ports (Request from to) = λ n. Unit {0}
+Untouched ports (Add from to start end) = Beside ports from to
+Untouched ports (Delete from to start end) = Beside ports from to
+Untouched ports (Clear from to) = Beside ports from to
+Untouched ports (Create from to passing start end) = Beside ports from to
+Untouched ports (AddressList port) = λ n. Unit {0}
 
 -- "The answer gives the PGN and the length of what was written, 0 and 0 for nothing; buffer bytes past that length are untouched."
 abbrev pub messageAnswer : Replied → Seen → MessageAnswer

@@ -3,7 +3,7 @@
 use Prim.Native.Nat.{ℕ}
 use mathlib.Core.Path.{_≡_}
 use mathlib.Core.List.{List, _++_}
-use lib.ListN.{length, drop}
+use lib.ListN.{length, getD, drop}
 use Rattle.replies.specs.Replies.{controlOf, acknowledgment}
 use Rattle.unit.specs.Model.{withRest, withPairs, modelOf}
 use Rattle.message_answers.specs.declared.MessageAnswer.{MessageAnswer}
@@ -19,9 +19,10 @@ pub record Reporting (bytes before after : List ℕ) (r : MessageAnswer) : Type 
   pub answer : r ≡ record { refusal = 0; pgn = 60672; length = length bytes }
   pub written : after ≡ bytes ++ drop (length bytes) before
 
--- what a message does and is answered
-pub record Replying (ports : ℕ) (before after lent back : List ℕ) (reply : Replied) (r : MessageAnswer) : Type 0 where
+-- what a message does and is answered, and the words of the record that are as they were
+pub record Replying (ports : ℕ) (before after lent back : List ℕ) (reply : Replied) (Still : ℕ → Type 0) (r : MessageAnswer) : Type 0 where
   pub answer : r ≡ messageAnswer reply (modelOf ports before .seen)
   pub written : back ≡ reply .written (modelOf ports before .seen) ++ drop (length (reply .written (modelOf ports before .seen))) lent
   pub state : modelOf ports after ≡ withRest (modelOf ports before) (withPairs (modelOf ports before .rest) (reply .pairs))
   pub refused : (reply .number ≡ 0 → ⊥) → after ≡ before
+  pub others : (n : ℕ) → Still n → getD after n 0 ≡ getD before n 0

@@ -9,7 +9,8 @@ ghost use Rattle.network_message.specs.Commands.{Good};
 ghost use Rattle.network_message.specs.Decoding.{longest};
 ghost use Rattle.replies.specs.Replies.{listReply, addressReply};
 ghost use Rattle.unit.specs.Model.{modelOf, recordLength, pairAt};
-ghost use Rattle.message_answers.specs.Messages.{performedBy, changedBy};
+ghost use Rattle.list_commands.specs.Commands.{Beside};
+ghost use Rattle.message_answers.specs.Messages.{performedBy, changedBy, Untouched};
 ghost use Rattle.message_answers.specs.Steps.{Telling, Replying, Reporting};
 
 // What was written to the reply buffer: the PGN and the length, 0 and 0 for nothing; and the number that refused the message, or 0.
@@ -52,7 +53,7 @@ fn change(
     reply: &mut [u8],
 ) -> MessageAnswer
     requires { ⌜ (length (now words) ≡ recordLength 4) × (longest ≤ length (now reply)) × (requester < 254) × (1 ≤ from) × (from ≤ 4) × (start ≤ end) × (end ≤ length (now payload)) × (8 ≤ length (now payload)) ⌝ }
-    ensures { λ r. ⌜ Replying 4 (now (words .entry)) (now (words .exit)) (now (reply .entry)) (now (reply .exit)) (changedBy 4 (modelOf 4 (now (words .entry)) .rest) requester (now (payload .entry)) what from to start end) r ⌝ }
+    ensures { λ r. ⌜ Replying 4 (now (words .entry)) (now (words .exit)) (now (reply .entry)) (now (reply .exit)) (changedBy 4 (modelOf 4 (now (words .entry)) .rest) requester (now (payload .entry)) what from to start end) (Beside 4 from to) r ⌝ }
 {
     let number = list_commands::command(words, from, to, what, &payload[start..end]);
     tell(reply, number, payload[0], requester)
@@ -94,7 +95,7 @@ pub fn perform(
     reply: &mut [u8],
 ) -> MessageAnswer
     requires { ⌜ (length (now words) ≡ recordLength 4) × (longest ≤ length (now reply)) × (requester < 254) × (8 ≤ length (now payload)) × Good 4 (now payload) command ⌝ }
-    ensures { λ r. ⌜ Replying 4 (now (words .entry)) (now (words .exit)) (now (reply .entry)) (now (reply .exit)) (performedBy 4 (modelOf 4 (now (words .entry)) .rest) requester (now (payload .entry)) command) r ⌝ }
+    ensures { λ r. ⌜ Replying 4 (now (words .entry)) (now (words .exit)) (now (reply .entry)) (now (reply .exit)) (performedBy 4 (modelOf 4 (now (words .entry)) .rest) requester (now (payload .entry)) command) (Untouched 4 command) r ⌝ }
 {
     match command {
         Command::Refused(number) => tell(reply, number, payload[0], requester),

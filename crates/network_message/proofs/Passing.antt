@@ -10,7 +10,7 @@ use Rattle.entries.specs.Entries.{listed}
 use Rattle.network_message.specs.declared.Command.{Command}
 use Rattle.network_message.specs.declared.Command.the-variants.{Refused, Request, Add, Delete, Clear, Create, AddressList}
 use Rattle.checks.specs.Checks.{acknowledges}
-use Rattle.network_message.specs.Decoding.{isKnown, namesPorts, mayName, entriesEnd, hasGoodBody, payloadChecks, refusalOf, commandOf, answered}
+use Rattle.network_message.specs.Decoding.{isKnown, namesPorts, mayName, entriesEnd, hasGoodBody, bodyRefusal, payloadChecks, refusalOf, commandOf, answered}
 use Rattle.checks.proofs.FirstNumber.{first-in}
 
 -- ---- what a payload that is not refused has passed
@@ -23,6 +23,24 @@ pub record Passed (ports port function from to : ℕ) (payload : List ℕ) : Typ
 next : (b : Bool) (n : ℕ) {rest : ℕ} → 0 < n → cond (not b) n rest ≡ 0 → (b ≡ true) × (rest ≡ 0)
 next true n h e = (refl, e)
 next false n h e = absurd (omega arith)
+
+-- ---- the number of the body, by its test
+module _ (function : ℕ) (payload : List ℕ) {n : ℕ} (e : n ≡ bodyRefusal function payload) where
+  pub body-wrong : (n ≡ 0 → ⊥) → (hasGoodBody function payload ≡ false) × (n ≡ 12)
+  unfolding bodyRefusal
+  body-wrong h = go (hasGoodBody function payload) refl e
+    where
+      go : (b : Bool) → hasGoodBody function payload ≡ b → n ≡ cond b 0 12 → (hasGoodBody function payload ≡ false) × (n ≡ 12)
+      go true t e = absurd (h e)
+      go false t e = (t, e)
+
+  pub body-right : n ≡ 0 → hasGoodBody function payload ≡ true
+  unfolding bodyRefusal
+  body-right z = go (hasGoodBody function payload) refl e
+    where
+      go : (b : Bool) → hasGoodBody function payload ≡ b → n ≡ cond b 0 12 → hasGoodBody function payload ≡ true
+      go true t e = t
+      go false t e = absurd (omega arith)
 
 -- ---- a choice, by its test
 choose : (P : Command → Type 0) (b : Bool) {x y : Command} → (b ≡ true → P x) → (b ≡ false → P y) → P (cond b x y)

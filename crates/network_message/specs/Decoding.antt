@@ -80,6 +80,10 @@ unfoldable pub hasGoodBody : ℕ → List ℕ → Bool
 hasGoodBody function payload =
     cond (listed function (2 ∷ 3 ∷ 6 ∷ [])) (holdsEntries (entriesStart function) payload) (eqb (length payload) 8)
 
+-- the number of the body alone, or 0
+unfoldable pub bodyRefusal : ℕ → List ℕ → ℕ
+bodyRefusal function payload = cond (hasGoodBody function payload) 0 12
+
 -- ---- 13: Create mode, in byte 3, not 0 or 1
 unfoldable pub hasWrongMode : ℕ → List ℕ → Bool
 hasWrongMode function payload = eqb function 6 && ltb 1 (getD payload 2 0)

@@ -8,7 +8,8 @@ use crate::REQUEST;
 ghost use mathlib.Core.Path.{_≡_};
 ghost use Prim.Native.Nat.{_≤_};
 ghost use lib.ListN.{length};
-ghost use Rattle.network_message.specs.Decoding.{isKnown, mayBeAll, isPair, namesPorts, mayName, isFilling, entriesEnd, holdsEntries, hasGoodBody, hasWrongMode, refusalOf};
+ghost use Rattle.entries.specs.Entries.{entriesRefusal};
+ghost use Rattle.network_message.specs.Decoding.{isKnown, mayBeAll, isPair, namesPorts, mayName, isFilling, entriesEnd, between, bodyRefusal, hasWrongMode, refusalOf};
 
 // To 15: all pairs from a port.
 const ALL_PORTS: u32 = 15;
@@ -107,25 +108,30 @@ pub fn entries_end(start: usize, payload: &[u8]) -> usize
     n
 }
 
-// Whether the payload holds entries from `start` on.
-fn holds_entries(start: usize, payload: &[u8]) -> bool
+// The number that refuses the entries from `start` on, or 0.
+fn entries_refusal(start: usize, payload: &[u8]) -> u32
     requires { ⌜ (start ≤ 3) × (8 ≤ length (now payload)) ⌝ }
-    ensures { λ r. ⌜ r ≡ holdsEntries start (now (payload .entry)) ⌝ }
+    ensures { λ r. ⌜ r ≡ entriesRefusal (between start (entriesEnd start (now (payload .entry))) (now (payload .entry))) ⌝ }
 {
     let end = entries_end(start, payload);
-    entries::well_formed(&payload[start..end])
+    entries::refusal(&payload[start..end])
 }
 
-// 12: whether length, entries and filling are right.
-fn has_good_body(function: u8, payload: &[u8]) -> bool
+// 12 where length, entries or filling are wrong, or 0.
+fn body_refusal(function: u8, payload: &[u8]) -> u32
     requires { ⌜ 8 ≤ length (now payload) ⌝ }
-    ensures { λ r. ⌜ r ≡ hasGoodBody function (now (payload .entry)) ⌝ }
+    ensures { λ r. ⌜ r ≡ bodyRefusal function (now (payload .entry)) ⌝ }
 {
     match function {
-        ADD => holds_entries(2, payload),
-        DELETE => holds_entries(2, payload),
-        CREATE => holds_entries(3, payload),
-        _ => payload.len() == 8,
+        ADD => entries_refusal(2, payload),
+        DELETE => entries_refusal(2, payload),
+        CREATE => entries_refusal(3, payload),
+        _ => {
+            if payload.len() == 8 {
+                return 0;
+            }
+            12
+        }
     }
 }
 
@@ -154,8 +160,9 @@ pub fn refusal(port: u32, function: u8, from: u32, to: u32, payload: &[u8]) -> u
     if !may_name(port, function, from, to) {
         return 11;
     }
-    if !has_good_body(function, payload) {
-        return 12;
+    let body = body_refusal(function, payload);
+    if body != 0 {
+        return body;
     }
     if has_wrong_mode(function, payload) {
         return 13;

@@ -1,11 +1,12 @@
 -- The record's regions: what a part that is read means in the model, and what a part that was lent and came back does to it. Assumes nothing.
-use mathlib.Core.Path.{_≡_, _∙_}
-use mathlib.Core.Logic.{inl, inr}
+use mathlib.Core.Path.{_≡_, sym, ap, _∙_}
+use mathlib.Core.Logic.{_⊎_, inl, inr, ⊎-elim}
 use mathlib.Core.Bool.{Bool}
 use mathlib.Core.List.{List, []}
-use Prim.Native.Nat.{ℕ, _+_, _*_, _<_}
+use Prim.Native.Nat.{ℕ, _+_, _*_, _≤_, _<_}
 use native.Mathlib.Omega.{arith}
 use lib.ListN.{length, getD, set, take, drop}
+use lib.Seq.{getD-take, getD-drop}
 use Rattle.storage.specs.Blocks.{blockAt}
 use Rattle.storage.proofs.Parts.{back, part-in, part-before, part-after, part-apart}
 use Rattle.storage.proofs.Blocks.{length-blocks, blocks-at, blocks-set, blocks-apart}
@@ -28,6 +29,16 @@ use Rattle.queue.specs.Queue.{blockLength as queueLength}
 pub rows-four : (words : List ℕ) → length (modelOf 4 words .rows) ≡ 4
 unfolding modelOf
 rows-four words = length-blocks rowOf queueLength (rowsFrom 4) 4 words
+
+-- a word outside a part that was lent is as it was
+word-apart : (a k : ℕ) (words ys : List ℕ) → length ys ≡ k → a + k ≤ length words → (n : ℕ) → (n < a) ⊎ (a + k ≤ n) → getD (back a k words ys) n 0 ≡ getD words n 0
+word-apart a k words ys long fits n h =
+    sym (one (back a k words ys))
+    ∙ ap (λ l. getD l 0 0) (part-apart a k words ys long fits n 1 (⊎-elim (λ l. inl (omega arith)) (λ l. inr l) h))
+    ∙ one words
+  where
+    one : (xs : List ℕ) → getD (take 1 (drop n xs)) 0 0 ≡ getD xs n 0
+    one xs = getD-take 1 (drop n xs) 0 0 (omega arith) ∙ getD-drop n xs 0 0 ∙ ap (λ i. getD xs i 0) (omega arith)
 
 -- ---- the queue of port q
 module _ (words : List ℕ) (q : ℕ) (full : length words ≡ recordLength 4) (port : q < 4) where
@@ -82,7 +93,10 @@ module _ (words : List ℕ) (i : ℕ) (full : length words ≡ recordLength 4) (
   pair-of = blocks-at filterOf filterLength 4 12 words i clear pair
 
   pub pair-changed : (ys : List ℕ) (change : Filter → Filter) → length ys ≡ filterLength → BlockChanging (take filterLength (drop (4 + filterLength * i) words)) ys change → PairChanging 4 words (back (4 + filterLength * i) filterLength words ys) i change
-  pair-changed ys change long C = record { state = pair-back ∙ rw (C .state, pair-of) }
+  pair-changed ys change long C = record {
+    state = pair-back ∙ rw (C .state, pair-of);
+    others = word-apart (4 + filterLength * i) filterLength words ys long (omega arith);
+  }
     where
       pair-back : modelOf 4 (back (4 + filterLength * i) filterLength words ys) ≡ withRest (modelOf 4 words) (withPairs (modelOf 4 words .rest) (set (modelOf 4 words .rest .pairs) i (filterOf ys)))
       pair-back = pair-lent words ys i full pair long

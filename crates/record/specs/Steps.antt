@@ -1,20 +1,21 @@
 -- The contracts of the accessors: what a lent block, changed or read, is in the model of the record.
 -- Assumes nothing.
-use Prim.Native.Nat.{ℕ, _+_, _*_, _≤_}
+use Prim.Native.Nat.{ℕ, _+_, _*_, _≤_, _<_}
 use mathlib.Core.Bool.{Bool}
+use mathlib.Core.Logic.{_⊎_}
 use mathlib.Core.Path.{_≡_}
 use mathlib.Core.List.{List}
 use lib.ListN.{take, drop, getD, set}
 use Rattle.delivery.specs.Row.{room, join, pull, given, kept}
 use Rattle.filter.specs.declared.Asked.{Asked}
-use Rattle.filter.specs.Filter.{Filter, clear, asked}
+use Rattle.filter.specs.Filter.{Filter, clear, asked, blockSize as filterLength}
 use Rattle.pgn_list.specs.PgnList.{listSize}
 use Rattle.queue.specs.declared.Frame.{Frame}
 use Rattle.queue.specs.declared.Taken.{Taken}
 use Rattle.queue.specs.Queue.{size, priority, takenOf, blockLength as queueLength}
 use Rattle.addresses.specs.declared.Place.{Place}
 use Rattle.address_claims.specs.declared.Event.{Event}
-use Rattle.unit.specs.Model.{rowAt, pairAt, withRest, withPairs, withTable, withRow, rowsFrom, modelOf}
+use Rattle.unit.specs.Model.{rowAt, pairAt, withRest, withPairs, withTable, withRow, pairsFrom, rowsFrom, modelOf}
 
 -- the address table was changed, and what came of a claim there
 pub record TableChanging (ports : ℕ) (before after : List ℕ) (change : List Place → List Place) : Type 0 where
@@ -29,10 +30,11 @@ pub record PairAsking (ports : ℕ) (words : List ℕ) (p q pgn : ℕ) (r : Aske
   pub answer : r ≡ asked (getD (modelOf ports words .rest .pairs) (pairAt ports p q) clear) pgn
   pub small : r .compared ≤ listSize
 
--- a pair was changed in the record
+-- a pair was changed in the record, and no word outside its block
 pub record PairChanging (ports : ℕ) (before after : List ℕ) (i : ℕ) (change : Filter → Filter) : Type 0 where
   pub state : modelOf ports after
       ≡ withRest (modelOf ports before) (withPairs (modelOf ports before .rest) (set (modelOf ports before .rest .pairs) i (change (getD (modelOf ports before .rest .pairs) i clear))))
+  pub others : (n : ℕ) → (n < pairsFrom + filterLength * i) ⊎ (pairsFrom + filterLength * i + filterLength ≤ n) → getD after n 0 ≡ getD before n 0
 
 -- a frame was sent to port q
 pub record RowJoining (ports : ℕ) (before after : List ℕ) (q : ℕ) (f : Frame) (r : Bool) : Type 0 where

@@ -34,6 +34,10 @@ startRefusal ports lent own = first (check (notLong ports lent) 2 ∷ startCheck
 unfoldable pub quietRefusal : ℕ → ℕ → Unit → ℕ
 quietRefusal ports lent own = first (check (notLong ports lent) 2 ∷ check (not (isClaiming (own .claim))) 18 ∷ [])
 
+-- the call that reads the unit: 2 alone
+unfoldable pub unitRefusal : ℕ → ℕ → ℕ
+unitRefusal ports lent = first (check (notLong ports lent) 2 ∷ [])
+
 -- ---- 1, 2, 6, 7, 8 of a message: before the payload is read
 -- 7: payload not 8 to 1,785 bytes; 8: requester not 0 to 253
 abbrev pub lateChecks : ℕ → ℕ → List Check

@@ -7,10 +7,13 @@ use address_claims::Event;
 use bridge::FrameAnswer;
 use bridge::MessageAnswer;
 use bridge::TakeAnswer;
+use bridge::UnitAnswer;
 use queue::Frame;
 use queue::Taken;
 use script::Call;
 use script::Wrong;
+use unit::Claim;
+use unit::NO_ADDRESS;
 use unit::Unit;
 ghost use Prim.Native.Nat.{_≤_};
 ghost use lib.ListN.{length};
@@ -46,7 +49,20 @@ fn power_on(
     print::text(out, 0, b"P")
 }
 
-// Start: the ports where the unit's own frame was lost.
+// The word of a claim state.
+fn claim(out: &mut [u8], at: usize, c: Claim) -> usize
+    requires { ⌜ at ≤ length (now out) ⌝ }
+    ensures { λ r. ⌜ r ≤ length (now (out .entry)) ⌝ }
+{
+    match c {
+        Claim::Unstarted => print::text(out, at, b" Unstarted"),
+        Claim::Claiming => print::text(out, at, b" Claiming"),
+        Claim::Claimed => print::text(out, at, b" Claimed"),
+        Claim::Lost => print::text(out, at, b" Lost"),
+    }
+}
+
+// Start: what became of the unit, and the ports where its own frame was lost.
 fn start(words: &mut [u64], counts: &mut [u64], out: &mut [u8]) -> usize
     ensures { λ r. ⌜ r ≤ length (now (out .entry)) ⌝ }
 {
@@ -57,6 +73,8 @@ fn start(words: &mut [u64], counts: &mut [u64], out: &mut [u8]) -> usize
         return print::count(out, 0, b"S R ", a.refusal as u64);
     }
     let at = print::text(out, 0, b"S");
+    let became = a.claim;
+    let at = claim(out, at, became);
     print::ports(out, at, a.unsent)
 }
 
@@ -70,6 +88,47 @@ fn quiet(words: &mut [u64], counts: &mut [u64], out: &mut [u8]) -> usize
         return print::count(out, 0, b"Q R ", number as u64);
     }
     print::text(out, 0, b"Q")
+}
+
+// The unit's address, - for none.
+fn address(out: &mut [u8], at: usize, own: u8) -> usize
+    requires { ⌜ at ≤ length (now out) ⌝ }
+    ensures { λ r. ⌜ r ≤ length (now (out .entry)) ⌝ }
+{
+    if own == NO_ADDRESS {
+        return print::text(out, at, b" -");
+    }
+    print::count(out, at, b" ", own as u64)
+}
+
+// The unit: claim state, address, preferred address, NAME, number of ports.
+fn told(out: &mut [u8], own: Unit, ports: u32) -> usize
+    ensures { λ r. ⌜ r ≤ length (now (out .entry)) ⌝ }
+{
+    let at = print::text(out, 0, b"U");
+    let is = own.claim;
+    let at = claim(out, at, is);
+    let at = address(out, at, own.address);
+    let at = print::count(out, at, b" ", own.preferred as u64);
+    let at = print::byte(out, at, b' ');
+    let at = print::hex(out, at, own.name, 16);
+    print::count(out, at, b" ", ports as u64)
+}
+
+// The unit is read.
+fn read_unit(words: &[u64], counts: &mut [u64], out: &mut [u8]) -> usize
+    ensures { λ r. ⌜ r ≤ length (now (out .entry)) ⌝ }
+{
+    match bridge::unit(words) {
+        UnitAnswer::Refused(number) => {
+            tally::call(counts, tally::UNIT, number);
+            print::count(out, 0, b"U R ", number as u64)
+        }
+        UnitAnswer::Told { unit, ports } => {
+            tally::call(counts, tally::UNIT, 0);
+            told(out, unit, ports)
+        }
+    }
 }
 
 // A frame's answer, counted.
@@ -257,6 +316,7 @@ fn make(words: &mut [u64], counts: &mut [u64], line: &[u8], call: Call, out: &mu
         Call::PowerOn { name, preferred } => power_on(words, counts, name, preferred, out),
         Call::Start => start(words, counts, out),
         Call::Quiet => quiet(words, counts, out),
+        Call::ReadUnit => read_unit(words, counts, out),
         Call::Frame { port, id } => frame(words, counts, line, port, id, out),
         Call::Take { port } => take(words, counts, port, out),
         Call::Message { port, requester } => message(words, counts, line, port, requester, out),

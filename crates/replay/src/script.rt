@@ -10,6 +10,7 @@ pub enum Call {
     PowerOn { name: u64, preferred: u32 },
     Start,
     Quiet,
+    ReadUnit,
     Frame { port: u32, id: u32 },
     Take { port: u32 },
     Message { port: u32, requester: u32 },
@@ -276,7 +277,7 @@ pub fn what_is_wrong(line: &[u8]) -> Wrong {
     let letter = line[0];
     match letter {
         b'P' => fields(line, 1, Field::Name, Field::Preferred, Field::End),
-        b'S' | b'Q' => fields(line, 1, Field::End, Field::End, Field::End),
+        b'S' | b'Q' | b'U' => fields(line, 1, Field::End, Field::End, Field::End),
         b'F' => fields(line, 1, Field::Port, Field::Identifier, Field::Bytes),
         b'T' => fields(line, 1, Field::Port, Field::End, Field::End),
         b'M' => fields(line, 1, Field::Port, Field::Requester, Field::Payload),
@@ -372,6 +373,7 @@ pub fn read_call(line: &[u8]) -> Call {
     match letter {
         b'P' => power_on(line),
         b'Q' => Call::Quiet,
+        b'U' => Call::ReadUnit,
         b'F' => frame(line),
         b'T' => take(line),
         b'M' => message(line),

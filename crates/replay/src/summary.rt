@@ -75,10 +75,11 @@ fn done(counts: &mut [u64], out: &mut [u8], word: &[u8], what: &[u8], kind: usiz
     refusals(counts, out, at, kind);
 }
 
-// Start and Quiet.
+// Start, Quiet, and how often the unit was read.
 fn claims(counts: &mut [u64], out: &mut [u8]) {
     done(counts, out, b"Start ", b": done ", tally::START);
     done(counts, out, b"Quiet ", b": done ", tally::QUIET);
+    done(counts, out, b"unit ", b": told ", tally::UNIT);
 }
 
 // Frames: how many the unit consumed.
@@ -122,7 +123,7 @@ fn takes(counts: &mut [u64], out: &mut [u8]) {
     refusals(counts, out, at, tally::TAKE);
 }
 
-// Power-ons, Start and Quiet, after an empty line.
+// Power-ons, Start, Quiet and the unit, after an empty line.
 fn beginnings(counts: &mut [u64], out: &mut [u8]) {
     print::finish(counts, out, 0);
     power_ons(counts, out);

@@ -17,8 +17,10 @@ pub const TAKE: usize = 4 * NUMBERS;
 
 pub const MESSAGE: usize = 5 * NUMBERS;
 
+pub const UNIT: usize = 6 * NUMBERS;
+
 // A word for each port: frames that it accepted, that a pair stopped on the way to it, that it lost, and the unit's own that it lost.
-pub const ACCEPTED: usize = 6 * NUMBERS;
+pub const ACCEPTED: usize = 7 * NUMBERS;
 
 pub const STOPPED: usize = ACCEPTED + 4;
 

@@ -106,7 +106,7 @@ pub fn wrong(out: &mut [u8], at: usize, w: Wrong) -> usize
     match w {
         Wrong::Nothing => at,
         Wrong::TooLong => print::text(out, at, b"longer than 4,096 bytes"),
-        Wrong::NoLetter => print::text(out, at, b"the first word is none of P S Q F T M"),
+        Wrong::NoLetter => print::text(out, at, b"the first word is none of P S Q F T M U"),
         Wrong::Missing(f) => {
             let next = field(out, at, f);
             print::text(out, next, b" missing")

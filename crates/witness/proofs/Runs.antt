@@ -14,9 +14,11 @@ use Rattle.delivery.specs.Calls.{afterCalls, answersOf}
 use Rattle.delivery.proofs.Calls.{after-append, answers-append, length-answers}
 use Rattle.queue.specs.declared.Taken.the-variants.{Given, Nothing}
 use Rattle.bridge.specs.declared.TakeAnswer.the-variants.{Refused, Took}
+use Rattle.bridge.specs.declared.UnitAnswer.{UnitAnswer}
+use Rattle.bridge.specs.declared.UnitAnswer.the-variants.{Told}
 use Rattle.unit.specs.Model.{modelOf, recordLength}
 use Rattle.unit.specs.PowerOn.{PoweringOn}
-use Rattle.demand_3.specs.Demand3.{Answer, ToFrame, ToTake, ToMessage, ToStart, ToQuiet, next, answer}
+use Rattle.demand_3.specs.Demand3.{Answer, ToFrame, ToTake, ToMessage, ToStart, ToQuiet, ToUnit, next, answer}
 use Rattle.demand_3.proofs.Demand3.{power-on-goes}
 use Rattle.witness.specs.Encoding.{callWords, answerWords, callOf, code, codes}
 use Rattle.witness.specs.Replay.{Stepping, callsOf, Running, count, Replaying}
@@ -31,6 +33,8 @@ code-long (ToTake (Took Nothing)) = refl
 code-long (ToMessage r reply) = refl
 code-long (ToStart r) = refl
 code-long (ToQuiet number) = refl
+code-long (ToUnit (UnitAnswer.Refused number)) = refl
+code-long (ToUnit (Told own ports)) = refl
 
 codes-long : (xs : List Answer) → length (codes xs) ≡ answerWords * length xs
 codes-long [] = refl

@@ -10,9 +10,11 @@ use Rattle.bridge.specs.declared.FrameAnswer.{FrameAnswer}
 use Rattle.bridge.specs.declared.TakeAnswer.{TakeAnswer}
 use Rattle.message_answers.specs.declared.MessageAnswer.{MessageAnswer}
 use Rattle.bridge.specs.declared.StartAnswer.{StartAnswer}
+use Rattle.bridge.specs.declared.UnitAnswer.{UnitAnswer}
+use Rattle.unit.specs.Own.{claimWord}
 use Rattle.unit.specs.Model.{recordLength}
-use Rattle.bridge.specs.Calls.{FrameIn, TakeOut, Message, Start, Quiet, Framing, TakingOut, Messaging, Starting, Quieting}
-use Rattle.demand_3.specs.Demand3.{ToFrame, ToTake, answer}
+use Rattle.bridge.specs.Calls.{FrameIn, TakeOut, Message, Start, Quiet, ReadUnit, Framing, TakingOut, Messaging, Starting, Quieting, Reading}
+use Rattle.demand_3.specs.Demand3.{ToFrame, ToTake, ToUnit, answer}
 use Rattle.witness.specs.Encoding.{answerWords, partOf, code}
 use Rattle.witness.specs.Replay.{Stepping}
 
@@ -75,11 +77,11 @@ module _ {w w′ out : List ℕ} (long : length w ≡ recordLength 4) where
     answer = o ∙ ap (λ (r : MessageAnswer). r .refusal ∷ r .pgn ∷ r .length ∷ 0 ∷ 0 ∷ 0 ∷ 0 ∷ 0 ∷ []) (rw long at (l .answer));
   }
 
-  pub start-step : {r : StartAnswer} → Starting 4 w w′ r → out ≡ r .refusal ∷ r .unsent ∷ 0 ∷ 0 ∷ 0 ∷ 0 ∷ 0 ∷ 0 ∷ [] → Stepping w w′ Start out
+  pub start-step : {r : StartAnswer} → Starting 4 w w′ r → out ≡ r .refusal ∷ r .unsent ∷ claimWord (r .claim) ∷ 0 ∷ 0 ∷ 0 ∷ 0 ∷ 0 ∷ [] → Stepping w w′ Start out
   unfolding answer code
   start-step l o = record {
     state = rw long at (l .call .state);
-    answer = o ∙ ap (λ (r : StartAnswer). r .refusal ∷ r .unsent ∷ 0 ∷ 0 ∷ 0 ∷ 0 ∷ 0 ∷ 0 ∷ []) (rw long at (l .answer));
+    answer = o ∙ ap (λ (r : StartAnswer). r .refusal ∷ r .unsent ∷ claimWord (r .claim) ∷ 0 ∷ 0 ∷ 0 ∷ 0 ∷ 0 ∷ []) (rw long at (l .answer));
   }
 
   pub quiet-step : {r : ℕ} → Quieting 4 w w′ r → out ≡ r ∷ 0 ∷ 0 ∷ 0 ∷ 0 ∷ 0 ∷ 0 ∷ 0 ∷ [] → Stepping w w′ Quiet out
@@ -88,3 +90,8 @@ module _ {w w′ out : List ℕ} (long : length w ≡ recordLength 4) where
     state = rw long at (l .call .state);
     answer = o ∙ ap (λ r. r ∷ 0 ∷ 0 ∷ 0 ∷ 0 ∷ 0 ∷ 0 ∷ 0 ∷ []) (rw long at (l .answer));
   }
+
+-- the unit is read: the record stays
+pub unit-step : {w out : List ℕ} {r : UnitAnswer} → length w ≡ recordLength 4 → Reading 4 w r → out ≡ code (ToUnit r) → Stepping w w ReadUnit out
+unfolding answer
+unit-step long l o = record { state = rw long at (l .call .state); answer = o ∙ ap (λ r. code (ToUnit r)) (rw long at (l .answer)) }

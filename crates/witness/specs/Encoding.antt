@@ -8,8 +8,11 @@ use lib.ListN.{take, drop, getD}
 use Rattle.queue.specs.declared.Taken.the-variants.{Given, Nothing}
 use Rattle.address_claims.specs.Events.{eventNumber, oldName}
 use Rattle.bridge.specs.declared.TakeAnswer.the-variants.{Refused, Took}
-use Rattle.bridge.specs.Calls.{Call, FrameIn, TakeOut, Message, Start, Quiet}
-use Rattle.demand_3.specs.Demand3.{Answer, ToFrame, ToTake, ToMessage, ToStart, ToQuiet}
+use Rattle.bridge.specs.declared.UnitAnswer.{UnitAnswer}
+use Rattle.bridge.specs.declared.UnitAnswer.the-variants.{Told}
+use Rattle.unit.specs.Own.{claimWord}
+use Rattle.bridge.specs.Calls.{Call, FrameIn, TakeOut, Message, Start, Quiet, ReadUnit}
+use Rattle.demand_3.specs.Demand3.{Answer, ToFrame, ToTake, ToMessage, ToStart, ToQuiet, ToUnit}
 
 abbrev pub callWords : ℕ
 callWords = 5
@@ -18,7 +21,7 @@ abbrev pub answerWords : ℕ
 answerWords = 8
 
 -- ---- calls
--- 0 a frame with this identifier, 1 a take, 2 a message from this requester, 3 Start, any other Quiet
+-- 0 a frame with this identifier, 1 a take, 2 a message from this requester, 3 Start, 5 the unit is read, any other Quiet
 unfoldable pub callFrom : ℕ → ℕ → ℕ → List ℕ → ℕ → Call
 callFrom kind port argument bytes lentReply =
     cond (eqb kind 0)
@@ -27,7 +30,9 @@ callFrom kind port argument bytes lentReply =
     (TakeOut port)
     (cond (eqb kind 2)
     (Message port argument bytes lentReply)
-    (cond (eqb kind 3) Start Quiet)))
+    (cond (eqb kind 3)
+    Start
+    (cond (eqb kind 5) ReadUnit Quiet))))
 
 -- the bytes from a place up to another, as far as there are any
 abbrev pub partOf : List ℕ → ℕ → ℕ → List ℕ
@@ -45,8 +50,10 @@ code (ToTake (Refused number)) = number ∷ 0 ∷ 0 ∷ 0 ∷ 0 ∷ 0 ∷ 0 ∷ 
 code (ToTake (Took (Given f))) = 0 ∷ 1 ∷ f .id ∷ f .len ∷ f .bytes ∷ 0 ∷ 0 ∷ 0 ∷ []
 code (ToTake (Took Nothing)) = 0 ∷ 0 ∷ 0 ∷ 0 ∷ 0 ∷ 0 ∷ 0 ∷ 0 ∷ []
 code (ToMessage r reply) = r .refusal ∷ r .pgn ∷ r .length ∷ 0 ∷ 0 ∷ 0 ∷ 0 ∷ 0 ∷ []
-code (ToStart r) = r .refusal ∷ r .unsent ∷ 0 ∷ 0 ∷ 0 ∷ 0 ∷ 0 ∷ 0 ∷ []
+code (ToStart r) = r .refusal ∷ r .unsent ∷ claimWord (r .claim) ∷ 0 ∷ 0 ∷ 0 ∷ 0 ∷ 0 ∷ []
 code (ToQuiet number) = number ∷ 0 ∷ 0 ∷ 0 ∷ 0 ∷ 0 ∷ 0 ∷ 0 ∷ []
+code (ToUnit (UnitAnswer.Refused number)) = number ∷ 0 ∷ 0 ∷ 0 ∷ 0 ∷ 0 ∷ 0 ∷ 0 ∷ []
+code (ToUnit (Told own ports)) = 0 ∷ claimWord (own .claim) ∷ own .address ∷ own .preferred ∷ own .name ∷ ports ∷ 0 ∷ 0 ∷ []
 
 -- the words of several answers
 abbrev pub codes : List Answer → List ℕ

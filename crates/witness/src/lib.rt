@@ -2,6 +2,7 @@
 // contract says of the whole list what demand 3 says: the answers are the book's.
 use bridge::FrameAnswer;
 use bridge::TakeAnswer;
+use bridge::UnitAnswer;
 use queue::Taken;
 use unit::Unit;
 ghost use mathlib.Core.Path.{_≡_};
@@ -10,8 +11,8 @@ ghost use mathlib.Core.List.{[], _∷_};
 ghost use Prim.Native.Nat.{_*_, _≤_, min};
 ghost use lib.ListN.{length};
 ghost use Rattle.unit.specs.Model.{recordLength};
-ghost use Rattle.bridge.specs.Calls.{FrameIn, TakeOut, Message, Start, Quiet};
-ghost use Rattle.demand_3.specs.Demand3.{ToFrame, ToTake};
+ghost use Rattle.bridge.specs.Calls.{FrameIn, TakeOut, Message, Start, Quiet, ReadUnit};
+ghost use Rattle.demand_3.specs.Demand3.{ToFrame, ToTake, ToUnit};
 ghost use Rattle.witness.specs.Encoding.{callWords, answerWords, callFrom, callOf, code};
 ghost use Rattle.witness.specs.Replay.{Stepping, Running, Replaying};
 
@@ -81,6 +82,30 @@ fn write_take(r: TakeAnswer, out: &mut [u64])
     }
 }
 
+// What the unit was told to be.
+fn write_unit(r: UnitAnswer, out: &mut [u64])
+    requires { ⌜ length (now out) ≡ answerWords ⌝ }
+    ensures { λ _. ⌜ now (out .exit) ≡ code (ToUnit r) ⌝ }
+{
+    match r {
+        UnitAnswer::Refused(number) => put(out, number as u64, 0, 0, 0, 0, 0, 0, 0),
+        UnitAnswer::Told { unit, ports } => {
+            let claim = unit.claim;
+            put(
+                out,
+                0,
+                claim.word(),
+                unit.address as u64,
+                unit.preferred as u64,
+                unit.name,
+                ports as u64,
+                0,
+                0,
+            );
+        }
+    }
+}
+
 // The calls, each with its answer written down.
 fn frame(words: &mut [u64], port: u32, id: u32, bytes: &[u8], out: &mut [u64])
     requires { ⌜ (length (now words) ≡ recordLength 4) × (length (now out) ≡ answerWords) ⌝ }
@@ -128,7 +153,18 @@ fn start(words: &mut [u64], out: &mut [u64])
     ensures { λ _. ⌜ Stepping (now (words .entry)) (now (words .exit)) Start (now (out .exit)) ⌝ }
 {
     let r = bridge::start(words);
-    put(out, r.refusal as u64, r.unsent as u64, 0, 0, 0, 0, 0, 0);
+    let claim = r.claim;
+    put(
+        out,
+        r.refusal as u64,
+        r.unsent as u64,
+        claim.word(),
+        0,
+        0,
+        0,
+        0,
+        0,
+    );
 }
 
 fn quiet(words: &mut [u64], out: &mut [u64])
@@ -137,6 +173,14 @@ fn quiet(words: &mut [u64], out: &mut [u64])
 {
     let number = bridge::quiet(words);
     put(out, number as u64, 0, 0, 0, 0, 0, 0, 0);
+}
+
+fn read_unit(words: &[u64], out: &mut [u64])
+    requires { ⌜ (length (now words) ≡ recordLength 4) × (length (now out) ≡ answerWords) ⌝ }
+    ensures { λ _. ⌜ Stepping (now (words .entry)) (now (words .entry)) ReadUnit (now (out .exit)) ⌝ }
+{
+    let r = bridge::unit(words);
+    write_unit(r, out);
 }
 
 // One call, by its kind.
@@ -166,6 +210,10 @@ fn perform(
     }
     if kind == 3 {
         start(words, out);
+        return;
+    }
+    if kind == 5 {
+        read_unit(words, out);
         return;
     }
     quiet(words, out);

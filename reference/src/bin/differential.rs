@@ -3,9 +3,9 @@
 
 use std::collections::BTreeMap;
 
-use reference::address::Event;
+use reference::address::{Event, UnitAnswer};
 use reference::coverage::Coverage;
-use reference::frame::Frame;
+use reference::frame::{Frame, NULL};
 use reference::generate::{generate, Random};
 use reference::linked::*;
 use reference::message::LONGEST_MESSAGE;
@@ -99,6 +99,7 @@ impl Both {
             Call::Frame { port, id, bytes } => self.frame(*port, *id, bytes)?,
             Call::Take { port } => self.take(*port)?,
             Call::Message { port, requester, payload } => self.message(*port, *requester, payload)?,
+            Call::Unit => self.unit()?,
         };
         let after = self.record.contents();
         if answer.number() != 0 && after != words {
@@ -125,9 +126,20 @@ impl Both {
         let mut told = self.told(START_ANSWER, 0);
         told.number = Record(self.record.contents()).start(told.words.contents());
         let result = self.reference.start();
-        let expected = result.as_ref().map(|own_lost| vec![mask(own_lost)]);
+        let expected = result.as_ref().map(|answer| vec![mask(&answer.own_lost), u64::from(answer.state.number())]);
         told.is(result.as_ref().err(), expected.ok(), None)?;
         Ok(Answer::Start(result))
+    }
+
+    /// The record changes by no word; `call` looks at its meaning.
+    fn unit(&mut self) -> Result<Answer, String> {
+        let mut told = self.told(UNIT_ANSWER, 0);
+        let before = self.record.all.clone();
+        told.number = Record(self.record.contents()).unit(told.words.contents());
+        let answer = self.reference.tell();
+        told.is(None, Some(unit_words(&answer)), None)?;
+        check(self.record.all == before, "reading the unit changed the record")?;
+        Ok(Answer::Unit(answer))
     }
 
     fn quiet(&mut self) -> Result<Answer, String> {
@@ -194,6 +206,7 @@ impl Both {
         let (port, words, bytes) = match call {
             Call::PowerOn { .. } | Call::Quiet => (None, None, None),
             Call::Start => (None, Some(START_ANSWER), None),
+            Call::Unit => (None, Some(UNIT_ANSWER), None),
             Call::Frame { port, .. } => (Some(*port), Some(FRAME_ANSWER), None),
             Call::Take { port } => (Some(*port), Some(TAKE_ANSWER), Some(FRAME_BYTES)),
             Call::Message { port, .. } => (Some(*port), Some(MESSAGE_ANSWER), Some(LONGEST_MESSAGE)),
@@ -237,6 +250,7 @@ impl Both {
             Call::Frame { port, id, bytes } => record.frame(*port, *id, bytes, words),
             Call::Take { port } => record.take(*port, words, bytes),
             Call::Message { port, requester, payload } => record.message(*port, *requester, payload, bytes, words),
+            Call::Unit => record.unit(words),
         }
     }
 }
@@ -303,6 +317,13 @@ fn frame_words(answer: &FrameAnswer) -> Vec<u64> {
     let consumed = u64::from(answer.consumed);
     let compared = answer.compared as u64;
     vec![consumed, mask(&answer.accepted), mask(&answer.lost), event, old_name, mask(&answer.own_lost), compared]
+}
+
+/// The address is 254 for none.
+fn unit_words(answer: &UnitAnswer) -> Vec<u64> {
+    let address = answer.address.unwrap_or(NULL);
+    let [state, address, preferred, ports] = [answer.state.number(), address, answer.preferred, answer.ports].map(u64::from);
+    vec![state, address, preferred, answer.name, ports]
 }
 
 fn take_words(given: Option<&Frame>) -> Vec<u64> {

@@ -4,6 +4,7 @@ use std::io::{self, Read};
 use std::process::ExitCode;
 
 use reference::address::Event;
+use reference::frame::NULL;
 use reference::run::made;
 use reference::script::{is_passed_over, lines_of, read_call, Answer, Call};
 use reference::unit::Unit;
@@ -37,6 +38,7 @@ fn print_calls(calls: &[Call]) {
             Call::Message { port, requester, payload } => (2, *port, *requester, payload),
             Call::Start => (3, 0, 0, &[]),
             Call::Quiet => (4, 0, 0, &[]),
+            Call::Unit => (5, 0, 0, &[]),
             Call::PowerOn { .. } => panic!("encode: a second power-on"),
         };
         let first = all.len();
@@ -77,7 +79,11 @@ fn words(answer: &Answer) -> [u64; 8] {
             [0, 1, u64::from(frame.id), frame.bytes.len() as u64, bytes, 0, 0, 0]
         }
         Answer::Message(told, _) => [number, u64::from(told.pgn), told.length as u64, 0, 0, 0, 0, 0],
-        Answer::Start(Ok(own_lost)) => [0, mask(own_lost), 0, 0, 0, 0, 0, 0],
+        Answer::Start(Ok(told)) => [0, mask(&told.own_lost), u64::from(told.state.number()), 0, 0, 0, 0, 0],
+        Answer::Unit(told) => {
+            let address = u64::from(told.address.unwrap_or(NULL));
+            [0, u64::from(told.state.number()), address, u64::from(told.preferred), told.name, u64::from(told.ports), 0, 0]
+        }
         _ => [number, 0, 0, 0, 0, 0, 0, 0],
     }
 }

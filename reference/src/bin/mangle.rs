@@ -6,7 +6,7 @@ use std::io::{self, Read, Write};
 use reference::generate::Random;
 
 /// What is put into a line: bytes of the format, bytes near it, and some that are no text.
-const BYTES: &[u8] = b" \r\n\t-#+?0123456789abcdefgABCDEFGPSQFTM\x00\xC3\xA9\xFF";
+const BYTES: &[u8] = b" \r\n\t-#+?0123456789abcdefgABCDEFGPSQFTMU\x00\xC3\xA9\xFF";
 
 fn main() -> io::Result<()> {
     let Some(seed) = std::env::args().nth(1).and_then(|text| text.parse().ok()) else {

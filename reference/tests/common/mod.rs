@@ -2,7 +2,7 @@
 //! and that the reply buffer past the written length is untouched.
 #![allow(dead_code)]
 
-use reference::address::{ClaimState, Event, Holder};
+use reference::address::{ClaimState, Event, Holder, StartAnswer};
 use reference::frame::Frame;
 use reference::pair::Pair;
 use reference::unit::{FrameAnswer, Unit, PORTS};
@@ -24,11 +24,15 @@ pub fn unstarted() -> Unit {
     Unit::power_on(NAME, ADDRESS)
 }
 
+/// Start's answer where it is not refused.
+pub fn started(state: ClaimState, own_lost: &[u32]) -> Result<StartAnswer, u32> {
+    Ok(StartAnswer { state, own_lost: own_lost.to_vec() })
+}
+
 pub fn claiming() -> Unit {
     let mut unit = unstarted();
-    assert_eq!(unit.start(), Ok(vec![]));
+    assert_eq!(unit.start(), started(ClaimState::Claiming, &[]));
     drain(&mut unit);
-    assert_eq!(unit.state, ClaimState::Claiming);
     unit
 }
 

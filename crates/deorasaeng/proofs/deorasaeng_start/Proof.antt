@@ -1,5 +1,8 @@
 -- `deorasaeng_start` meets its contract, by what `bridge::start` ensures. Assumes nothing.
+use mathlib.Core.Path.{_∙_}
 use mathlib.Core.List.{[], _∷_}
+use native.Mathlib.Omega.{arith}
+use lib.ListN.{length-set}
 use Rattle.flat_answers.proofs.Words.{stored}
 use Rattle.deorasaeng.proofs.Calls.{start-wrong, start-refused, start-done}
 use borrow.Author.Needs.{needs}
@@ -24,6 +27,12 @@ cast-answer c = search needs
 slice-write-answer : tie.Need-slice-write-answer
 slice-write-answer c = search needs
 
+word-requires : tie.Need-word-requires
+word-requires c κs = search needs
+
+slice-write-answer-2 : tie.Need-slice-write-answer-2
+slice-write-answer-2 c = simp length-set (omega arith)
+
 same-length-2 : tie.Need-same-length-2
 same-length-2 c = search needs
 
@@ -32,9 +41,10 @@ same-length-3 c = search needs
 
 returns-3 : tie.Need-returns-3
 returns-3 c =
-    let at = c .before .before .before .before in
+    let at = c .before .before .before .before .before in
     let right = at .before .before .if1 .left in
-    start-done (at .start .ensures) right (c .before .if2 .left) (stored (at .start .result .unsent ∷ []) (at .before .before .before .before .before .args .answer .now) right)
+    let words = at .start .result .unsent ∷ c .word .result ∷ [] in
+    start-done (at .start .ensures) right (c .before .before .if2 .left) (stored words (at .before .before .before .before .before .args .answer .now) right ∙ rw (c .word .ensures))
 
 pub deorasaeng-start-spec : {M : Type 1} → statement M
 deorasaeng-start-spec =
@@ -46,6 +56,8 @@ deorasaeng-start-spec =
     returns-2
     cast-answer
     slice-write-answer
+    word-requires
+    slice-write-answer-2
     same-length-2
     same-length-3
     returns-3)

@@ -68,8 +68,8 @@ returns-4 c =
     let kind = c .before .before .before .before .before .before .before .before .before .before .before .before .before .before .before .args .kind in
     rw (ne-eqb kind 0 (c .before .before .before .before .before .before .before .before .before .before .if1 .left), ne-eqb kind 1 (c .before .before .before .before .before .before .before .before .before .if2 .left), ne-eqb kind 2 (c .before .before .before .before .before .before .before .before .if3 .left), eq-eqb kind 3 (c .before .before .before .before .before .before .before .if4 .taken)) (c .before .before .before .before .start .ensures)
 
-quiet-requires : tie.Need-quiet-requires
-quiet-requires c κs = search needs
+read-unit-requires : tie.Need-read-unit-requires
+read-unit-requires c κs = search needs
 
 same-length-10 : tie.Need-same-length-10
 same-length-10 c = search needs
@@ -80,8 +80,23 @@ same-length-11 c = search needs
 returns-5 : tie.Need-returns-5
 unfolding callFrom
 returns-5 c =
-    let kind = c .before .before .before .before .before .before .before .before .before .before .before .before .before .before .before .args .kind in
-    rw (ne-eqb kind 0 (c .before .before .before .before .before .before .before .before .before .before .if1 .left), ne-eqb kind 1 (c .before .before .before .before .before .before .before .before .before .if2 .left), ne-eqb kind 2 (c .before .before .before .before .before .before .before .before .if3 .left), ne-eqb kind 3 (c .before .before .before .before .before .before .before .if4 .left)) (c .before .before .before .before .quiet .ensures)
+    let kind = c .before .before .before .before .before .before .before .before .before .before .before .before .before .before .args .kind in
+    rw (ne-eqb kind 0 (c .before .before .before .before .before .before .before .before .before .if1 .left), ne-eqb kind 1 (c .before .before .before .before .before .before .before .before .if2 .left), ne-eqb kind 2 (c .before .before .before .before .before .before .before .if3 .left), ne-eqb kind 3 (c .before .before .before .before .before .before .if4 .left), eq-eqb kind 5 (c .before .before .before .before .before .if5 .taken)) (c .before .before .read-unit .ensures)
+
+quiet-requires : tie.Need-quiet-requires
+quiet-requires c κs = search needs
+
+same-length-12 : tie.Need-same-length-12
+same-length-12 c = search needs
+
+same-length-13 : tie.Need-same-length-13
+same-length-13 c = search needs
+
+returns-6 : tie.Need-returns-6
+unfolding callFrom
+returns-6 c =
+    let kind = c .before .before .before .before .before .before .before .before .before .before .before .before .before .before .before .before .args .kind in
+    rw (ne-eqb kind 0 (c .before .before .before .before .before .before .before .before .before .before .before .if1 .left), ne-eqb kind 1 (c .before .before .before .before .before .before .before .before .before .before .if2 .left), ne-eqb kind 2 (c .before .before .before .before .before .before .before .before .before .if3 .left), ne-eqb kind 3 (c .before .before .before .before .before .before .before .before .if4 .left), ne-eqb kind 5 (c .before .before .before .before .before .before .before .if5 .left)) (c .before .before .before .before .quiet .ensures)
 
 pub perform-spec : {M : Type 1} → statement M
 perform-spec =
@@ -104,7 +119,11 @@ perform-spec =
     same-length-8
     same-length-9
     returns-4
-    quiet-requires
+    read-unit-requires
     same-length-10
     same-length-11
-    returns-5)
+    returns-5
+    quiet-requires
+    same-length-12
+    same-length-13
+    returns-6)

@@ -1,6 +1,7 @@
 -- `network_message::judging::refusal` meets its contract: by the tests on the way. Assumes nothing.
 use borrow.Author.Needs.{needs}
 use Rattle.network_message.specs.Decoding.{refusalOf}
+use Rattle.network_message.proofs.Passing.{body-wrong, body-right}
 use Rattle.network_message.proofs.judging.refusal.Statement.{statement}
 use Rattle.network_message.proofs.judging.refusal.Tie as tie
 
@@ -30,8 +31,8 @@ returns-3 c =
     let known = named .before .before in
     simp (← (known .before .is-known .ensures), known .if1 .left, ← (named .before .names-ports .ensures), named .if2 .left, ← (c .before .may-name .ensures), c .if3 .taken)
 
-has-good-body-requires : tie.Need-has-good-body-requires
-has-good-body-requires c κs = search needs
+body-refusal-requires : tie.Need-body-refusal-requires
+body-refusal-requires c κs = search needs
 
 returns-4 : tie.Need-returns-4
 unfolding refusalOf
@@ -39,7 +40,9 @@ returns-4 c =
     let may = c .before .before in
     let named = may .before .before in
     let known = named .before .before in
-    simp (← (known .before .is-known .ensures), known .if1 .left, ← (named .before .names-ports .ensures), named .if2 .left, ← (may .before .may-name .ensures), may .if3 .left, ← (c .before .has-good-body .ensures), c .if4 .taken)
+    let args = known .before .before .before .args in
+    let wrong = body-wrong (args .function) (args .payload .now) (c .before .body-refusal .ensures) (c .if4 .taken) in
+    simp (← (known .before .is-known .ensures), known .if1 .left, ← (named .before .names-ports .ensures), named .if2 .left, ← (may .before .may-name .ensures), may .if3 .left, wrong .0) (wrong .1)
 
 has-wrong-mode-requires : tie.Need-has-wrong-mode-requires
 has-wrong-mode-requires c κs = search needs
@@ -51,7 +54,9 @@ returns-5 c =
     let may = good .before .before in
     let named = may .before .before in
     let known = named .before .before in
-    simp (← (known .before .is-known .ensures), known .if1 .left, ← (named .before .names-ports .ensures), named .if2 .left, ← (may .before .may-name .ensures), may .if3 .left, ← (good .before .has-good-body .ensures), good .if4 .left, ← (c .before .has-wrong-mode .ensures), c .if5 .taken)
+    let args = known .before .before .before .args in
+    let right = body-right (args .function) (args .payload .now) (good .before .body-refusal .ensures) (good .if4 .left) in
+    simp (← (known .before .is-known .ensures), known .if1 .left, ← (named .before .names-ports .ensures), named .if2 .left, ← (may .before .may-name .ensures), may .if3 .left, right, ← (c .before .has-wrong-mode .ensures), c .if5 .taken)
 
 returns-6 : tie.Need-returns-6
 unfolding refusalOf
@@ -60,7 +65,9 @@ returns-6 c =
     let may = good .before .before in
     let named = may .before .before in
     let known = named .before .before in
-    simp (← (known .before .is-known .ensures), known .if1 .left, ← (named .before .names-ports .ensures), named .if2 .left, ← (may .before .may-name .ensures), may .if3 .left, ← (good .before .has-good-body .ensures), good .if4 .left, ← (c .before .has-wrong-mode .ensures), c .if5 .left)
+    let args = known .before .before .before .args in
+    let right = body-right (args .function) (args .payload .now) (good .before .body-refusal .ensures) (good .if4 .left) in
+    simp (← (known .before .is-known .ensures), known .if1 .left, ← (named .before .names-ports .ensures), named .if2 .left, ← (may .before .may-name .ensures), may .if3 .left, right, ← (c .before .has-wrong-mode .ensures), c .if5 .left)
 
 pub refusal-spec : {M : Type 1} → statement M
 refusal-spec =
@@ -72,7 +79,7 @@ refusal-spec =
     returns-2
     may-name-requires
     returns-3
-    has-good-body-requires
+    body-refusal-requires
     returns-4
     has-wrong-mode-requires
     returns-5

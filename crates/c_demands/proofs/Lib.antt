@@ -1,0 +1,5 @@
+pub mod Calls
+pub mod Numbers
+pub mod Lists
+pub mod Unchanged
+pub mod CDemands
