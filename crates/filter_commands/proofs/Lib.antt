@@ -1,3 +1,2 @@
-mod Lacking
 mod Commands
 pub mod Laws

@@ -24,16 +24,7 @@ pub fn lacks(block: &[u64], bytes: &[u8]) -> bool
     ensures { λ r. ⌜ r ≡ lacks (filterOf (now (block .entry))) (entriesOf (now (bytes .entry))) ⌝ }
 {
     let n = filter::count(block);
-    let end = entries::count(bytes);
-    let mut i = 0;
-    while i < end {
-        let x = entries::entry_at(bytes, i);
-        if pgn_list::find(&block[LIST..LIST_END], n, x) == n {
-            return true;
-        }
-        i += 1;
-    }
-    false
+    !pgn_list::lists_all(&block[LIST..LIST_END], n, bytes)
 }
 
 // The block's PGNs, its free part too.

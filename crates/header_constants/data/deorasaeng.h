@@ -6,7 +6,7 @@
    bytes may be handed in as NULL, 0; any other may not.
 
    Platform: x86-64 Linux, the System V calling convention, any linker for ELF. Needed are memcpy and memset and nothing else: no heap, no call of the operating
-   system, no data outside the record. SSE registers and the red zone are used. Some 12 KB of code and constants, 9,440 bytes of record, at most 744 bytes of stack
+   system, no data outside the record. SSE registers and the red zone are used. Some 14 KB of code and constants, 9,440 bytes of record, at most 992 bytes of stack
    (deorasaeng_take_queue 1.1 KB). For other platforms there is no proved library today; the project's reference/, in safe Rust, is an unproved stand-in.
    docs/INTEGRATION.md has the loop of a box, interrupts, locking and stack.
 

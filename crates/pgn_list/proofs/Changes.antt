@@ -8,11 +8,10 @@ use native.Mathlib.Numerals.{add-one}
 use native.Mathlib.Omega.{arith}
 use lib.ListN.{length, getD, set, take, drop, length-append, length-set}
 use lib.Seq.{take-suc-set, drop-set-lt, drop-drop, getD-take, getD-drop, length-take-le}
-use Rattle.entries.specs.Entries.{listed}
+use Rattle.entries.specs.Entries.{listed, every}
 use Rattle.pgn_list.specs.PgnList.{listSize, addOne, addAll, deleteAll}
-use Rattle.pgn_list.specs.Steps.{Finding, Extending, Keeping}
+use Rattle.pgn_list.specs.Steps.{Extending, Keeping}
 use Rattle.storage.proofs.Walk.{Left, left-all, left-next, left-one, left-none}
-use Rattle.pgn_list.proofs.Search.{absent, present}
 
 -- ---- adding one
 pub one-listed : (es : List ℕ) (x : ℕ) → listed x es ≡ true → addOne es x ≡ es
@@ -56,7 +55,7 @@ pub record Held (entry list : List ℕ) (n : ℕ) (xs : List ℕ) (held i : ℕ)
   pub few : held ≤ listSize
   pub long : length list ≡ listSize
 
-module _ {entry list : List ℕ} {n : ℕ} {xs : List ℕ} {held i x r : ℕ} (H : Held entry list n xs held i) (turn : i < length xs) (e : x ≡ getD xs i 0) (F : Finding list held x r) where
+module _ {entry list : List ℕ} {n : ℕ} {xs : List ℕ} {held i x : ℕ} (H : Held entry list n xs held i) (turn : i < length xs) (e : x ≡ getD xs i 0) where
   held-fits : held ≤ length list
   held-fits = omega (arith, H .few, H .long)
 
@@ -64,26 +63,23 @@ module _ {entry list : List ℕ} {n : ℕ} {xs : List ℕ} {held i x r : ℕ} (H
   unfolding addAll
   next ys h = rw (← e) (ap (λ l. addAll l (drop (i + 1) xs)) h)
 
-  pub held-listed : (r ≡ held → ⊥) → Held entry list n xs held (i + 1)
+  pub held-listed : listed x (take held list) ≡ true → Held entry list n xs held (i + 1)
   held-listed h =
-      record { left = left-one (H .left) turn (next (take held list) (one-listed (take held list) x (present held-fits F h))); few = H .few; long = H .long }
+      record { left = left-one (H .left) turn (next (take held list) (one-listed (take held list) x h)); few = H .few; long = H .long }
 
-  new : r ≡ held → addOne (take held list) x ≡ take held list ++ (x ∷ [])
-  new h = one-new (take held list) x (absent held-fits F h)
-
-  pub held-new : r ≡ held → (held ≡ listSize → ⊥) → Held entry (set list held x) n xs (held + 1) (i + 1)
+  pub held-new : listed x (take held list) ≡ false → (held ≡ listSize → ⊥) → Held entry (set list held x) n xs (held + 1) (i + 1)
   held-new h room =
       let s : take (held + 1) (set list held x) ≡ take held list ++ (x ∷ []) = rw (add-one held) (take-suc-set list held x (omega (arith, H .few, H .long))) in
       record {
-        left = left-one (H .left) turn (next (take (held + 1) (set list held x)) (new h ∙ sym s));
+        left = left-one (H .left) turn (next (take (held + 1) (set list held x)) (one-new (take held list) x h ∙ sym s));
         few = omega (arith, H .few);
         long = length-set list held x ∙ H .long;
       }
 
-  pub held-over : r ≡ held → held ≡ listSize → Extending entry list n xs (listSize + 1)
+  pub held-over : listed x (take held list) ≡ false → held ≡ listSize → Extending entry list n xs (listSize + 1)
   held-over h full =
       let ys = take held list ++ (x ∷ []) in
-      let v : addAll (take n entry) xs ≡ addAll ys (drop (i + 1) xs) = left-next (H .left) turn ∙ next ys (new h) in
+      let v : addAll (take n entry) xs ≡ addAll ys (drop (i + 1) xs) = left-next (H .left) turn ∙ next ys (one-new (take held list) x h) in
       let m : listSize < length (addAll (take n entry) xs) = rw v (omega (arith, longer ys (drop (i + 1) xs), length-append (take held list) (x ∷ []), length-take-le held list held-fits)) in
       record { number = omega arith; entries = λ l. absurd (omega arith) }
 
@@ -92,6 +88,16 @@ unfolding addAll
 held-all {entry} {list} {n} {xs} {held} {i} H done =
     let v : addAll (take n entry) xs ≡ take held list = left-none (H .left) done in
     record { number = rw v (omega (arith, H .few, length-take-le held list (omega (arith, H .few, H .long)))); entries = λ l. sym v }
+
+-- ---- a question of every entry: it is answered by the first for which it is no
+module _ (test : ℕ → Bool) {xs : List ℕ} {i x : ℕ} (L : Left (every test xs) (every test) xs i) (turn : i < length xs) (e : x ≡ getD xs i 0) where
+  pub every-not : test x ≡ false → every test xs ≡ false
+  unfolding every
+  every-not h = left-next L turn ∙ rw (← e, h)
+
+  pub every-on : test x ≡ true → Left (every test xs) (every test) xs (i + 1)
+  unfolding every
+  every-on h = left-one L turn (rw (← e, h))
 
 -- ---- Delete: what was kept, and what of the rest is not named
 pub record Kept (xs list₀ list : List ℕ) (n kept i : ℕ) : Type 0 where

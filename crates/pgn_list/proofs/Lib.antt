@@ -1,3 +1,5 @@
 pub mod Search
 pub mod Changes
 pub mod Lists
+pub mod Slots
+pub mod Removing

@@ -2,15 +2,17 @@
 use mathlib.Core.Path.{_≡_, refl, sym, ap, _∙_}
 use mathlib.Core.Bool.{Bool, true, false, cond, not, _&&_, _||_, true≢false, and-false, or-assoc, or-false}
 use mathlib.Core.List.{List, [], _∷_, _++_, append-nil, append-assoc}
-use Prim.Native.Nat.{ℕ, suc, _≤_, _<_, zero-le}
+use Prim.Native.Nat.{ℕ, zero, suc, _≤_, _<_, zero-le}
+use native.Mathlib.Nat.{not-suc-le-zero, le-of-suc-le-suc}
 use native.Mathlib.Omega.{arith}
 use borrow.Author.Tests.{eqb-true, not-true}
 use lib.Dec.{eqb}
-use lib.ListN.{length}
+use lib.ListN.{length, take, drop}
 use Rattle.checks.proofs.Tests.{both, neither}
 use Rattle.entries.specs.Entries.{listed, every}
 use Rattle.entries.proofs.Listed.{same-test, listed-append, one-every}
 use Rattle.pgn_list.specs.PgnList.{addOne, addAll, deleteAll, once}
+use Rattle.pgn_list.specs.Steps.{indexOf}
 use Rattle.pgn_list.proofs.Changes.{one-listed, one-new}
 
 -- ---- what is listed after a command
@@ -40,6 +42,32 @@ deleted-listed x (e ∷ es) xs = go (listed e xs) (eqb e x) refl refl (deleted-l
     go true false l q ih = ih
     go false true l q ih = let h : listed x xs ≡ false = rw (eqb-true e x q) at l in rw (q, h)
     go false false l q ih = rw q ih
+
+-- ---- Delete, one PGN after the other
+pub delete-none : (es : List ℕ) → deleteAll es [] ≡ es
+unfolding deleteAll listed
+delete-none [] = refl
+delete-none (e ∷ es) = ap (λ l. e ∷ l) (delete-none es)
+
+pub delete-next : (es : List ℕ) (x : ℕ) (xs : List ℕ) → deleteAll es (x ∷ xs) ≡ deleteAll (deleteAll es (x ∷ [])) xs
+unfolding deleteAll listed
+delete-next [] x xs = refl
+delete-next (e ∷ es) x xs = go (eqb x e) (delete-next es x xs)
+  where
+    go : (b : Bool) → deleteAll es (x ∷ xs) ≡ deleteAll (deleteAll es (x ∷ [])) xs → cond (b || listed e xs) (deleteAll es (x ∷ xs)) (e ∷ deleteAll es (x ∷ xs)) ≡ deleteAll (cond (b || false) (deleteAll es (x ∷ [])) (e ∷ deleteAll es (x ∷ []))) xs
+    go true ih = ih
+    go false ih = rw ih
+
+-- those before the first that is x stay
+pub delete-from : (x : ℕ) (es : List ℕ) (k : ℕ) → k ≤ indexOf x es → deleteAll es (x ∷ []) ≡ take k es ++ deleteAll (drop k es) (x ∷ [])
+unfolding deleteAll listed indexOf
+delete-from x es zero h = refl
+delete-from x [] (suc k) h = refl
+delete-from x (e ∷ es) (suc k) h = go (eqb e x) refl h (delete-from x es k)
+  where
+    go : (b : Bool) → eqb e x ≡ b → suc k ≤ cond b 0 (suc (indexOf x es)) → (k ≤ indexOf x es → deleteAll es (x ∷ []) ≡ take k es ++ deleteAll (drop k es) (x ∷ [])) → deleteAll (e ∷ es) (x ∷ []) ≡ e ∷ (take k es ++ deleteAll (drop k es) (x ∷ []))
+    go true q l ih = absurd (not-suc-le-zero l)
+    go false q l ih = rw (same-test x e, q) (ap (λ l. e ∷ l) (ih (le-of-suc-le-suc l)))
 
 -- ---- no PGN twice
 once-end : (es : List ℕ) (x : ℕ) → once es ≡ true → listed x es ≡ false → once (es ++ (x ∷ [])) ≡ true

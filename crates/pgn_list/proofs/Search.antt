@@ -1,11 +1,11 @@
 -- The search: each entry before the index where it stops is another one, so the index says whether x is listed. Assumes nothing.
 use mathlib.Core.Path.{_≡_, refl, sym, _∙_}
-use mathlib.Core.Bool.{Bool, true, false, cond, _||_}
+use mathlib.Core.Bool.{Bool, true, false, cond, not, _||_}
 use mathlib.Core.List.{List, [], _∷_}
 use Prim.Native.Nat.{ℕ, suc, _+_, _≤_, _<_}
 use native.Mathlib.Nat.{not-suc-le-zero, le-of-suc-le-suc}
 use native.Mathlib.Omega.{arith}
-use borrow.Author.Tests.{eq-eqb, ne-eqb}
+use borrow.Author.Tests.{eq-eqb, ne-eqb, eqb-true, eqb-false}
 use lib.Dec.{eqb}
 use lib.ListN.{length, getD, take, drop}
 use lib.Seq.{getD-take, length-take-le}
@@ -81,3 +81,10 @@ module _ {list : List ℕ} {n x r : ℕ} (fits : n ≤ length list) (F : Finding
 
   pub present : (r ≡ n → ⊥) → listed x (take n list) ≡ true
   present h = index-listed x (take n list) (omega (arith, F .index, F .inside, length-take-le n list fits))
+
+  pub found-says : not (eqb r n) ≡ listed x (take n list)
+  found-says = go (eqb r n) refl
+    where
+      go : (b : Bool) → eqb r n ≡ b → not b ≡ listed x (take n list)
+      go true e = sym (absent (eqb-true r n e))
+      go false e = sym (present (eqb-false r n e))

@@ -1,2 +1,3 @@
 pub mod PgnList
 pub mod Steps
+pub mod Slots

@@ -1,9 +1,12 @@
 // A list of PGNs in lent words, its first n in use: a search in it, and what Add and Delete do to it, in place.
+mod index;
+
 ghost use mathlib.Core.Path.{_≡_};
 ghost use mathlib.Core.Bool.{true};
+ghost use mathlib.Core.List.{[], _∷_};
 ghost use Prim.Native.Nat.{_≤_};
-ghost use lib.ListN.{length};
-ghost use Rattle.entries.specs.Entries.{entriesOf};
+ghost use lib.ListN.{length, take};
+ghost use Rattle.entries.specs.Entries.{listed, every, entriesOf};
 ghost use Rattle.pgn_list.specs.PgnList.{listSize};
 ghost use Rattle.pgn_list.specs.Steps.{Others, FindingFrom, Finding, Extending, Keeping};
 
@@ -60,9 +63,19 @@ pub fn find(list: &[u64], n: usize, x: u64) -> usize
     find_from(list, i, n, x)
 }
 
-// Adds the entries to the first n of a list: one that is not listed goes to the end. Tells how many they are then; LIST_SIZE + 1 stands for
-// more than the list holds.
-pub fn extend(list: &mut [u64], n: usize, bytes: &[u8]) -> usize
+// Whether x is among the first n of a list.
+fn is_listed(list: &[u64], n: usize, x: u64) -> bool
+    requires { ⌜ n ≤ length (now list) ⌝ }
+    ensures { λ r. ⌜ r ≡ listed x (take n (now (list .entry))) ⌝ }
+{
+    find(list, n, x) != n
+}
+
+// From how many entries on an index pays.
+const MANY: usize = 4;
+
+// `extend`, with a search for each entry.
+fn extend_by_search(list: &mut [u64], n: usize, bytes: &[u8]) -> usize
     requires { ⌜ (length (now list) ≡ listSize) × (n ≤ listSize) ⌝ }
     ensures { λ r. ⌜ Extending (now (list .entry)) (now (list .exit)) n (entriesOf (now (bytes .entry))) r ⌝ }
 {
@@ -71,7 +84,7 @@ pub fn extend(list: &mut [u64], n: usize, bytes: &[u8]) -> usize
     let mut i = 0;
     while i < end {
         let x = entries::entry_at(bytes, i);
-        if find(list, held, x) == held {
+        if !is_listed(list, held, x) {
             if held == LIST_SIZE {
                 return LIST_SIZE + 1;
             }
@@ -83,20 +96,87 @@ pub fn extend(list: &mut [u64], n: usize, bytes: &[u8]) -> usize
     held
 }
 
-// Moves the PGNs that no entry names to the front, in their order, and tells how many they are.
-pub fn keep_others(list: &mut [u64], n: usize, bytes: &[u8]) -> usize
-    requires { ⌜ n ≤ length (now list) ⌝ }
-    ensures { λ r. ⌜ Keeping (now (list .entry)) (now (list .exit)) n (entriesOf (now (bytes .entry))) r ⌝ }
+// Adds the entries to the first n of a list: one that is not listed goes to the end. Tells how many they are then; LIST_SIZE + 1 stands for
+// more than the list holds.
+pub fn extend(list: &mut [u64], n: usize, bytes: &[u8]) -> usize
+    requires { ⌜ (length (now list) ≡ listSize) × (n ≤ listSize) ⌝ }
+    ensures { λ r. ⌜ Extending (now (list .entry)) (now (list .exit)) n (entriesOf (now (bytes .entry))) r ⌝ }
 {
-    let mut kept = 0;
+    if entries::count(bytes) < MANY {
+        return extend_by_search(list, n, bytes);
+    }
+    index::extend(list, n, bytes)
+}
+
+// `lists_all`, with a search for each entry.
+fn lists_all_by_search(list: &[u64], n: usize, bytes: &[u8]) -> bool
+    requires { ⌜ n ≤ length (now list) ⌝ }
+    ensures { λ r. ⌜ r ≡ every (λ x. listed x (take n (now (list .entry)))) (entriesOf (now (bytes .entry))) ⌝ }
+{
+    let end = entries::count(bytes);
     let mut i = 0;
+    while i < end {
+        let x = entries::entry_at(bytes, i);
+        if !is_listed(list, n, x) {
+            return false;
+        }
+        i += 1;
+    }
+    true
+}
+
+// Whether every entry is among the first n of a list.
+pub fn lists_all(list: &[u64], n: usize, bytes: &[u8]) -> bool
+    requires { ⌜ n ≤ length (now list) ⌝ }
+    ensures { λ r. ⌜ r ≡ every (λ x. listed x (take n (now (list .entry)))) (entriesOf (now (bytes .entry))) ⌝ }
+{
+    if entries::count(bytes) < MANY {
+        return lists_all_by_search(list, n, bytes);
+    }
+    index::lists_all(list, n, bytes)
+}
+
+// Takes x out of the first n of a list, the others closing up. Tells how many they are then.
+fn remove(list: &mut [u64], n: usize, x: u64) -> usize
+    requires { ⌜ n ≤ length (now list) ⌝ }
+    ensures { λ r. ⌜ Keeping (now (list .entry)) (now (list .exit)) n (x ∷ []) r ⌝ }
+{
+    let mut i = find(list, n, x);
+    let mut kept = i;
     while i < n {
-        let x = list[i];
-        if !entries::names(bytes, x) {
-            list[kept] = x;
+        let y = list[i];
+        if y != x {
+            list[kept] = y;
             kept += 1;
         }
         i += 1;
     }
     kept
+}
+
+// `keep_others`, one entry after the other.
+fn keep_others_by_search(list: &mut [u64], n: usize, bytes: &[u8]) -> usize
+    requires { ⌜ n ≤ length (now list) ⌝ }
+    ensures { λ r. ⌜ Keeping (now (list .entry)) (now (list .exit)) n (entriesOf (now (bytes .entry))) r ⌝ }
+{
+    let mut kept = n;
+    let end = entries::count(bytes);
+    let mut i = 0;
+    while i < end {
+        let x = entries::entry_at(bytes, i);
+        kept = remove(list, kept, x);
+        i += 1;
+    }
+    kept
+}
+
+// Moves the PGNs that no entry names to the front, in their order, and tells how many they are.
+pub fn keep_others(list: &mut [u64], n: usize, bytes: &[u8]) -> usize
+    requires { ⌜ n ≤ length (now list) ⌝ }
+    ensures { λ r. ⌜ Keeping (now (list .entry)) (now (list .exit)) n (entriesOf (now (bytes .entry))) r ⌝ }
+{
+    if entries::count(bytes) < MANY {
+        return keep_others_by_search(list, n, bytes);
+    }
+    index::keep_others(list, n, bytes)
 }

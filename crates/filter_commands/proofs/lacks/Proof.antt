@@ -1,86 +1,41 @@
--- `filter_commands::lacks` meets its contract: a walk over the entries that stops at the first one that the list lacks. Assumes nothing.
-use mathlib.Core.Path.{refl, sym}
-use Prim.Native.Nat.{_-_}
-use native.Mathlib.Omega.{arith}
+-- `filter_commands::lacks` meets its contract: what is listed are the first n. Assumes nothing.
+use mathlib.Core.Path.{ap, _∙_}
+use mathlib.Core.Bool.{not}
 use borrow.Author.Needs.{needs}
-use Rattle.entries.specs.Entries.{every, entriesOf}
+use Rattle.entries.specs.Entries.{listed, every, entriesOf}
 use Rattle.filter_commands.specs.Changes.{lacks}
-use Rattle.storage.proofs.Walk.{left-all, left-none}
-use Rattle.filter.proofs.Meaning.{list-long}
-use Rattle.filter_commands.proofs.Lacking.{LeftListed, lacks-here, lacks-not}
+use Rattle.filter.proofs.Meaning.{front}
 use Rattle.filter_commands.proofs.lacks.Statement.{statement}
 use Rattle.filter_commands.proofs.lacks.Tie as tie
 
-abbrev Inv-loop : tie.InvT-loop
-Inv-loop block bytes n end i₀ i = LeftListed block (entriesOf bytes) i
-
-abbrev μ-loop : tie.MeasureT-loop
-μ-loop block bytes n end i₀ i = end - i
-
-count-requires : tie.Need-count-requires Inv-loop μ-loop
+count-requires : tie.Need-count-requires
 count-requires c κs = search needs
 
-count-requires-2 : tie.Need-count-requires-2 Inv-loop μ-loop
-count-requires-2 c κs = search needs
+sub-lists-all : tie.Need-sub-lists-all
+sub-lists-all c = search needs
 
-loop-holds : tie.Need-loop-holds Inv-loop μ-loop
-loop-holds c = left-all refl
+part-lists-all-start : tie.Need-part-lists-all-start
+part-lists-all-start c = search needs
 
-entry-at-requires : tie.Need-entry-at-requires Inv-loop μ-loop
-entry-at-requires c κs = omega arith
+part-lists-all-end : tie.Need-part-lists-all-end
+part-lists-all-end c = search needs
 
-sub-find : tie.Need-sub-find Inv-loop μ-loop
-sub-find c = omega arith
+lists-all-requires : tie.Need-lists-all-requires
+lists-all-requires c κs = search needs
 
-part-find-start : tie.Need-part-find-start Inv-loop μ-loop
-part-find-start c = omega arith
-
-part-find-end : tie.Need-part-find-end Inv-loop μ-loop
-part-find-end c = omega arith
-
-find-requires : tie.Need-find-requires Inv-loop μ-loop
-find-requires c κs =
-    let start = c .before .before .before .before .before .before .before .before in
-    omega (arith, list-long (start .args .block .now) (start .pre))
-
-returns : tie.Need-returns Inv-loop μ-loop
+returns : tie.Need-returns
+unfolding lacks
 returns c =
-    let at = c .before .before .before .before .before in
-    let start = at .before .before .before .before .before in
-    sym (lacks-here (start .pre) (at .before .before .count .ensures) (at .loop .inv) (omega arith) (c .before .before .before .entry-at .ensures) (c .before .find .ensures) (c .if1 .taken))
-
-add-i : tie.Need-add-i Inv-loop μ-loop
-add-i c = omega arith
-
-loop-less : tie.Need-loop-less Inv-loop μ-loop
-loop-less c = omega arith
-
-loop-again : tie.Need-loop-again Inv-loop μ-loop
-loop-again c =
-    let at = c .before .before .before .before .before in
-    let start = at .before .before .before .before .before in
-    lacks-not (start .pre) (at .before .before .count .ensures) (at .loop .inv) (omega arith) (c .before .before .before .entry-at .ensures) (c .before .find .ensures) (c .if1 .left)
-
-returns-2 : tie.Need-returns-2 Inv-loop μ-loop
-unfolding lacks every
-returns-2 c = sym (left-none (c .before .loop .inv) (omega arith))
+    let xs = entriesOf (c .before .before .before .before .before .args .bytes .now) in
+    ap not (c .lists-all .ensures) ∙ ap (λ es. not (every (λ x. listed x es) xs)) (front (c .before .before .count .ensures))
 
 pub lacks-spec : {M : Type 1} → statement M
 lacks-spec =
     tie.close
     (tie.spec
-    Inv-loop
-    μ-loop
     count-requires
-    count-requires-2
-    loop-holds
-    entry-at-requires
-    sub-find
-    part-find-start
-    part-find-end
-    find-requires
-    returns
-    add-i
-    loop-less
-    loop-again
-    returns-2)
+    sub-lists-all
+    part-lists-all-start
+    part-lists-all-end
+    lists-all-requires
+    returns)

@@ -1,14 +1,15 @@
--- `pgn_list::extend` meets its contract: a walk over the entries, in which a listed one changes nothing, another joins the end, and one too many stops it. Assumes nothing.
+-- `pgn_list::extend_by_search` meets its contract: a walk over the entries, in which a listed one changes nothing, another joins the end, and one too many stops it. Assumes nothing.
 use mathlib.Core.Logic.{⊎-elim}
-use mathlib.Core.Path.{refl}
+use mathlib.Core.Path.{refl, sym, _∙_}
 use Prim.Native.Nat.{_-_}
 use native.Mathlib.Omega.{arith}
 use borrow.Author.Needs.{needs}
+use borrow.Author.Tests.{not-true, not-false}
 use Rattle.entries.specs.Entries.{entriesOf}
 use Rattle.storage.proofs.Walk.{left-all}
 use Rattle.pgn_list.proofs.Changes.{Held, held-listed, held-new, held-over, held-all}
-use Rattle.pgn_list.proofs.extend.Statement.{statement}
-use Rattle.pgn_list.proofs.extend.Tie as tie
+use Rattle.pgn_list.proofs.extend_by_search.Statement.{statement}
+use Rattle.pgn_list.proofs.extend_by_search.Tie as tie
 
 abbrev Inv-loop : tie.InvT-loop
 Inv-loop list₀ n bytes held₀ end i₀ list held i = Held list₀ list n (entriesOf bytes) held i
@@ -25,8 +26,8 @@ loop-holds c = record { left = left-all refl; few = c .before .before .before .p
 entry-at-requires : tie.Need-entry-at-requires Inv-loop μ-loop
 entry-at-requires c κs = omega arith
 
-find-requires : tie.Need-find-requires Inv-loop μ-loop
-find-requires c κs = omega arith
+is-listed-requires : tie.Need-is-listed-requires Inv-loop μ-loop
+is-listed-requires c κs = omega arith
 
 add-result : tie.Need-add-result Inv-loop μ-loop
 add-result c = omega arith
@@ -35,7 +36,7 @@ same-length : tie.Need-same-length Inv-loop μ-loop
 same-length c = omega arith
 
 returns : tie.Need-returns Inv-loop μ-loop
-returns c = held-over (c .before .before .before .before .before .before .loop .inv) (omega arith) (c .before .before .before .before .entry-at .ensures) (c .before .before .find .ensures) (c .before .if1 .taken) (c .if2 .taken)
+returns c = held-over (c .before .before .before .before .before .before .loop .inv) (omega arith) (c .before .before .before .before .entry-at .ensures) (sym (c .before .before .is-listed .ensures) ∙ not-true _ (c .before .if1 .taken)) (c .if2 .taken)
 
 mul-list : tie.Need-mul-list Inv-loop μ-loop
 mul-list c = omega arith
@@ -56,8 +57,8 @@ loop-again : tie.Need-loop-again Inv-loop μ-loop
 loop-again c =
     let at = c .before .before .before .before .before in
     ⊎-elim
-    (λ w. rw (w .2, w .3) (held-new (at .loop .inv) (omega arith) (c .before .before .before .entry-at .ensures) (c .before .find .ensures) (w .0 .taken) (w .1 .left)))
-    (λ w. rw (w .1, w .2) (held-listed (at .loop .inv) (omega arith) (c .before .before .before .entry-at .ensures) (c .before .find .ensures) (w .0 .left)))
+    (λ w. rw (w .2, w .3) (held-new (at .loop .inv) (omega arith) (c .before .before .before .entry-at .ensures) (sym (c .before .is-listed .ensures) ∙ not-true _ (w .0 .taken)) (w .1 .left)))
+    (λ w. rw (w .1, w .2) (held-listed (at .loop .inv) (omega arith) (c .before .before .before .entry-at .ensures) (sym (c .before .is-listed .ensures) ∙ not-false _ (w .0 .left))))
     (c .if1 .came)
 
 same-length-2 : tie.Need-same-length-2 Inv-loop μ-loop
@@ -66,8 +67,8 @@ same-length-2 c = omega arith
 returns-2 : tie.Need-returns-2 Inv-loop μ-loop
 returns-2 c = held-all (c .before .loop .inv) (omega arith)
 
-pub extend-spec : {M : Type 1} → statement M
-extend-spec =
+pub extend-by-search-spec : {M : Type 1} → statement M
+extend-by-search-spec =
     tie.close
     (tie.spec
     Inv-loop
@@ -75,7 +76,7 @@ extend-spec =
     count-requires
     loop-holds
     entry-at-requires
-    find-requires
+    is-listed-requires
     add-result
     same-length
     returns
