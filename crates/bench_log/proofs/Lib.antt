@@ -1,0 +1,4 @@
+pub mod Log
+pub mod Steps
+pub mod WholeRun
+pub mod Pieces

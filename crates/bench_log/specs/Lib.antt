@@ -1,0 +1,3 @@
+pub mod Log
+pub mod Step
+pub mod Run

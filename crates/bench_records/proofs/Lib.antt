@@ -1,0 +1,4 @@
+pub mod Records
+pub mod Numbers
+pub mod Turns
+pub mod Again
