@@ -18,20 +18,23 @@ uint32_t milliseconds(void);
 void count_lost(uint64_t ports);
 void count_own_lost(uint64_t ports);
 
-static uint64_t unit[DEORASAENG_RECORD_WORDS];
+/* A box with another number of buses has it here. */
+enum { PORTS = 4, WORDS = DEORASAENG_RECORD_WORDS_FOR(PORTS) };
+
+static uint64_t unit[WORDS];
 static const uint32_t address = 0x80;
 
 /* For each port: a frame that was taken and is not sent yet, and an answer to a network message that is to go out first. */
-static struct can_frame taken[4], answer_frame[4];
-static bool has_taken[4], has_answer[4];
+static struct can_frame taken[PORTS], answer_frame[PORTS];
+static bool has_taken[PORTS], has_answer[PORTS];
 static uint32_t quiet_at;
 static bool is_claiming;
 
 static void begin(void)
 {
     uint64_t told[DEORASAENG_START_ANSWER];
-    deorasaeng_power_on(unit, DEORASAENG_RECORD_WORDS, 0x20001C000AC00123, address);
-    if (deorasaeng_start(unit, DEORASAENG_RECORD_WORDS, told, DEORASAENG_START_ANSWER) != DEORASAENG_DONE)
+    deorasaeng_power_on_ports(unit, WORDS, 0x20001C000AC00123, address, PORTS);
+    if (deorasaeng_start(unit, WORDS, told, DEORASAENG_START_ANSWER) != DEORASAENG_DONE)
         return; /* a preferred address over 253 */
     count_own_lost(told[DEORASAENG_START_OWN_LOST]);
     is_claiming = told[DEORASAENG_START_STATE] == DEORASAENG_STATE_CLAIMING; /* Lost: a lower NAME has the address already */
@@ -43,7 +46,7 @@ static void message(uint32_t port, uint32_t requester, const uint8_t *payload, s
 {
     static uint8_t reply[DEORASAENG_REPLY_BYTES];
     uint64_t told[DEORASAENG_MESSAGE_ANSWER];
-    deorasaeng_message(unit, DEORASAENG_RECORD_WORDS, port, requester, payload, length, reply, sizeof reply, told, DEORASAENG_MESSAGE_ANSWER);
+    deorasaeng_message(unit, WORDS, port, requester, payload, length, reply, sizeof reply, told, DEORASAENG_MESSAGE_ANSWER);
     if (told[DEORASAENG_WRITTEN] > 8) {
         transport_send(port, requester, reply, told[DEORASAENG_WRITTEN]);
         return;
@@ -73,7 +76,7 @@ static void consumed(uint32_t port, const struct can_frame *frame)
 static void received(uint32_t port, const struct can_frame *frame)
 {
     uint64_t told[DEORASAENG_FRAME_ANSWER];
-    if (deorasaeng_frame(unit, DEORASAENG_RECORD_WORDS, port, frame->id, frame->bytes, frame->len, told, DEORASAENG_FRAME_ANSWER) != DEORASAENG_DONE)
+    if (deorasaeng_frame(unit, WORDS, port, frame->id, frame->bytes, frame->len, told, DEORASAENG_FRAME_ANSWER) != DEORASAENG_DONE)
         return;
     count_lost(told[DEORASAENG_LOST]);
     count_own_lost(told[DEORASAENG_OWN_LOST]);
@@ -91,7 +94,7 @@ static void transmit(uint32_t port)
         has_answer[i] = false;
     if (!has_taken[i]) {
         uint64_t told[DEORASAENG_TAKE_ANSWER];
-        deorasaeng_take(unit, DEORASAENG_RECORD_WORDS, port, told, DEORASAENG_TAKE_ANSWER, taken[i].bytes, DEORASAENG_FRAME_BYTES);
+        deorasaeng_take(unit, WORDS, port, told, DEORASAENG_TAKE_ANSWER, taken[i].bytes, DEORASAENG_FRAME_BYTES);
         taken[i].id = (uint32_t)told[DEORASAENG_ID];
         taken[i].len = (uint8_t)told[DEORASAENG_LENGTH];
         has_taken[i] = told[DEORASAENG_GIVEN] != 0;
@@ -105,13 +108,13 @@ int main(void)
     struct can_frame frame;
     begin();
     for (;;) {
-        for (uint32_t port = 1; port <= 4; port++) {
+        for (uint32_t port = 1; port <= PORTS; port++) {
             if (!has_answer[port - 1] && ring_pop(port, &frame)) /* an answer goes out before the next frame comes in */
                 received(port, &frame);
             transmit(port);
         }
         if (is_claiming && (int32_t)(milliseconds() - quiet_at) >= 0) {
-            deorasaeng_quiet(unit, DEORASAENG_RECORD_WORDS);
+            deorasaeng_quiet(unit, WORDS);
             is_claiming = false;
         }
     }

@@ -10,7 +10,7 @@ static const char *words_of(uint32_t number)
 {
     switch ((enum deorasaeng_number)number) {
     case DEORASAENG_DONE: return "done";
-    case DEORASAENG_WRONG_PORT: return "port not 1 to 4";
+    case DEORASAENG_WRONG_PORT: return "port not 1 to the number of ports";
     case DEORASAENG_WRONG_IDENTIFIER: return "identifier 2^29 or more";
     case DEORASAENG_NOT_CLAIMED: return "unit not Claimed";
     case DEORASAENG_ACCESS_DENIED: return "pair or port not this tool's";

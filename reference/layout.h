@@ -1,19 +1,37 @@
-/* Where the record's regions begin, in words, for C that reads or fills a record itself: the unit's own words, the pairs, the queues, the address table. */
+/* Where the record's regions begin, in words, for C that reads or fills a record itself: the unit's own words, the address table, the queues, and the pairs in order of
+   From, then To, which alone lie elsewhere with another number of ports. */
 #ifndef LAYOUT_H
 #define LAYOUT_H
 
 #include "../include/deorasaeng.h"
 
-enum { PORTS = 4, LIST = 32, QUEUE = 32, PLACES = 254 };
+enum { USUAL_PORTS = 4, FEWEST_PORTS = DEORASAENG_FEWEST_PORTS, MOST_PORTS = DEORASAENG_MOST_PORTS, LIST = 32, QUEUE = 32, PLACES = 254 };
 
-/* A pair is its mode, its count and its list; a queue its count and two words for each frame; a place of the table its port and its NAME. */
+/* The unit's own words are its claim state, address, preferred address, NAME and number of ports. A place of the table is its port and its NAME; a queue its count and two
+   words for each frame; a pair its mode, its count and its list. */
 enum {
-    PAIR_WORDS = 2 + LIST,
-    QUEUE_WORDS = DEORASAENG_QUEUE_WORDS,
+    PORTS_AT = 4,
+    TABLE_AT = 5,
     PLACE_WORDS = 2,
-    PAIRS_AT = 4,
-    QUEUES_AT = PAIRS_AT + PAIR_WORDS * PORTS * (PORTS - 1),
-    TABLE_AT = QUEUES_AT + QUEUE_WORDS * PORTS
+    QUEUES_AT = TABLE_AT + PLACE_WORDS * PLACES,
+    QUEUE_WORDS = DEORASAENG_QUEUE_WORDS,
+    PAIR_WORDS = 2 + LIST,
+    MOST_WORDS = DEORASAENG_RECORD_WORDS_FOR(MOST_PORTS)
 };
+
+#define PAIRS_AT(ports) (QUEUES_AT + QUEUE_WORDS * (ports))
+
+/* The pair of two different ports, as its number in that order. */
+static inline uint32_t pair_number(uint32_t ports, uint32_t from, uint32_t to)
+{
+    return (ports - 1) * (from - 1) + (to < from ? to - 1 : to - 2);
+}
+
+/* How many ports a record says, whatever its length: four where it says no count. */
+static inline uint32_t ports_of(const uint64_t *record, size_t record_len)
+{
+    int is_count = record_len > PORTS_AT && record[PORTS_AT] >= FEWEST_PORTS && record[PORTS_AT] <= MOST_PORTS;
+    return is_count ? (uint32_t)record[PORTS_AT] : USUAL_PORTS;
+}
 
 #endif

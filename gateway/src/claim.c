@@ -13,21 +13,21 @@
 /* How long Start waits for interfaces that are not up. */
 #define START_PATIENCE (5 * CLOCK_SECOND)
 
-static int ports_up(const struct gateway *gateway)
+static uint32_t ports_up(const struct gateway *gateway)
 {
-    int up = 0;
-    for (int i = 0; i < GATEWAY_PORTS; i++)
+    uint32_t up = 0;
+    for (uint32_t i = 0; i < gateway->options.ports; i++)
         up += gateway->ports[i].interface.state == INTERFACE_UP;
     return up;
 }
 
 static bool may_start(const struct gateway *gateway, int64_t now)
 {
-    int up = ports_up(gateway);
-    return up == GATEWAY_PORTS || (up > 0 && now >= gateway->began_at + START_PATIENCE);
+    uint32_t up = ports_up(gateway);
+    return up == gateway->options.ports || (up > 0 && now >= gateway->began_at + START_PATIENCE);
 }
 
-static bool start(struct gateway *gateway, int64_t now)
+static bool start(struct gateway *gateway)
 {
     uint64_t own_lost;
     uint32_t number = unit_start(&gateway->unit, &own_lost);
@@ -35,15 +35,15 @@ static bool start(struct gateway *gateway, int64_t now)
         log_line(LOG_ERROR, "Start refused with %" PRIu32, number);
         return false;
     }
-    for (int i = 0; i < GATEWAY_PORTS; i++) {
+    for (uint32_t i = 0; i < gateway->options.ports; i++) {
         bool lost = (own_lost >> i & 1) != 0;
         gateway->ports[i].counts.own += !lost;
         gateway->ports[i].counts.own_lost += lost;
     }
     struct unit_answer told = unit_tell(&gateway->unit);
-    gateway->quiet_at = now + QUIET_AFTER;
-    log_line(LOG_INFO, "Start: NAME %016" PRIX64 " claims address %" PRIu32 ", %d of %d interfaces up", told.name, told.preferred, ports_up(gateway),
-             GATEWAY_PORTS);
+    gateway->quiet_at = clock_now() + QUIET_AFTER;
+    log_line(LOG_INFO, "Start: NAME %016" PRIX64 " claims address %" PRIu32 ", %" PRIu32 " of %" PRIu32 " interfaces up", told.name, told.preferred,
+             ports_up(gateway), gateway->options.ports);
     if (told.state == DEORASAENG_STATE_LOST) /* the ports are read already: with a lists file no claim was heard yet */
         log_line(LOG_WARNING, "Lost: address %" PRIu32 " is held by a lower NAME", told.preferred);
     return true;
@@ -78,7 +78,7 @@ bool gateway_claim(struct gateway *gateway, int64_t now)
 {
     enum deorasaeng_state state = unit_state(&gateway->unit);
     if (state == DEORASAENG_STATE_UNSTARTED && may_start(gateway, now))
-        return start(gateway, now);
+        return start(gateway);
     if (state == DEORASAENG_STATE_CLAIMING && now >= gateway->quiet_at)
         return quiet(gateway);
     return true;

@@ -10,13 +10,13 @@
 struct gateway {
     struct options options;
     struct unit unit;
-    struct port ports[GATEWAY_PORTS];
+    struct port ports[GATEWAY_PORTS_MAX]; /* the first options.ports of them */
     struct lists lists;      /* from the file */
     struct saver saver;
     bool reading;            /* the ports are read; not before the lists of a file stand */
     int64_t began_at;
     int64_t quiet_at;        /* 250 ms after Start */
-    uint32_t kinds_told[GATEWAY_PORTS]; /* bit k: other_kind k was told */
+    uint32_t kinds_told[GATEWAY_PORTS_MAX]; /* bit k: other_kind k was told */
 };
 
 /* receive.c: reads one frame at a port and acts on it. */

@@ -32,6 +32,7 @@ bool lists_equal(const struct lists *a, const struct lists *b)
 /* One line of the text while it is read. */
 struct line {
     const char *at, *end;
+    uint32_t ports;      /* how many there are */
     char word[WORD_MAX]; /* the last word that was read */
     char *error;         /* lists_error.text */
 };
@@ -91,8 +92,8 @@ static bool read_port(struct line *line, uint32_t *port)
 {
     if (next_word(line) != 1)
         return wrong(line, "two ports, a mode and PGNs are needed");
-    if (!word_number(line->word, LISTS_PORTS, port) || *port == 0)
-        return wrong(line, "%s is not a port, 1 to %d", line->word, LISTS_PORTS);
+    if (!word_number(line->word, line->ports, port) || *port == 0)
+        return wrong(line, "%s is not a port, 1 to %" PRIu32, line->word, line->ports);
     return true;
 }
 
@@ -148,16 +149,16 @@ static bool read_pair(struct line *line, struct lists *lists)
     return word == 0 || wrong(line, "a word of %d bytes or more", WORD_MAX);
 }
 
-static bool read_line(const char *at, const char *end, struct lists *lists, char *error)
+static bool read_line(const char *at, const char *end, uint32_t ports, struct lists *lists, char *error)
 {
-    struct line line = {at, end, "", error};
+    struct line line = {at, end, ports, "", error};
     struct line look = line;
     if (memchr(at, '\0', (size_t)(end - at)) != NULL)
         return wrong(&line, "a byte 0");
     return next_word(&look) == 0 || read_pair(&line, lists);
 }
 
-bool lists_parse(const char *text, size_t length, struct lists *lists, struct lists_error *error)
+bool lists_parse(const char *text, size_t length, uint32_t ports, struct lists *lists, struct lists_error *error)
 {
     struct lists read;
     const char *at = text, *end = text + length;
@@ -167,7 +168,7 @@ bool lists_parse(const char *text, size_t length, struct lists *lists, struct li
         const char *feed = memchr(at, '\n', (size_t)(end - at));
         const char *line_end = feed == NULL ? end : feed;
         error->line++;
-        if (!read_line(at, line_end, &read, error->text))
+        if (!read_line(at, line_end, ports, &read, error->text))
             return false;
         at = feed == NULL ? end : feed + 1;
     }

@@ -1,4 +1,4 @@
-/* The filter lists of the twelve directed pairs, and their text.
+/* The filter lists of the directed pairs, and their text.
 
    A line is a pair, its mode and its PGNs: `1 2 block 61444 65265`. A pair that has no line is cleared; a pair without PGNs is an emptied list, which is not the
    same (an emptied pass list lets nothing cross). PGNs are decimal or 0x hex. `#` begins a comment. */
@@ -9,7 +9,7 @@
 #include <stddef.h>
 #include <stdint.h>
 
-#define LISTS_PORTS 4
+#define LISTS_PORTS 8
 #define LISTS_ENTRIES 32
 #define LISTS_TEXT_MAX 16384
 
@@ -21,7 +21,7 @@ struct list {
     uint32_t pgns[LISTS_ENTRIES]; /* in order of addition; 0 past the count */
 };
 
-/* The list from port p to port q stands at pair[p - 1][q - 1]; where p is q it is cleared. */
+/* The list from port p to port q stands at pair[p - 1][q - 1]; where p is q, or a port is none, it is cleared. */
 struct lists {
     struct list pair[LISTS_PORTS][LISTS_PORTS];
 };
@@ -36,8 +36,8 @@ const char *list_mode_word(enum list_mode mode);
 
 bool lists_equal(const struct lists *a, const struct lists *b);
 
-/* Reads a text whole, or tells the first wrong line and leaves `lists` alone. */
-bool lists_parse(const char *text, size_t length, struct lists *lists, struct lists_error *error);
+/* Reads a text whole, for so many ports, or tells the first wrong line and leaves `lists` alone. */
+bool lists_parse(const char *text, size_t length, uint32_t ports, struct lists *lists, struct lists_error *error);
 
 /* Writes the text; LISTS_TEXT_MAX bytes are enough. The length, or 0 where `size` is not enough. */
 size_t lists_print(const struct lists *lists, char *text, size_t size);

@@ -42,7 +42,7 @@ static bool refuse(struct lists_error *error, const char *text)
     return false;
 }
 
-bool lists_file_load(const char *path, struct lists *lists, struct lists_error *error)
+bool lists_file_load(const char *path, uint32_t ports, struct lists *lists, struct lists_error *error)
 {
     static char text[LISTS_TEXT_MAX + 1];
     char folder[PATH_MAX];
@@ -59,7 +59,7 @@ bool lists_file_load(const char *path, struct lists *lists, struct lists_error *
         return refuse(error, "a file of over 16,384 bytes");
     if (!folder_of(path, folder) || access(folder, W_OK) != 0)
         return refuse(error, "its folder cannot be written to, so no list could be saved");
-    return lists_parse(text, (size_t)length, lists, error);
+    return lists_parse(text, (size_t)length, ports, lists, error);
 }
 
 static int write_all(int fd, const char *bytes, size_t length)

@@ -12,8 +12,8 @@
 #include <sys/timerfd.h>
 #include <unistd.h>
 
-/* What an event is about: below GATEWAY_PORTS a port. */
-enum source { SOURCE_LINKS = GATEWAY_PORTS, SOURCE_TIMER, SOURCE_SIGNALS, SOURCE_STATUS, SOURCES };
+/* What an event is about: below GATEWAY_PORTS_MAX a port. */
+enum source { SOURCE_LINKS = GATEWAY_PORTS_MAX, SOURCE_TIMER, SOURCE_SIGNALS, SOURCE_STATUS, SOURCES };
 
 enum step { STEP_ON, STEP_END, STEP_FAILED };
 
@@ -74,7 +74,7 @@ bool loop_open(struct loop *loop, struct gateway *gateway)
 static int64_t deadline(const struct gateway *gateway)
 {
     int64_t at = clock_earlier(gateway_claim_deadline(gateway), saver_deadline(&gateway->saver));
-    for (int i = 0; i < GATEWAY_PORTS; i++)
+    for (uint32_t i = 0; i < gateway->options.ports; i++)
         at = clock_earlier(at, port_deadline(&gateway->ports[i]));
     return at;
 }
@@ -116,7 +116,7 @@ static enum step signalled(const struct loop *loop, struct gateway *gateway, int
 static void look_at_links(const struct loop *loop, struct gateway *gateway)
 {
     links_drain(loop->links);
-    for (int i = 0; i < GATEWAY_PORTS; i++)
+    for (uint32_t i = 0; i < gateway->options.ports; i++)
         port_look(&gateway->ports[i]);
 }
 
@@ -147,7 +147,7 @@ static bool read_ports(struct loop *loop, const struct gateway *gateway)
     if (loop->reading || !gateway->reading)
         return true;
     loop->reading = true;
-    for (uint32_t i = 0; i < GATEWAY_PORTS; i++)
+    for (uint32_t i = 0; i < gateway->options.ports; i++)
         if (!watch(loop, gateway->ports[i].interface.fd, i))
             return false;
     return true;
@@ -160,7 +160,7 @@ static bool settle(struct loop *loop, struct gateway *gateway)
     if (!gateway_claim(gateway, now) || !read_ports(loop, gateway))
         return false;
     saver_step(&gateway->saver, &gateway->unit.lists, now);
-    for (int i = 0; i < GATEWAY_PORTS; i++)
+    for (uint32_t i = 0; i < gateway->options.ports; i++)
         port_due(&gateway->ports[i], now);
     gateway_transmit(gateway, now);
     return arm(loop, deadline(gateway));

@@ -1,4 +1,4 @@
-/* deorasaeng-gateway: the proved bridge on four interfaces of SocketCAN. */
+/* deorasaeng-gateway: the proved bridge on two to eight interfaces of SocketCAN. */
 #include "clock.h"
 #include "gateway.h"
 #include "lists_file.h"
@@ -18,7 +18,7 @@ static bool load_lists(struct gateway *gateway)
 {
     struct lists_error error;
     const char *path = gateway->options.lists;
-    if (path == NULL || lists_file_load(path, &gateway->lists, &error))
+    if (path == NULL || lists_file_load(path, gateway->options.ports, &gateway->lists, &error))
         return true;
     if (error.line == 0)
         fprintf(stderr, "%s: %s: %s\n", PROGRAM, path, error.text);
@@ -29,7 +29,7 @@ static bool load_lists(struct gateway *gateway)
 
 static bool open_ports(struct gateway *gateway)
 {
-    for (uint32_t i = 0; i < GATEWAY_PORTS; i++)
+    for (uint32_t i = 0; i < gateway->options.ports; i++)
         if (!port_open(&gateway->ports[i], i + 1, gateway->options.interfaces[i])) {
             fprintf(stderr, "%s: %s: %s\n", PROGRAM, gateway->options.interfaces[i], errno == ENODEV ? "no such CAN interface" : strerror(errno));
             return false;
@@ -43,7 +43,7 @@ static int run(struct gateway *gateway)
     gateway->began_at = clock_now();
     gateway->saver.path = gateway->options.lists;
     gateway->reading = gateway->options.lists == NULL;
-    uint32_t number = unit_power_on(&gateway->unit, gateway->options.name, gateway->options.address);
+    uint32_t number = unit_power_on(&gateway->unit, gateway->options.name, gateway->options.address, gateway->options.ports);
     if (number != 0) {
         log_line(LOG_ERROR, "power-on refused with %u", number);
         return EXIT_FAILED;

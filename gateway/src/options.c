@@ -12,8 +12,8 @@
 #define ADDRESS_MAX 253
 
 const char OPTIONS_USAGE[] =
-    "usage: deorasaeng-gateway --name NAME --address ADDRESS [options] IF1 IF2 IF3 IF4\n"
-    "A bridge between four CAN interfaces; IF1 is port 1, the service port.\n"
+    "usage: deorasaeng-gateway --name NAME --address ADDRESS [options] IF1 IF2 ..\n"
+    "A bridge between two to eight CAN interfaces; IF1 is port 1, the service port.\n"
     "  --name NAME        the unit's NAME, 64 bits in hex (ISO 11783-5), unique on the buses\n"
     "  --address ADDRESS  the address it claims, 0 to 253 (0x80 is hex)\n"
     "  --lists FILE       filter lists, set from FILE at start and saved there when a command changed one\n"
@@ -85,10 +85,11 @@ static bool read_value(int option, const char *value, struct options *options, s
 
 static bool read_interfaces(int count, char *words[], struct options *options, char *error)
 {
-    if (count != GATEWAY_PORTS) {
-        snprintf(error, ERROR_SIZE, "%d interfaces given, %d needed", count, GATEWAY_PORTS);
+    if (count < GATEWAY_PORTS_MIN || count > GATEWAY_PORTS_MAX) {
+        snprintf(error, ERROR_SIZE, "%d interfaces given, %d to %d needed", count, GATEWAY_PORTS_MIN, GATEWAY_PORTS_MAX);
         return false;
     }
+    options->ports = (uint32_t)count;
     for (int i = 0; i < count; i++) {
         if (words[i][0] == '\0' || strlen(words[i]) >= IFNAMSIZ) {
             snprintf(error, ERROR_SIZE, "%.40s: not the name of an interface", words[i]);

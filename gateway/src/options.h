@@ -2,19 +2,23 @@
 #ifndef GATEWAY_OPTIONS_H
 #define GATEWAY_OPTIONS_H
 
+#include "../../include/deorasaeng.h"
 #include "log.h"
 
 #include <stdint.h>
 
-#define GATEWAY_PORTS 4
+/* As few and as many as the unit has. */
+#define GATEWAY_PORTS_MIN DEORASAENG_FEWEST_PORTS
+#define GATEWAY_PORTS_MAX DEORASAENG_MOST_PORTS
 
 struct options {
-    uint64_t name;                         /* the unit's NAME */
-    uint32_t address;                      /* its preferred address, 0 to 253 */
-    const char *lists;                     /* the lists file, or NULL */
-    const char *status;                    /* the status socket's path, or NULL */
+    uint64_t name;                             /* the unit's NAME */
+    uint32_t address;                          /* its preferred address, 0 to 253 */
+    const char *lists;                         /* the lists file, or NULL */
+    const char *status;                        /* the status socket's path, or NULL */
     enum log_level log;
-    const char *interfaces[GATEWAY_PORTS]; /* port p's at p - 1 */
+    uint32_t ports;                            /* how many interfaces there are .. */
+    const char *interfaces[GATEWAY_PORTS_MAX]; /* .. port p's at p - 1 */
 };
 
 enum options_read { OPTIONS_RUN, OPTIONS_HELP, OPTIONS_WRONG };

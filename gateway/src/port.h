@@ -28,7 +28,7 @@ struct port_counts {
 };
 
 struct port {
-    uint32_t number; /* 1 to 4 */
+    uint32_t number; /* from 1 */
     struct interface interface;
     struct transmit transmit;
     struct port_counts counts;

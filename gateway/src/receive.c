@@ -17,10 +17,10 @@ static bool in_mask(uint64_t mask, uint32_t port)
     return (mask >> (port - 1) & 1) != 0;
 }
 
-/* The answer at the three exits, and the unit's own frame at all four. */
+/* The answer at the exits, and the unit's own frame at every port. */
 static void count_answer(struct gateway *gateway, const struct port *arrival, const struct frame_answer *answer)
 {
-    for (int i = 0; i < GATEWAY_PORTS; i++) {
+    for (uint32_t i = 0; i < gateway->options.ports; i++) {
         struct port *exit = &gateway->ports[i];
         bool accepted = in_mask(answer->accepted, exit->number), lost = in_mask(answer->lost, exit->number);
         bool own_lost = in_mask(answer->own_lost, exit->number);
@@ -184,6 +184,6 @@ void gateway_receive(struct gateway *gateway, struct port *port, int64_t now)
 
 void gateway_transmit(struct gateway *gateway, int64_t now)
 {
-    for (int i = 0; i < GATEWAY_PORTS; i++)
+    for (uint32_t i = 0; i < gateway->options.ports; i++)
         port_transmit(&gateway->ports[i], &gateway->unit, now);
 }

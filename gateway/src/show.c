@@ -9,7 +9,7 @@
 #include <sys/un.h>
 #include <unistd.h>
 
-#define DOCUMENT_BYTES 65536
+#define DOCUMENT_BYTES 131072
 #define WORD_BYTES 32
 
 static char document[DOCUMENT_BYTES];
@@ -33,7 +33,8 @@ static void show_unit(const char *unit)
     char name[WORD_BYTES], state[WORD_BYTES];
     json_read_string(json_member(unit, "name"), name, sizeof name);
     json_read_string(json_member(unit, "state"), state, sizeof state);
-    printf("unit: NAME %s, address %" PRIu64 ", %s, for %" PRIu64 " s\n\n", name, number_in(unit, "preferred"), state, number_in(unit, "seconds"));
+    printf("unit: NAME %s, address %" PRIu64 ", %s, %" PRIu64 " ports, for %" PRIu64 " s\n\n", name, number_in(unit, "preferred"), state,
+           number_in(unit, "ports"), number_in(unit, "seconds"));
 }
 
 static void show_port(const char *port)

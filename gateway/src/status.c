@@ -36,6 +36,7 @@ static void write_unit(struct json *json, const struct gateway *gateway, int64_t
     json_object(json, "unit");
     json_hex(json, "name", told.name);
     json_number(json, "preferred", told.preferred);
+    json_number(json, "ports", told.ports);
     json_string(json, "state", claim_state_word(told.state));
     if (told.address == DEORASAENG_NO_ADDRESS)
         json_null(json, "address");
@@ -93,11 +94,11 @@ static void write_port(struct json *json, const struct port *port)
     json_end_object(json);
 }
 
-static void write_list(struct json *json, int from, int to, const struct list *list)
+static void write_list(struct json *json, uint32_t from, uint32_t to, const struct list *list)
 {
     json_object(json, NULL);
-    json_number(json, "from", (uint64_t)from);
-    json_number(json, "to", (uint64_t)to);
+    json_number(json, "from", from);
+    json_number(json, "to", to);
     json_string(json, "mode", list_mode_word(list->mode));
     json_array(json, "pgns");
     for (uint32_t i = 0; i < list->count; i++)
@@ -109,8 +110,8 @@ static void write_list(struct json *json, int from, int to, const struct list *l
 static void write_lists(struct json *json, const struct gateway *gateway)
 {
     json_array(json, "lists");
-    for (int from = 1; from <= LISTS_PORTS; from++)
-        for (int to = 1; to <= LISTS_PORTS; to++)
+    for (uint32_t from = 1; from <= gateway->options.ports; from++)
+        for (uint32_t to = 1; to <= gateway->options.ports; to++)
             if (from != to)
                 write_list(json, from, to, &gateway->unit.lists.pair[from - 1][to - 1]);
     json_end_array(json);
@@ -129,7 +130,7 @@ static void write_addresses(struct json *json, struct gateway *gateway)
         return;
     }
     json_array(json, "addresses");
-    for (uint32_t port = 1; port <= GATEWAY_PORTS; port++) {
+    for (uint32_t port = 1; port <= gateway->options.ports; port++) {
         int count = unit_addresses(&gateway->unit, port, addresses);
         json_object(json, NULL);
         json_number(json, "port", port);
@@ -149,7 +150,7 @@ size_t status_write(struct gateway *gateway, int64_t now, char *bytes, size_t si
     json_object(&json, NULL);
     write_unit(&json, gateway, now);
     json_array(&json, "ports");
-    for (int i = 0; i < GATEWAY_PORTS; i++)
+    for (uint32_t i = 0; i < gateway->options.ports; i++)
         write_port(&json, &gateway->ports[i]);
     json_end_array(&json);
     write_lists(&json, gateway);

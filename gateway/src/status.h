@@ -5,7 +5,7 @@
 #include "gateway.h"
 
 /* A document is no longer than this. */
-#define STATUS_BYTES 32768
+#define STATUS_BYTES 65536
 
 /* Writes the document. Its length, or 0 where `size` is not enough. */
 size_t status_write(struct gateway *gateway, int64_t now, char *bytes, size_t size);

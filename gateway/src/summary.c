@@ -27,6 +27,6 @@ void gateway_summary(const struct gateway *gateway)
 {
     struct unit_answer told = unit_tell(&gateway->unit);
     log_always("summary: NAME %016" PRIX64 ", address %" PRIu32 " %s", told.name, told.preferred, claim_state_word(told.state));
-    for (int i = 0; i < GATEWAY_PORTS; i++)
+    for (uint32_t i = 0; i < gateway->options.ports; i++)
         summarize(&gateway->ports[i]);
 }

@@ -17,21 +17,24 @@ const char *claim_event_word(uint64_t event)
     return event < sizeof EVENTS / sizeof EVENTS[0] ? EVENTS[event] : "unknown";
 }
 
-uint32_t unit_power_on(struct unit *unit, uint64_t name, uint32_t preferred)
+uint32_t unit_power_on(struct unit *unit, uint64_t name, uint32_t preferred, uint32_t ports)
 {
     memset(unit, 0, sizeof *unit);
-    return deorasaeng_power_on(unit->record, DEORASAENG_RECORD_WORDS, name, preferred);
+    unit->words = DEORASAENG_RECORD_WORDS_FOR(ports);
+    unit->ports = ports;
+    return deorasaeng_power_on_ports(unit->record, unit->words, name, preferred, ports);
 }
 
 struct unit_answer unit_tell(const struct unit *unit)
 {
     uint64_t words[DEORASAENG_UNIT_ANSWER] = {0};
-    deorasaeng_unit(unit->record, DEORASAENG_RECORD_WORDS, words, DEORASAENG_UNIT_ANSWER);
+    deorasaeng_unit(unit->record, unit->words, words, DEORASAENG_UNIT_ANSWER);
     return (struct unit_answer){
         .state = (enum deorasaeng_state)words[DEORASAENG_UNIT_STATE],
         .address = (uint32_t)words[DEORASAENG_UNIT_ADDRESS],
         .preferred = (uint32_t)words[DEORASAENG_UNIT_PREFERRED],
         .name = words[DEORASAENG_UNIT_NAME],
+        .ports = (uint32_t)words[DEORASAENG_UNIT_PORTS],
     };
 }
 
@@ -54,7 +57,7 @@ void unit_frame(struct unit *unit, uint32_t port, const struct can_frame *frame,
 {
     uint64_t words[DEORASAENG_FRAME_ANSWER];
     memset(answer, 0, sizeof *answer);
-    answer->number = deorasaeng_frame(unit->record, DEORASAENG_RECORD_WORDS, port, frame->can_id & CAN_EFF_MASK, frame->data, frame->len,
+    answer->number = deorasaeng_frame(unit->record, unit->words, port, frame->can_id & CAN_EFF_MASK, frame->data, frame->len,
                                       words, DEORASAENG_FRAME_ANSWER);
     if (answer->number != 0)
         return;
@@ -72,7 +75,7 @@ bool unit_take(struct unit *unit, uint32_t port, struct can_frame *frame)
 {
     uint64_t words[DEORASAENG_TAKE_ANSWER];
     memset(frame, 0, sizeof *frame);
-    uint32_t number = deorasaeng_take(unit->record, DEORASAENG_RECORD_WORDS, port, words, DEORASAENG_TAKE_ANSWER, frame->data,
+    uint32_t number = deorasaeng_take(unit->record, unit->words, port, words, DEORASAENG_TAKE_ANSWER, frame->data,
                                       DEORASAENG_FRAME_BYTES);
     if (number != 0 || words[DEORASAENG_GIVEN] == 0)
         return false;
@@ -84,12 +87,12 @@ bool unit_take(struct unit *unit, uint32_t port, struct can_frame *frame)
 uint32_t unit_start(struct unit *unit, uint64_t *own_lost)
 {
     uint64_t words[DEORASAENG_START_ANSWER];
-    uint32_t number = deorasaeng_start(unit->record, DEORASAENG_RECORD_WORDS, words, DEORASAENG_START_ANSWER);
+    uint32_t number = deorasaeng_start(unit->record, unit->words, words, DEORASAENG_START_ANSWER);
     *own_lost = number == 0 ? words[DEORASAENG_START_OWN_LOST] : 0;
     return number;
 }
 
 uint32_t unit_quiet(struct unit *unit)
 {
-    return deorasaeng_quiet(unit->record, DEORASAENG_RECORD_WORDS);
+    return deorasaeng_quiet(unit->record, unit->words);
 }

@@ -12,7 +12,9 @@
 #define UNIT_ADDRESSES 254
 
 struct unit {
-    uint64_t record[DEORASAENG_RECORD_WORDS];
+    uint64_t record[DEORASAENG_RECORD_WORDS_FOR(DEORASAENG_MOST_PORTS)];
+    size_t words; /* of the record, for its number of ports */
+    uint32_t ports;
     struct lists lists; /* as last read; they change by messages alone, and every message passes here */
 };
 
@@ -22,6 +24,7 @@ struct unit_answer {
     uint32_t address; /* DEORASAENG_NO_ADDRESS for none */
     uint32_t preferred;
     uint64_t name;
+    uint32_t ports;
 };
 
 /* A frame's answer. Ports are masks, bit p - 1 for port p. */
@@ -30,7 +33,7 @@ struct frame_answer {
     bool consumed;
     uint64_t accepted, lost;
     uint64_t event, old_name;
-    bool own_sent;     /* the unit sent its claim or cannot-claim, to all four ports .. */
+    bool own_sent;     /* the unit sent its claim or cannot-claim, to every port .. */
     uint64_t own_lost; /* .. but these */
 };
 
@@ -47,13 +50,13 @@ const char *claim_state_word(enum deorasaeng_state state);
 /* The word for a claim event, or NULL for none. */
 const char *claim_event_word(uint64_t event);
 
-uint32_t unit_power_on(struct unit *unit, uint64_t name, uint32_t preferred);
+uint32_t unit_power_on(struct unit *unit, uint64_t name, uint32_t preferred, uint32_t ports);
 
 /* What the unit is now, and its claim state alone. */
 struct unit_answer unit_tell(const struct unit *unit);
 enum deorasaeng_state unit_state(const struct unit *unit);
 
-/* A frame of SocketCAN, 29-bit and no other, from port 1 to 4. */
+/* A frame of SocketCAN, 29-bit and no other, from a port. */
 void unit_frame(struct unit *unit, uint32_t port, const struct can_frame *frame, struct frame_answer *answer);
 
 /* The next frame for a port, or false. */

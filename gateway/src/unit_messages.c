@@ -19,7 +19,7 @@ static void send_message(struct unit *unit, uint32_t port, uint32_t requester, c
                          struct message_answer *answer)
 {
     uint64_t words[DEORASAENG_MESSAGE_ANSWER] = {0};
-    answer->number = deorasaeng_message(unit->record, DEORASAENG_RECORD_WORDS, port, requester, payload, length, answer->bytes,
+    answer->number = deorasaeng_message(unit->record, unit->words, port, requester, payload, length, answer->bytes,
                                         sizeof answer->bytes, words, DEORASAENG_MESSAGE_ANSWER);
     answer->pgn = words[DEORASAENG_PGN];
     answer->length = words[DEORASAENG_WRITTEN];
@@ -95,8 +95,8 @@ static void read_list(struct unit *unit, unsigned from, unsigned to, struct list
 
 static void read_lists(struct unit *unit)
 {
-    for (unsigned from = 1; from <= LISTS_PORTS; from++)
-        for (unsigned to = 1; to <= LISTS_PORTS; to++)
+    for (unsigned from = 1; from <= unit->ports; from++)
+        for (unsigned to = 1; to <= unit->ports; to++)
             if (from != to)
                 read_list(unit, from, to, &unit->lists.pair[from - 1][to - 1]);
 }
@@ -130,8 +130,8 @@ static uint32_t set_list(struct unit *unit, unsigned from, unsigned to, const st
 uint32_t unit_set_lists(struct unit *unit, const struct lists *lists)
 {
     uint32_t number = 0;
-    for (unsigned from = 1; from <= LISTS_PORTS && number == 0; from++)
-        for (unsigned to = 1; to <= LISTS_PORTS && number == 0; to++)
+    for (unsigned from = 1; from <= unit->ports && number == 0; from++)
+        for (unsigned to = 1; to <= unit->ports && number == 0; to++)
             if (lists->pair[from - 1][to - 1].mode != LIST_CLEARED)
                 number = set_list(unit, from, to, &lists->pair[from - 1][to - 1]);
     read_lists(unit);

@@ -1,4 +1,4 @@
-# The gateway on four buses of a real kernel: each check by what stands on the buses, and by the status. Run in the guest by gateway/test.
+# The gateway on buses of a real kernel: each check by what stands on the buses, and by the status. Run in the guest by gateway/test.
 . /scenario_lib.sh
 mkdir -p /run/gateway; chown gateway /run/gateway
 
@@ -18,7 +18,7 @@ printf '1 2 pass\n' >$LISTS; chown gateway $LISTS
 dump_start
 cangen vcan0 -g 5 -I 18FEF110 -e -L 8 -n 200 & flow=$!
 gateway_start --lists $LISTS
-check "Start, Claimed after 250 ms" awk '/Start:/ { s = $1 } /Claimed:/ { c = $1 } END { d = (c - s) * 1000; exit !(d >= 249 && d < 1000) }' /run/gateway/log
+check "Start, Claimed after 250 ms" awk '/Start:/ { s = $1 } /Claimed:/ { c = $1 } END { d = int((c - s) * 1000 + 0.5); exit !(d >= 249 && d < 1000) }' /run/gateway/log
 wait $flow; within 5 idle; dump_stop
 check "a stream from before the start never stood on the bus whose pass list is empty" equal "$(grep -c 'vcan1 18FEF110' /tmp/dump)" 0
 check "and stood on the others" [ "$(grep -c 'vcan2 18FEF110' /tmp/dump)" -gt 50 ]
@@ -240,4 +240,36 @@ done
 check "in = out + stopped + lost + consumed + refused, over the three exits of each frame" equal "$met" "$asked"
 gateway_stop
 
-
+echo "== eight buses, and two"
+for b in 4 5 6 7; do ip link add dev vcan$b type vcan; ip link set up vcan$b; done
+BUSES="vcan0 vcan1 vcan2 vcan3 vcan4 vcan5 vcan6 vcan7"
+check "eight interfaces: Claimed" gateway_start
+dump_start
+play <<'F'
+vcan7 18FEF118#08
+vcan7 18ED8028#06180004F000FFFF
+F
+sleep 0.5
+play <<'F'
+vcan0 0CF00421#09
+vcan7 18ED8028#0012FFFFFFFFFFFF
+vcan7 18ED8028#4008FFFFFFFFFFFF
+F
+within 5 idle; dump_stop
+on() { for b in 0 1 2 3 4 5 6 7; do stood vcan$b $1; done | tr -d '\n'; }
+check "a frame from the eighth bus stands once on each" equal "$(on 18FEF118#08)" 11111111
+check "a list from 1 to 8 stops its PGN there alone" equal "$(on 0CF00421#09)" 11111110
+check "port 8 reads its addresses and not the pair 1 to 2" equal "$(stood vcan7 18ED2880#4108FFFFFFFFFFFF)$(stood vcan7 18E8FF80#0200FFFF2800ED00)" 11
+check "the status tells eight ports" equal "$(status | sed 's/.*"ports":\([0-9]*\),"state":"Claimed".*/\1/')" 8
+gateway_stop
+BUSES="vcan0 vcan1"
+check "two interfaces: Claimed" gateway_start
+dump_start
+play <<'F'
+vcan1 18FEF119#0A
+F
+within 5 idle; dump_stop
+check "a frame stands once on each of the two" equal "$(stood vcan0 18FEF119#0A)$(stood vcan1 18FEF119#0A)" 11
+gateway_stop
+BUSES="vcan0 vcan1 vcan2 vcan3"
+for b in 4 5 6 7; do ip link del vcan$b; done

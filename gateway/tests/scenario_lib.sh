@@ -3,6 +3,7 @@ PATH=/tools:/bin
 NAME=20001C000AC00123
 LISTS=/run/gateway/lists
 STATUS=/run/gateway/status
+BUSES="vcan0 vcan1 vcan2 vcan3"
 tc() { /tools/tc "$@"; } # busybox has one of its own
 passed=0
 failed=0
@@ -27,7 +28,7 @@ logged() { grep -q "$1" /run/gateway/log; }
 as_user="/tools/setpriv --reuid=1000 --regid=1000 --clear-groups --no-new-privs"
 gateway_start() { # options beside NAME and address
     : >/run/gateway/log
-    $as_user /deorasaeng-gateway --name $NAME --address 128 --status $STATUS "$@" vcan0 vcan1 vcan2 vcan3 2>/run/gateway/log &
+    $as_user /deorasaeng-gateway --name $NAME --address 128 --status $STATUS "$@" $BUSES 2>/run/gateway/log &
     gateway=$!
     within 10 logged 'Claimed:'
 }
@@ -49,8 +50,8 @@ idle() { # nothing waits and nothing is in hand
     ! status | grep -q -E '"(waiting|in_hand)":[1-9]'
 }
 
-# All four buses into /tmp/dump, a line a frame: (time) interface identifier#bytes.
-dump_start() { candump -L -D vcan0 vcan1 vcan2 vcan3 >/tmp/dump 2>/dev/null & dump=$!; sleep 0.5; }
+# All buses into /tmp/dump, a line a frame: (time) interface identifier#bytes.
+dump_start() { candump -L -D $BUSES >/tmp/dump 2>/dev/null & dump=$!; sleep 0.5; }
 dump_stop() { sleep 0.5; kill $dump; wait $dump 2>/dev/null; }
 stood() { # INTERFACE FRAME: how often
     awk -v i=$1 -v f=$2 '$2 == i && $3 == f { n++ } END { print n + 0 }' /tmp/dump

@@ -11,7 +11,7 @@ static struct lists_error error;
 
 static bool parse(const char *text, struct lists *lists)
 {
-    return lists_parse(text, strlen(text), lists, &error);
+    return lists_parse(text, strlen(text), 4, lists, &error);
 }
 
 static void good_text(void)
@@ -56,7 +56,14 @@ static void wrong_text(void)
     CHECK(refused("1 2 block 1234567890123456\n", 1, "a word of 16 bytes"));
     CHECK(refused(many, 1, "more than 32"));
     struct lists lists;
-    CHECK(!lists_parse("1 2 block\0", 10, &lists, &error) && error.line == 1);
+    CHECK(!lists_parse("1 2 block\0", 10, 4, &lists, &error) && error.line == 1);
+    for (uint32_t ports = 2; ports <= LISTS_PORTS; ports++) {
+        char last[32], past[32];
+        snprintf(last, sizeof last, "1 %u block\n", (unsigned)ports);
+        snprintf(past, sizeof past, "%u 1 block\n", (unsigned)ports + 1);
+        CHECK(lists_parse(last, strlen(last), ports, &lists, &error) && lists.pair[0][ports - 1].mode == LIST_BLOCK);
+        CHECK(!lists_parse(past, strlen(past), ports, &lists, &error) && strstr(error.text, "is not a port") != NULL);
+    }
 }
 
 /* Every list that can be, there and back. */
@@ -76,7 +83,7 @@ static void round_trip(void)
                     list->pgns[i] = i % 2 == 0 ? 0x1F000 + i : i << 8;
             }
         size_t length = lists_print(&lists, text, sizeof text);
-        CHECK(length > 0 && lists_parse(text, length, &again, &error) && lists_equal(&lists, &again));
+        CHECK(length > 0 && lists_parse(text, length, LISTS_PORTS, &again, &error) && lists_equal(&lists, &again));
         CHECK(lists_print(&lists, text, length) == 0); /* no room for its end */
     }
     CHECK(lists_print(&lists, text, 0) == 0);
@@ -96,19 +103,19 @@ static void file(void)
     CHECK(mkdtemp(folder) != NULL);
     snprintf(path, sizeof path, "%s/lists", folder);
     snprintf(beside, sizeof beside, "%s/lists.new", folder);
-    CHECK(!lists_file_load(path, &lists, &error) && error.line == 0 && strstr(error.text, "no such file") != NULL);
+    CHECK(!lists_file_load(path, 4, &lists, &error) && error.line == 0 && strstr(error.text, "no such file") != NULL);
     CHECK(parse("1 2 block 61444\n4 3 pass\n", &lists));
     CHECK(lists_file_save(path, &lists) == 0);
-    CHECK(lists_file_load(path, &again, &error) && lists_equal(&lists, &again));
+    CHECK(lists_file_load(path, 4, &again, &error) && lists_equal(&lists, &again));
     CHECK(access(beside, F_OK) != 0);
     memset(big, '\n', sizeof big);
     write_file(path, big, sizeof big);
-    CHECK(!lists_file_load(path, &lists, &error) && error.line == 0);
+    CHECK(!lists_file_load(path, 4, &lists, &error) && error.line == 0);
     write_file(path, big, sizeof big - 1);
-    CHECK(lists_file_load(path, &lists, &error));
+    CHECK(lists_file_load(path, 4, &lists, &error));
     /* A save that fails leaves the old file. */
     CHECK(mkdir(beside, 0700) == 0 && lists_file_save(path, &again) != 0 && rmdir(beside) == 0);
-    CHECK(lists_file_load(path, &lists, &error) && lists.pair[0][1].mode == LIST_CLEARED);
+    CHECK(lists_file_load(path, 4, &lists, &error) && lists.pair[0][1].mode == LIST_CLEARED);
     CHECK(unlink(path) == 0 && rmdir(folder) == 0);
     CHECK(lists_file_save("/nowhere/lists", &again) != 0);
 }

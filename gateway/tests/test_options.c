@@ -25,7 +25,7 @@ static void good(void)
 {
     CHECK(READ("--name", "20001C000AC00123", "--address", "0x80", "a", "b", "c", "d") == OPTIONS_RUN);
     CHECK(options.name == UINT64_C(0x20001C000AC00123) && options.address == 128);
-    CHECK(options.lists == NULL && options.status == NULL && options.log == LOG_INFO);
+    CHECK(options.lists == NULL && options.status == NULL && options.log == LOG_INFO && options.ports == 4);
     CHECK_TEXT(options.interfaces[0], "a");
     CHECK_TEXT(options.interfaces[3], "d");
     CHECK(READ("a", "--name=0xFFFFFFFFFFFFFFFF", "b", "--address=253", "--lists", "l", "--status", "s", "--log", "debug", "c", "d") == OPTIONS_RUN);
@@ -33,6 +33,9 @@ static void good(void)
     CHECK_TEXT(options.lists, "l");
     CHECK_TEXT(options.status, "s");
     CHECK(READ("--help") == OPTIONS_HELP);
+    CHECK(READ("--name", "1", "--address", "1", "a", "b") == OPTIONS_RUN && options.ports == 2);
+    CHECK(READ("--name", "1", "--address", "1", "a", "b", "c", "d", "e", "f", "g", "h") == OPTIONS_RUN && options.ports == 8);
+    CHECK_TEXT(options.interfaces[7], "h");
 }
 
 static void wrong(void)
@@ -47,9 +50,11 @@ static void wrong(void)
     CHECK(READ("--name", "1", "--address", "12x", "a", "b", "c", "d") == OPTIONS_WRONG);
     CHECK(READ("--name", "10000000000000000", "--address", "1", "a", "b", "c", "d") == OPTIONS_WRONG);
     CHECK(READ("--name", "xyz", "--address", "1", "a", "b", "c", "d") == OPTIONS_WRONG);
-    CHECK(READ("--name", "1", "--address", "1", "a", "b", "c") == OPTIONS_WRONG);
-    CHECK_TEXT(error, "3 interfaces given, 4 needed");
-    CHECK(READ("--name", "1", "--address", "1", "a", "b", "c", "d", "e") == OPTIONS_WRONG);
+    CHECK(READ("--name", "1", "--address", "1", "a") == OPTIONS_WRONG);
+    CHECK_TEXT(error, "1 interfaces given, 2 to 8 needed");
+    CHECK(READ("--name", "1", "--address", "1", "a", "b", "c", "d", "e", "f", "g", "h", "i") == OPTIONS_WRONG);
+    CHECK_TEXT(error, "9 interfaces given, 2 to 8 needed");
+    CHECK(READ("--name", "1", "--address", "1") == OPTIONS_WRONG);
     CHECK(READ("--name", "1", "--address", "1", "a", "b", "c", "a") == OPTIONS_WRONG);
     CHECK_TEXT(error, "a is named twice");
     CHECK(READ("--name", "1", "--address", "1", "a", "b", "c", "an-interface-name") == OPTIONS_WRONG);

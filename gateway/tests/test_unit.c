@@ -24,16 +24,17 @@ static struct can_frame frame(uint32_t id, const uint8_t *bytes, uint8_t length)
     return made;
 }
 
-static void claimed_unit(struct unit *unit)
+static void claimed_unit(struct unit *unit, uint32_t ports)
 {
     uint64_t own_lost;
     struct can_frame claim;
-    CHECK(unit_power_on(unit, OWN_NAME, OWN_ADDRESS) == 0 && unit_state(unit) == DEORASAENG_STATE_UNSTARTED);
+    CHECK(unit_power_on(unit, OWN_NAME, OWN_ADDRESS, ports) == 0 && unit_state(unit) == DEORASAENG_STATE_UNSTARTED);
+    CHECK(unit_tell(unit).ports == ports);
     CHECK(unit_start(unit, &own_lost) == 0 && own_lost == 0 && unit_state(unit) == DEORASAENG_STATE_CLAIMING);
     CHECK(unit_quiet(unit) == 0 && unit_state(unit) == DEORASAENG_STATE_CLAIMED);
-    for (uint32_t port = 1; port <= GATEWAY_PORTS; port++)
+    for (uint32_t port = 1; port <= ports; port++)
         CHECK(unit_take(unit, port, &claim) && claim.can_id == (0x18EEFF80 | CAN_EFF_FLAG) && claim.len == 8 && claim.data[0] == 0x23);
-    CHECK(!unit_take(unit, 1, &claim));
+    CHECK(!unit_take(unit, 1, &claim) && !unit_take(unit, ports + 1, &claim));
 }
 
 /* Lists of every length and mode, emptied ones too, are read back as they were set. */
@@ -43,10 +44,11 @@ static void lists_there_and_back(void)
     srand(2);
     for (int round = 0; round < 200; round++) {
         struct lists lists;
+        int ports = 2 + round % 7;
         memset(&lists, 0, sizeof lists);
-        claimed_unit(&unit);
-        for (int from = 0; from < LISTS_PORTS; from++)
-            for (int to = 0; to < LISTS_PORTS; to++) {
+        claimed_unit(&unit, (uint32_t)ports);
+        for (int from = 0; from < ports; from++)
+            for (int to = 0; to < ports; to++) {
                 struct list *list = &lists.pair[from][to];
                 list->mode = from == to ? LIST_CLEARED : (enum list_mode)(rand() % 3);
                 list->count = list->mode == LIST_CLEARED ? 0 : (uint32_t)(rand() % 4 == 0 ? rand() % 3 : rand() % (LISTS_ENTRIES + 1));
@@ -63,7 +65,7 @@ static void unit_refuses_lists_unclaimed(void)
     struct lists lists;
     memset(&lists, 0, sizeof lists);
     lists.pair[0][1].mode = LIST_PASS;
-    CHECK(unit_power_on(&unit, OWN_NAME, OWN_ADDRESS) == 0);
+    CHECK(unit_power_on(&unit, OWN_NAME, OWN_ADDRESS, 4) == 0);
     CHECK(unit_set_lists(&unit, &lists) == 6 && unit.lists.pair[0][1].mode == LIST_CLEARED);
     CHECK(unit_quiet(&unit) == 18 && unit_state(&unit) == DEORASAENG_STATE_UNSTARTED);
 }
@@ -76,7 +78,7 @@ static void lost_at_start(void)
     struct can_frame claim = frame(0x18EEFF00 | OWN_ADDRESS, lower, 8);
     struct frame_answer got;
     uint64_t own_lost;
-    CHECK(unit_power_on(&unit, OWN_NAME, OWN_ADDRESS) == 0);
+    CHECK(unit_power_on(&unit, OWN_NAME, OWN_ADDRESS, 4) == 0);
     unit_frame(&unit, 3, &claim, &got);
     CHECK(got.number == 0 && got.event == DEORASAENG_RECORDED && !got.own_sent);
     CHECK(unit_start(&unit, &own_lost) == 0 && own_lost == 0);
@@ -94,7 +96,7 @@ static void answers(void)
     static const uint8_t done[8] = {0, 6, 0xFF, 0xFF, 0x21, 0, 0xED, 0}, denied[8] = {2, 0, 0xFF, 0xFF, 0x21, 0, 0xED, 0};
     static const uint8_t list[8] = {1, 0x12, 1, 0xF1, 0xFE, 0, 0xFF, 0xFF};
     struct can_frame got, wanted;
-    claimed_unit(&unit);
+    claimed_unit(&unit, 4);
     unit_message(&unit, 1, 0x21, create, sizeof create, &answer);
     wanted = frame(0x18E8FF80, done, 8);
     CHECK(answer.number == 0 && answer_frame(&answer, 0x21, OWN_ADDRESS, &got) && memcmp(&got, &wanted, sizeof got) == 0);
@@ -130,13 +132,13 @@ static void own_frames(void)
         {0x18EEFF80, lower, 8, true, DEORASAENG_DISPLACED},    {0x18EAFF21, request, 3, true, DEORASAENG_NO_EVENT},
         {0x18EA8021, request, 3, false, DEORASAENG_NO_EVENT},
     };
-    claimed_unit(&unit);
+    claimed_unit(&unit, 4);
     for (size_t i = 0; i < sizeof CASES / sizeof CASES[0]; i++) {
         struct can_frame in = frame(CASES[i].id, CASES[i].bytes, CASES[i].length), out;
         struct frame_answer got;
-        unsigned taken[GATEWAY_PORTS] = {0};
+        unsigned taken[4] = {0};
         unit_frame(&unit, 1, &in, &got);
-        for (uint32_t port = 1; port <= GATEWAY_PORTS; port++)
+        for (uint32_t port = 1; port <= 4; port++)
             while (unit_take(&unit, port, &out))
                 taken[port - 1]++;
         /* At the arrival port there are own frames alone. */
@@ -151,7 +153,7 @@ static void addresses(void)
     static struct unit unit;
     uint8_t list[UNIT_ADDRESSES];
     struct frame_answer got;
-    claimed_unit(&unit);
+    claimed_unit(&unit, 4);
     for (uint32_t address = 0; address < UNIT_ADDRESSES; address++) {
         uint8_t name[8] = {(uint8_t)address, 0, 0, 0, 0, 0, 0, 0xF0};
         struct can_frame claim = frame(0x18EEFF00 | address, name, 8);
@@ -160,7 +162,7 @@ static void addresses(void)
     }
     CHECK(unit_addresses(&unit, 2, list) == UNIT_ADDRESSES - 1 && list[0] == 0 && list[0x80] == 0x81 && list[252] == 253);
     CHECK(unit_addresses(&unit, 1, list) == 0);
-    CHECK(unit_power_on(&unit, OWN_NAME, OWN_ADDRESS) == 0 && unit_addresses(&unit, 1, list) == -1);
+    CHECK(unit_power_on(&unit, OWN_NAME, OWN_ADDRESS, 4) == 0 && unit_addresses(&unit, 1, list) == -1);
 }
 
 /* The longest document: full lists, every address, every count at its highest. */
@@ -177,7 +179,8 @@ static void status(void)
                 for (uint32_t i = 0; i < LISTS_ENTRIES; i++)
                     lists.pair[from][to].pgns[i] = 0x3FFE0 + i;
             }
-    claimed_unit(&gateway.unit);
+    gateway.options.ports = GATEWAY_PORTS_MAX;
+    claimed_unit(&gateway.unit, GATEWAY_PORTS_MAX);
     CHECK(unit_set_lists(&gateway.unit, &lists) == 0);
     for (uint32_t address = 0; address < UNIT_ADDRESSES; address++) {
         struct frame_answer got;
@@ -185,7 +188,7 @@ static void status(void)
         struct can_frame claim = frame(0x18EEFF00 | address, name, 8);
         unit_frame(&gateway.unit, 4, &claim, &got);
     }
-    for (uint32_t i = 0; i < GATEWAY_PORTS; i++) {
+    for (uint32_t i = 0; i < GATEWAY_PORTS_MAX; i++) {
         struct port *port = &gateway.ports[i];
         port->number = i + 1;
         memset(&port->counts, 0xFF, sizeof port->counts);

@@ -8,8 +8,8 @@
 #include <time.h>
 #include <ucontext.h>
 
-/* Words of the record. */
-#define MODE(pair) (PAIRS_AT + PAIR_WORDS * (pair))
+/* Words of the record; those of a pair in that of a unit with four ports. */
+#define MODE(pair) (PAIRS_AT(USUAL_PORTS) + PAIR_WORDS * (pair))
 #define COUNT(pair) (MODE(pair) + 1)
 #define WAITING(port) DEORASAENG_QUEUE_AT(port)
 #define HOLDER(address) (TABLE_AT + PLACE_WORDS * (address))
@@ -22,6 +22,8 @@ struct row {
     /* The calls, and the number that the last one gives. */
     uint32_t (*run)(const struct side *, const struct row *, long calls);
     uint32_t number;
+    /* How many ports the unit has, four unless said. */
+    uint32_t ports;
     /* Every pair: its mode (1 block, 2 pass), how many PGNs it lists, where the frame's PGN stands among them, from 1. Every queue: how many wait, and whether
        they are of lower rank than the frame. Addresses held. */
     int mode, entries, at, waiting, lower, held;
@@ -36,7 +38,9 @@ struct row {
     uint64_t resets[6][2];
 };
 
-static uint64_t w[RECORD];
+static uint64_t w[MOST_WORDS];
+static uint32_t ports;
+static size_t record_len;
 static struct lent lent;
 static uint8_t payload[LONGEST];
 static size_t payload_len;
@@ -73,17 +77,21 @@ static void make_payload(const struct row *r)
 
 static void make(const struct row *r)
 {
+    ports = r->ports ? r->ports : USUAL_PORTS;
+    record_len = DEORASAENG_RECORD_WORDS_FOR(ports);
     memset(w, 0, sizeof w);
     w[0] = 2;
     w[1] = w[2] = 0x50;
     w[3] = 0xA000000000000050;
-    for (int i = 0; i < 12; i++) {
-        w[MODE(i)] = r->mode;
-        w[COUNT(i)] = r->entries;
+    w[PORTS_AT] = ports;
+    for (uint32_t i = 0; i < ports * (ports - 1); i++) {
+        uint64_t *pair = w + PAIRS_AT(ports) + PAIR_WORDS * i;
+        pair[0] = r->mode;
+        pair[1] = r->entries;
         for (int j = 0; j < r->entries; j++)
-            w[COUNT(i) + 1 + j] = j + 1 == r->at ? PGN : listed(j);
+            pair[2 + j] = j + 1 == r->at ? PGN : listed(j);
     }
-    for (int port = 1; port <= 4; port++) {
+    for (uint32_t port = 1; port <= ports; port++) {
         w[WAITING(port)] = r->waiting;
         for (int j = 0; j < r->waiting; j++)
             w[WAITING(port) + 1 + 2 * j] = DATA | 8ull << 32 | (r->lower ? 0x18000000 : 0);
@@ -103,10 +111,9 @@ static uint32_t frame_and_takes(const struct side *side, const struct row *r, lo
     uint32_t number = 0;
     size_t len = r->len ? r->len : 8;
     for (long k = 0; k < calls; k++) {
-        number = side->frame(w, RECORD, 1, DATA, (const uint8_t *)&k, len, lent.answer, DEORASAENG_FRAME_ANSWER);
-        side->take(w, RECORD, 2, lent.answer, DEORASAENG_TAKE_ANSWER, lent.bytes, DEORASAENG_FRAME_BYTES);
-        side->take(w, RECORD, 3, lent.answer, DEORASAENG_TAKE_ANSWER, lent.bytes, DEORASAENG_FRAME_BYTES);
-        side->take(w, RECORD, 4, lent.answer, DEORASAENG_TAKE_ANSWER, lent.bytes, DEORASAENG_FRAME_BYTES);
+        number = side->frame(w, record_len, 1, DATA, (const uint8_t *)&k, len, lent.answer, DEORASAENG_FRAME_ANSWER);
+        for (uint32_t port = 2; port <= ports; port++)
+            side->take(w, record_len, port, lent.answer, DEORASAENG_TAKE_ANSWER, lent.bytes, DEORASAENG_FRAME_BYTES);
     }
     return number;
 }
@@ -116,7 +123,7 @@ static uint32_t frames(const struct side *side, const struct row *r, long calls)
     uint32_t number = 0;
     for (long k = 0; k < calls; k++) {
         restore(r);
-        number = side->frame(w, RECORD, 1, r->id, (const uint8_t *)&r->bytes, r->len, lent.answer, DEORASAENG_FRAME_ANSWER);
+        number = side->frame(w, record_len, 1, r->id, (const uint8_t *)&r->bytes, r->len, lent.answer, DEORASAENG_FRAME_ANSWER);
     }
     return number;
 }
@@ -126,7 +133,7 @@ static uint32_t takes(const struct side *side, const struct row *r, long calls)
     uint32_t number = 0;
     (void)r;
     for (long k = 0; k < calls; k++)
-        number = side->take(w, RECORD, 2, lent.answer, DEORASAENG_TAKE_ANSWER, lent.bytes, DEORASAENG_FRAME_BYTES);
+        number = side->take(w, record_len, 2, lent.answer, DEORASAENG_TAKE_ANSWER, lent.bytes, DEORASAENG_FRAME_BYTES);
     return number;
 }
 
@@ -135,7 +142,7 @@ static uint32_t messages(const struct side *side, const struct row *r, long call
     uint32_t number = 0;
     for (long k = 0; k < calls; k++) {
         restore(r);
-        number = side->message(w, RECORD, 1, 0x21, payload, payload_len, lent.reply, LONGEST, lent.answer, DEORASAENG_MESSAGE_ANSWER);
+        number = side->message(w, record_len, 1, 0x21, payload, payload_len, lent.reply, LONGEST, lent.answer, DEORASAENG_MESSAGE_ANSWER);
     }
     return number;
 }
@@ -146,7 +153,7 @@ static uint32_t starts(const struct side *side, const struct row *r, long calls)
     for (long k = 0; k < calls; k++) {
         restore(r);
         w[0] = 0;
-        number = side->start(w, RECORD, lent.answer, DEORASAENG_START_ANSWER);
+        number = side->start(w, record_len, lent.answer, DEORASAENG_START_ANSWER);
     }
     return number;
 }
@@ -157,7 +164,7 @@ static uint32_t quiets(const struct side *side, const struct row *r, long calls)
     (void)r;
     for (long k = 0; k < calls; k++) {
         w[0] = 1;
-        number = side->quiet(w, RECORD);
+        number = side->quiet(w, record_len);
     }
     return number;
 }
@@ -167,7 +174,7 @@ static uint32_t units(const struct side *side, const struct row *r, long calls)
     uint32_t number = 0;
     (void)r;
     for (long k = 0; k < calls; k++)
-        number = side->unit(w, RECORD, lent.answer, DEORASAENG_UNIT_ANSWER);
+        number = side->unit(w, record_len, lent.answer, DEORASAENG_UNIT_ANSWER);
     return number;
 }
 
@@ -176,7 +183,7 @@ static uint32_t power_ons(const struct side *side, const struct row *r, long cal
     uint32_t number = 0;
     (void)r;
     for (long k = 0; k < calls; k++)
-        number = side->power_on(w, RECORD, k, 0x50);
+        number = side->power_on_ports(w, record_len, k, 0x50, ports);
     return number;
 }
 
@@ -213,6 +220,8 @@ static const struct row frame_rows[] = {
     {"Quiet", quiets, .mode = 0},
     {"unit told", units, .mode = 0},
     {"power-on", power_ons, .mode = 0},
+    {"power-on with 2 ports", power_ons, .ports = 2},
+    {"power-on with 8 ports", power_ons, .ports = 8},
 };
 
 static const struct row message_rows[] = {
@@ -262,6 +271,22 @@ static const struct row depth_rows[] = {
     {"32", frame_and_takes, .waiting = 31},
 };
 
+static const struct row port_rows[] = {
+    {"2", frame_and_takes, .ports = 2},
+    {"3", frame_and_takes, .ports = 3},
+    {"4", frame_and_takes, .mode = 0},
+    {"5", frame_and_takes, .ports = 5},
+    {"6", frame_and_takes, .ports = 6},
+    {"7", frame_and_takes, .ports = 7},
+    {"8", frame_and_takes, .ports = 8},
+};
+
+static const struct row full_port_rows[] = {
+    {"2", frame_and_takes, .ports = 2, .mode = 1, .entries = 32, .waiting = 31},
+    {"4", frame_and_takes, .mode = 1, .entries = 32, .waiting = 31},
+    {"8", frame_and_takes, .ports = 8, .mode = 1, .entries = 32, .waiting = 31},
+};
+
 static const struct table {
     const char *title, *column;
     const struct row *rows;
@@ -271,6 +296,9 @@ static const struct table {
     {"Network messages, from port 1", "message", message_rows, sizeof message_rows / sizeof *message_rows},
     {"Growth with the lists: frame and 3 takes, depth 1, a PGN that is absent", "PGNs in each list", list_rows, sizeof list_rows / sizeof *list_rows},
     {"Growth with the queues: frame and 3 takes, cleared pairs, equal ranks", "depth", depth_rows, sizeof depth_rows / sizeof *depth_rows},
+    {"Growth with the ports: frame that joins every other queue, and a take at each, cleared pairs, depth 1", "ports", port_rows,
+     sizeof port_rows / sizeof *port_rows},
+    {"The same, lists of 32 PGNs that are not the frame's, depth 32", "ports, lists and queues full", full_port_rows, sizeof full_port_rows / sizeof *full_port_rows},
 };
 
 enum { TABLES = sizeof tables / sizeof *tables };
@@ -293,7 +321,7 @@ static double time_of(const struct side *side, const struct row *r, long calls)
 /* The sides do the same on a row, and give its number. */
 static void check_row(const struct row *r)
 {
-    static uint64_t first[RECORD], answer[8];
+    static uint64_t first[MOST_WORDS], answer[8];
     for (int s = 0; s < SIDES; s++) {
         make(r);
         memset(&lent, 0, sizeof lent);
@@ -318,7 +346,7 @@ static size_t timed_count;
 
 static int same_case(const struct row *a, const struct row *b)
 {
-    return a->run == b->run && a->number == b->number && a->mode == b->mode && a->entries == b->entries && a->at == b->at && a->waiting == b->waiting &&
+    return a->run == b->run && a->number == b->number && a->ports == b->ports && a->mode == b->mode && a->entries == b->entries && a->at == b->at && a->waiting == b->waiting &&
            a->lower == b->lower && a->held == b->held && a->id == b->id && a->len == b->len && a->bytes == b->bytes && a->function == b->function &&
            a->pair == b->pair && a->named == b->named && a->different == b->different && a->first == b->first && a->last == b->last &&
            a->backwards == b->backwards && memcmp(a->resets, b->resets, sizeof a->resets) == 0;
@@ -364,7 +392,7 @@ static void time_tables(int rounds)
 /* ---- the stack: painted before each call, and looked through after it */
 static uint32_t nothing();
 
-static const struct side empty = {"nothing", nothing, nothing, nothing, nothing, nothing, nothing, nothing};
+static const struct side empty = {"nothing", nothing, nothing, nothing, nothing, nothing, nothing, nothing, nothing};
 
 static uint32_t nothing()
 {
@@ -400,7 +428,7 @@ static size_t touched(const struct side *side)
 /* The most that a call takes, with its return address. */
 static void print_stack(long calls)
 {
-    static const char *labels[KINDS] = {"frame", "take", "message", "Start", "Quiet", "unit", "power-on"};
+    static const char *labels[KINDS] = {"frame", "take", "message", "Start", "Quiet", "unit", "power-on", "power-on with ports"};
     size_t most[KINDS][SIDES] = {{0}};
     for (int s = 0; s < SIDES; s++) {
         memset(&lent, 0, sizeof lent);

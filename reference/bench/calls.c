@@ -3,7 +3,7 @@
 #include <stdio.h>
 #include <string.h>
 
-#define SIDE(name, side) {name, side##_power_on, side##_frame, side##_take, side##_message, side##_start, side##_quiet, side##_unit}
+#define SIDE(name, side) {name, side##_power_on, side##_power_on_ports, side##_frame, side##_take, side##_message, side##_start, side##_quiet, side##_unit}
 
 const struct side sides[SIDES] = {SIDE("Rattle", deorasaeng), SIDE("C", c), SIDE("Rust", rust)};
 
@@ -106,8 +106,8 @@ static void make_entries(struct call *c, const uint64_t *pair, size_t start)
 static void make_message(struct call *c, const uint64_t *record)
 {
     static const uint8_t functions[] = {0, 2, 2, 2, 3, 3, 3, 4, 6, 6, 6, 64};
-    uint32_t from = 1 + below(4), to = 1 + (from + below(3)) % 4;
-    const uint64_t *pair = record + PAIRS_AT + PAIR_WORDS * (3 * (from - 1) + (to < from ? to - 1 : to - 2));
+    uint32_t ports = ports_of(record, MOST_WORDS), from = 1 + below(ports), to = 1 + (from + below(ports - 1)) % ports;
+    const uint64_t *pair = record + PAIRS_AT(ports) + PAIR_WORDS * pair_number(ports, from, to);
     for (int i = 0; i < 16; i++)
         c->payload[i] = next();
     c->payload[0] = one_in(64) ? below(256) : functions[below(sizeof functions)];
@@ -130,6 +130,16 @@ static size_t some_length(size_t published)
     return one_in(256) ? published - 1 + 2 * below(2) : published;
 }
 
+/* Mostly the length of a unit with so many ports; now and then that of another, or one too short to have a count. */
+static size_t some_record_length(uint32_t ports)
+{
+    switch (below(512)) {
+    case 0: return DEORASAENG_RECORD_WORDS_FOR(2 + below(7));
+    case 1: return below(7);
+    default: return some_length(DEORASAENG_RECORD_WORDS_FOR(ports));
+    }
+}
+
 void make_call(struct call *c, const uint64_t *record)
 {
     static const enum kind busy[] = {FRAME, FRAME, FRAME, MESSAGE, TAKE}, slow[] = {FRAME, TAKE, TAKE, TAKE, MESSAGE, MESSAGE};
@@ -137,13 +147,15 @@ void make_call(struct call *c, const uint64_t *record)
     phase++;
     c->kind = phase & 1024 ? busy[below(5)] : slow[below(6)];
     if (record[0] != 2 && one_in(16))
-        c->kind = record[0] == 0 ? START : record[0] == 1 ? QUIET : POWER_ON;
+        c->kind = record[0] == 0 ? START : record[0] == 1 ? QUIET : one_in(3) ? POWER_ON : POWER_ON_PORTS;
     if (one_in(512))
         c->kind = START + below(3);
-    if (one_in(8192))
-        c->kind = POWER_ON;
-    c->port = one_in(64) ? below(6) : 1 + below(4);
-    c->record_len = some_length(RECORD);
+    if (one_in(4096))
+        c->kind = POWER_ON + below(2);
+    uint32_t ports = ports_of(record, MOST_WORDS);
+    c->ports = one_in(8) ? below(12) : 2 + below(7);
+    c->port = one_in(64) ? below(ports + 2) : 1 + below(ports);
+    c->record_len = some_record_length(c->kind == POWER_ON ? USUAL_PORTS : c->kind == POWER_ON_PORTS ? c->ports : ports);
     c->bytes_len = some_length(DEORASAENG_FRAME_BYTES);
     c->reply_len = one_in(4) ? LONGEST + 15 : some_length(LONGEST);
     c->name = one_in(4) ? some_name() : own_name;
@@ -167,43 +179,55 @@ uint32_t do_call(const struct side *side, const struct call *c, struct lent *l)
     case START: return side->start(l->record, c->record_len, l->answer, c->answer_len);
     case QUIET: return side->quiet(l->record, c->record_len);
     case UNIT: return side->unit(l->record, c->record_len, l->answer, c->answer_len);
-    default: return side->power_on(l->record, c->record_len, c->name, c->preferred);
+    case POWER_ON: return side->power_on(l->record, c->record_len, c->name, c->preferred);
+    default: return side->power_on_ports(l->record, c->record_len, c->name, c->preferred, c->ports);
     }
 }
 
-/* The record with 0 in each word that means nothing: places past a count, the list of a cleared pair. */
+/* The record with 0 in each word that means nothing: places past a count, the list of a cleared pair, what lies behind the last pair. */
 static void meaning(const uint64_t *record, uint64_t *out)
 {
-    memcpy(out, record, 8 * RECORD);
-    for (int i = 0; i < 12; i++) {
-        uint64_t *pair = out + PAIRS_AT + PAIR_WORDS * i, n = pair[0] ? pair[1] : 0;
+    uint32_t ports = ports_of(record, MOST_WORDS);
+    memcpy(out, record, 8 * MOST_WORDS);
+    for (uint32_t i = 0; i < ports * (ports - 1); i++) {
+        uint64_t *pair = out + PAIRS_AT(ports) + PAIR_WORDS * i, n = pair[0] ? pair[1] : 0;
         pair[1] = n;
-        memset(pair + 2 + n, 0, 8 * (32 - n));
+        memset(pair + 2 + n, 0, 8 * (LIST - n));
     }
-    for (int q = 0; q < 4; q++) {
-        uint64_t *queue = out + QUEUES_AT + QUEUE_WORDS * q;
-        memset(queue + 1 + 2 * queue[0], 0, 16 * (32 - queue[0]));
+    for (uint32_t port = 1; port <= ports; port++) {
+        uint64_t *queue = out + DEORASAENG_QUEUE_AT(port);
+        memset(queue + 1 + 2 * queue[0], 0, 16 * (QUEUE - queue[0]));
     }
+    memset(out + DEORASAENG_RECORD_WORDS_FOR(ports), 0, 8 * (MOST_WORDS - DEORASAENG_RECORD_WORDS_FOR(ports)));
 }
 
 bool same_record(const uint64_t *a, const uint64_t *b)
 {
-    static uint64_t x[RECORD], y[RECORD];
-    if (!memcmp(a, b, 8 * RECORD))
+    static uint64_t x[MOST_WORDS], y[MOST_WORDS];
+    if (!memcmp(a, b, 8 * MOST_WORDS))
         return true;
     meaning(a, x);
     meaning(b, y);
     return !memcmp(x, y, sizeof x);
 }
 
+/* One more than the highest number. */
+enum { NUMBERS = DEORASAENG_WRONG_PORT_COUNT + 1 };
+
+static bool is_number(int i)
+{
+    return i <= DEORASAENG_WRONG_STATE || i == DEORASAENG_WRONG_PORT_COUNT;
+}
+
 /* What came of the calls, so that one sees that nothing was left untried. */
 struct tally {
-    long numbers[19], events[8], done[65], full, longest;
+    long numbers[NUMBERS], events[8], done[65], ports[MOST_PORTS + 1], full, longest;
 };
 
 static void count(struct tally *t, const struct call *c, const struct lent *l, uint32_t number)
 {
     t->numbers[number]++;
+    t->ports[ports_of(l->record, MOST_WORDS)]++;
     if (number == 0 && c->kind == FRAME)
         t->events[l->answer[DEORASAENG_EVENT]]++;
     if (number == 0 && c->kind == MESSAGE) {
@@ -216,18 +240,24 @@ static void count(struct tally *t, const struct call *c, const struct lent *l, u
 static bool is_whole(const struct tally *t, long calls)
 {
     bool whole = t->full && t->longest;
-    for (int i = 0; i < 19; i++)
-        whole &= t->numbers[i] > 0;
+    for (int i = 0; i < NUMBERS; i++)
+        whole &= !is_number(i) || t->numbers[i] > 0;
+    for (int i = FEWEST_PORTS; i <= MOST_PORTS; i++)
+        whole &= t->ports[i] > 0;
     for (int i = 0; i < 8; i++)
         whole &= t->events[i] > 0;
     printf("%ld random calls: the three sides agree. Messages done: Request %ld (%ld of 32 PGNs), Add %ld, Delete %ld, Clear %ld, Create %ld, addresses %ld; %ld of 594 entries.\n",
            calls, t->done[0], t->full, t->done[2], t->done[3], t->done[4], t->done[6], t->done[64], t->longest);
     printf("Refused, by number:");
-    for (int i = 1; i < 19; i++)
-        printf(" %d:%ld", i, t->numbers[i]);
+    for (int i = 1; i < NUMBERS; i++)
+        if (is_number(i))
+            printf(" %d:%ld", i, t->numbers[i]);
     printf("; claim events:");
     for (int i = 1; i < 8; i++)
         printf(" %d:%ld", i, t->events[i]);
+    printf("; on units with so many ports:");
+    for (int i = FEWEST_PORTS; i <= MOST_PORTS; i++)
+        printf(" %d:%ld", i, t->ports[i]);
     printf("\n");
     if (!whole)
         printf("something was left untried\n");
@@ -237,7 +267,7 @@ static bool is_whole(const struct tally *t, long calls)
 bool agree(long calls)
 {
     static struct lent lent[SIDES];
-    static struct call c = {.kind = POWER_ON, .record_len = RECORD};
+    static struct call c = {.kind = POWER_ON, .record_len = DEORASAENG_RECORD_WORDS};
     static struct tally t;
     for (long k = 0; k < calls; k++) {
         uint32_t number = do_call(&sides[0], &c, &lent[0]);

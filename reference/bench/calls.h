@@ -6,11 +6,12 @@
 #include "twin.h"
 #include <stdbool.h>
 
-enum { SIDES = 3, RECORD = DEORASAENG_RECORD_WORDS, LONGEST = DEORASAENG_REPLY_BYTES };
+enum { SIDES = 3, LONGEST = DEORASAENG_REPLY_BYTES };
 
 struct side {
     const char *name;
     __typeof__(deorasaeng_power_on) *power_on;
+    __typeof__(deorasaeng_power_on_ports) *power_on_ports;
     __typeof__(deorasaeng_frame) *frame;
     __typeof__(deorasaeng_take) *take;
     __typeof__(deorasaeng_message) *message;
@@ -21,20 +22,20 @@ struct side {
 
 extern const struct side sides[SIDES];
 
-enum kind { FRAME, TAKE, MESSAGE, START, QUIET, UNIT, POWER_ON, KINDS };
+enum kind { FRAME, TAKE, MESSAGE, START, QUIET, UNIT, POWER_ON, POWER_ON_PORTS, KINDS };
 
 /* The arguments of a call, with the lengths that are lent. */
 struct call {
     enum kind kind;
     size_t record_len, answer_len, bytes_len, reply_len, len;
-    uint32_t port, id, requester, preferred;
+    uint32_t port, id, requester, preferred, ports;
     uint64_t name;
     uint8_t payload[LONGEST + 15];
 };
 
 /* What a call is lent. */
 struct lent {
-    uint64_t record[RECORD], answer[8];
+    uint64_t record[MOST_WORDS + 1], answer[8];
     uint8_t bytes[16], reply[LONGEST + 15];
 };
 

@@ -3,7 +3,7 @@
 #include <stdbool.h>
 #include <string.h>
 
-enum { PORTS = 4, LIST = 32, QUEUE = 32, PLACES = 254, NO_ADDRESS = 254, LONGEST = 1785, ALL = 15, FILLING = 0xFF };
+enum { FEWEST = 2, USUAL = 4, MOST = 8, LIST = 32, QUEUE = 32, PLACES = 254, NO_ADDRESS = 254, LONGEST = 1785, ALL = 15, FILLING = 0xFF };
 enum { UNSTARTED, CLAIMING, CLAIMED, LOST };
 enum { CLEARED, BLOCK, PASS };
 enum { REQUEST = 0, ADD = 2, DELETE = 3, CLEAR = 4, CREATE = 6, ADDRESSES = 64 };
@@ -27,14 +27,36 @@ struct place {
     uint64_t port, name;
 };
 
+/* Behind the queues, one for each port, stand the pairs: for each port those to the others. */
 struct unit {
-    uint64_t claim, address, preferred, name;
-    struct pair pairs[PORTS][PORTS - 1];
-    struct queue queues[PORTS];
+    uint64_t claim, address, preferred, name, ports;
     struct place table[PLACES];
+    struct queue queues[];
 };
 
-_Static_assert(sizeof(struct unit) == 8 * DEORASAENG_RECORD_WORDS, "the published length");
+_Static_assert(sizeof(struct unit) == 8 * DEORASAENG_QUEUES_AT, "the published place");
+
+#define WORDS_FOR(ports) ((sizeof(struct unit) + (ports) * sizeof(struct queue) + (ports) * ((ports) - 1) * sizeof(struct pair)) / 8)
+
+#define PUBLISHED(ports) (WORDS_FOR(ports) == DEORASAENG_RECORD_WORDS_FOR(ports))
+
+_Static_assert(PUBLISHED(2) && PUBLISHED(3) && PUBLISHED(4) && PUBLISHED(5) && PUBLISHED(6) && PUBLISHED(7) && PUBLISHED(8), "the published lengths");
+_Static_assert(DEORASAENG_RECORD_WORDS_FOR(9) == DEORASAENG_RECORD_WORDS && sizeof(struct pair) == 8 * DEORASAENG_PAIR_WORDS, "and those of four ports, of a pair");
+
+static const uint16_t words_for[MOST + 1] = {0, 0, WORDS_FOR(2), WORDS_FOR(3), WORDS_FOR(4), WORDS_FOR(5), WORDS_FOR(6), WORDS_FOR(7), WORDS_FOR(8)};
+
+/* How many ports the record has. */
+static uint32_t ports_of(const uint64_t *record, size_t record_len)
+{
+    const struct unit *u = (const struct unit *)record;
+    return record_len > 4 && u->ports - FEWEST <= MOST - FEWEST ? u->ports : USUAL;
+}
+
+/* The pairs from a port, counted from 0. */
+static struct pair *pairs_from(struct unit *u, uint32_t ports, uint32_t from)
+{
+    return (struct pair *)(u->queues + ports) + (ports - 1) * from;
+}
 
 /* ---- queues */
 static bool join(struct queue *q, uint64_t head, uint64_t bytes)
@@ -49,10 +71,10 @@ static bool join(struct queue *q, uint64_t head, uint64_t bytes)
 }
 
 /* The unit's own frame at every port; the ports where it is lost. */
-static uint64_t announce(struct unit *u, uint32_t id)
+static uint64_t announce(struct unit *u, uint32_t ports, uint32_t id)
 {
     uint64_t lost = 0;
-    for (int q = 0; q < PORTS; q++)
+    for (uint32_t q = 0; q < ports; q++)
         if (!join(&u->queues[q], id | 8ull << 32, u->name))
             lost |= 1u << q;
     return lost;
@@ -73,11 +95,11 @@ static uint64_t find(const uint64_t *list, uint64_t n, uint64_t x)
 }
 
 /* Rules 2, 3 and 5. */
-static void forward(struct unit *u, uint32_t from, uint32_t pgn, uint64_t head, uint64_t bytes, uint64_t *answer)
+static void forward(struct unit *u, uint32_t ports, uint32_t from, uint32_t pgn, uint64_t head, uint64_t bytes, uint64_t *answer)
 {
     uint64_t accepted = 0, lost = 0, compared = 0;
-    const struct pair *p = u->pairs[from];
-    for (uint32_t to = 0; to < PORTS; to++) {
+    const struct pair *p = pairs_from(u, ports, from);
+    for (uint32_t to = 0; to < ports; to++) {
         if (to == from)
             continue;
         bool permitted = true;
@@ -172,9 +194,10 @@ uint32_t c_frame(uint64_t *record, size_t record_len, uint32_t port, uint32_t id
 {
     struct unit *u = (struct unit *)record;
     uint32_t pf = id >> 16 & 255, ps = id >> 8 & 255, sa = id & 255, pgn = id >> 8 & (pf < 240 ? 0x3FF00 : 0x3FFFF);
-    if (port - 1 >= PORTS)
+    uint32_t ports = ports_of(record, record_len);
+    if (port - 1 >= ports)
         return 1;
-    if (record_len != DEORASAENG_RECORD_WORDS || answer_len != DEORASAENG_FRAME_ANSWER)
+    if (record_len != words_for[ports] || answer_len != DEORASAENG_FRAME_ANSWER)
         return 2;
     if (id >> 29)
         return 3;
@@ -188,7 +211,7 @@ uint32_t c_frame(uint64_t *record, size_t record_len, uint32_t port, uint32_t id
     if (consumed)
         answer[DEORASAENG_ACCEPTED] = answer[DEORASAENG_LOST] = answer[DEORASAENG_COMPARED] = 0;
     else
-        forward(u, port - 1, pgn, id | (uint64_t)len << 32, word, answer);
+        forward(u, ports, port - 1, pgn, id | (uint64_t)len << 32, word, answer);
     answer[DEORASAENG_EVENT] = answer[DEORASAENG_OLD_NAME] = answer[DEORASAENG_OWN_LOST] = 0;
     uint32_t own = 0;
     if (pgn == CLAIM_PGN) {
@@ -199,15 +222,16 @@ uint32_t c_frame(uint64_t *record, size_t record_len, uint32_t port, uint32_t id
             own = own_id(u->address);
     }
     if (own)
-        answer[DEORASAENG_OWN_LOST] = announce(u, own);
+        answer[DEORASAENG_OWN_LOST] = announce(u, ports, own);
     return 0;
 }
 
 uint32_t c_take(uint64_t *record, size_t record_len, uint32_t port, uint64_t *answer, size_t answer_len, uint8_t *bytes, size_t bytes_len)
 {
-    if (port - 1 >= PORTS)
+    uint32_t ports = ports_of(record, record_len);
+    if (port - 1 >= ports)
         return 1;
-    if (record_len != DEORASAENG_RECORD_WORDS || answer_len != DEORASAENG_TAKE_ANSWER || bytes_len != DEORASAENG_FRAME_BYTES)
+    if (record_len != words_for[ports] || answer_len != DEORASAENG_TAKE_ANSWER || bytes_len != DEORASAENG_FRAME_BYTES)
         return 2;
     struct queue *q = &((struct unit *)record)->queues[port - 1];
     uint64_t n = q->count;
@@ -278,7 +302,7 @@ static uint64_t different(const uint8_t *bytes, size_t n, uint64_t *pgns)
 static uint32_t add(struct pair *pairs, int named, const uint8_t *bytes, size_t n)
 {
     uint64_t pgns[LIST];
-    uint32_t fresh[PORTS - 1];
+    uint32_t fresh[MOST - 1];
     for (int k = 0; k < named; k++)
         if (pairs[k].mode == CLEARED)
             return 15;
@@ -304,7 +328,7 @@ static uint32_t add(struct pair *pairs, int named, const uint8_t *bytes, size_t 
 
 static uint32_t delete(struct pair *pairs, int named, const uint8_t *bytes, size_t n)
 {
-    uint32_t gone[PORTS - 1] = {0};
+    uint32_t gone[MOST - 1] = {0};
     for (int k = 0; k < named; k++)
         if (pairs[k].mode == CLEARED)
             return 15;
@@ -370,16 +394,16 @@ static size_t reply_addresses(const struct unit *u, uint32_t port, uint8_t *repl
     return n;
 }
 
-/* 9 to 11: function, ports, right. */
-static uint32_t judge(uint32_t port, uint8_t function, uint32_t from, uint32_t to)
+/* 9 to 11: function, ports, right. All pairs from a port are a neighbour's too only where there is one. */
+static uint32_t judge(uint32_t ports, uint32_t port, uint8_t function, uint32_t from, uint32_t to)
 {
     switch (function) {
     case ADDRESSES:
-        return to - 1 >= PORTS ? 10 : port != 1 && port != to ? 11 : 0;
+        return to - 1 >= ports ? 10 : port != 1 && port != to ? 11 : 0;
     case REQUEST: case ADD: case DELETE: case CLEAR: case CREATE:
-        if (from - 1 >= PORTS || from == to || (to - 1 >= PORTS && (to != ALL || function == REQUEST)))
+        if (from - 1 >= ports || from == to || (to - 1 >= ports && (to != ALL || function == REQUEST)))
             return 10;
-        return port != 1 && port != from && port != to ? 11 : 0;
+        return port != 1 && port != from && port != to && !(to == ALL && ports == 2) ? 11 : 0;
     default:
         return 9;
     }
@@ -407,7 +431,8 @@ static uint32_t command(struct pair *pairs, int named, const uint8_t *payload, s
 }
 
 /* 12 to 17, and what a message asks for where none applies; `length` is that of a reply. */
-static uint32_t perform(struct unit *u, uint32_t from, uint32_t to, const uint8_t *payload, size_t n, uint8_t *reply, size_t *length)
+static uint32_t perform(struct unit *u, uint32_t ports, uint32_t from, uint32_t to, const uint8_t *payload, size_t n, uint8_t *reply,
+                        size_t *length)
 {
     if (payload[0] == ADDRESSES) {
         if (n != 8)
@@ -415,9 +440,9 @@ static uint32_t perform(struct unit *u, uint32_t from, uint32_t to, const uint8_
         *length = reply_addresses(u, to, reply);
         return 0;
     }
-    struct pair *pairs = u->pairs[from - 1];
+    struct pair *pairs = pairs_from(u, ports, from - 1);
     if (to == ALL)
-        return command(pairs, PORTS - 1, payload, n);
+        return command(pairs, ports - 1, payload, n);
     pairs += to < from ? to - 1 : to - 2;
     if (payload[0] != REQUEST)
         return command(pairs, 1, payload, n);
@@ -431,11 +456,12 @@ uint32_t c_message(uint64_t *record, size_t record_len, uint32_t port, uint32_t 
                    uint8_t *reply, size_t reply_len, uint64_t *answer, size_t answer_len)
 {
     struct unit *u = (struct unit *)record;
+    uint32_t ports = ports_of(record, record_len);
     if (answer_len == DEORASAENG_MESSAGE_ANSWER)
         answer[DEORASAENG_PGN] = answer[DEORASAENG_WRITTEN] = 0;
-    if (port - 1 >= PORTS)
+    if (port - 1 >= ports)
         return 1;
-    if (record_len != DEORASAENG_RECORD_WORDS || reply_len < LONGEST || answer_len != DEORASAENG_MESSAGE_ANSWER)
+    if (record_len != words_for[ports] || reply_len < LONGEST || answer_len != DEORASAENG_MESSAGE_ANSWER)
         return 2;
     if (u->claim != CLAIMED)
         return 6;
@@ -444,10 +470,10 @@ uint32_t c_message(uint64_t *record, size_t record_len, uint32_t port, uint32_t 
     if (requester >= NO_ADDRESS)
         return 8;
     uint8_t function = payload[0];
-    uint32_t from = payload[1] >> 4, to = payload[1] & 15, number = judge(port, function, from, to);
+    uint32_t from = payload[1] >> 4, to = payload[1] & 15, number = judge(ports, port, function, from, to);
     size_t length = 0;
     if (!number)
-        number = perform(u, from, to, payload, payload_len, reply, &length);
+        number = perform(u, ports, from, to, payload, payload_len, reply, &length);
     if (length) {
         while (length < 8)
             reply[length++] = FILLING;
@@ -463,22 +489,37 @@ uint32_t c_message(uint64_t *record, size_t record_len, uint32_t port, uint32_t 
 }
 
 /* ---- power-on, Start, Quiet, the unit */
-uint32_t c_power_on(uint64_t *record, size_t record_len, uint64_t name, uint32_t preferred)
+static uint32_t make(uint64_t *record, size_t record_len, uint64_t name, uint32_t preferred, uint32_t ports)
 {
-    if (record_len != DEORASAENG_RECORD_WORDS)
+    if (record_len != words_for[ports])
         return 2;
     struct unit *u = (struct unit *)record;
-    memset(u, 0, sizeof *u);
+    memset(record, 0, 8 * record_len);
     u->address = NO_ADDRESS;
     u->preferred = preferred;
     u->name = name;
+    u->ports = ports;
     return 0;
+}
+
+uint32_t c_power_on(uint64_t *record, size_t record_len, uint64_t name, uint32_t preferred)
+{
+    return make(record, record_len, name, preferred, USUAL);
+}
+
+uint32_t c_power_on_ports(uint64_t *record, size_t record_len, uint64_t name, uint32_t preferred, uint32_t ports)
+{
+    if (ports - FEWEST <= MOST - FEWEST)
+        return make(record, record_len, name, preferred, ports);
+    uint32_t number = make(record, record_len, name, preferred, USUAL);
+    return number ? number : 27;
 }
 
 uint32_t c_start(uint64_t *record, size_t record_len, uint64_t *answer, size_t answer_len)
 {
     struct unit *u = (struct unit *)record;
-    if (record_len != DEORASAENG_RECORD_WORDS || answer_len != DEORASAENG_START_ANSWER)
+    uint32_t ports = ports_of(record, record_len);
+    if (record_len != words_for[ports] || answer_len != DEORASAENG_START_ANSWER)
         return 2;
     if (u->claim != UNSTARTED)
         return 18;
@@ -493,7 +534,7 @@ uint32_t c_start(uint64_t *record, size_t record_len, uint64_t *answer, size_t a
         u->claim = CLAIMING;
         u->address = u->preferred;
     }
-    answer[DEORASAENG_START_OWN_LOST] = announce(u, own_id(u->address));
+    answer[DEORASAENG_START_OWN_LOST] = announce(u, ports, own_id(u->address));
     answer[DEORASAENG_START_STATE] = u->claim;
     return 0;
 }
@@ -501,7 +542,7 @@ uint32_t c_start(uint64_t *record, size_t record_len, uint64_t *answer, size_t a
 uint32_t c_quiet(uint64_t *record, size_t record_len)
 {
     struct unit *u = (struct unit *)record;
-    if (record_len != DEORASAENG_RECORD_WORDS)
+    if (record_len != words_for[ports_of(record, record_len)])
         return 2;
     if (u->claim != CLAIMING)
         return 18;
@@ -512,12 +553,13 @@ uint32_t c_quiet(uint64_t *record, size_t record_len)
 uint32_t c_unit(const uint64_t *record, size_t record_len, uint64_t *answer, size_t answer_len)
 {
     const struct unit *u = (const struct unit *)record;
-    if (record_len != DEORASAENG_RECORD_WORDS || answer_len != DEORASAENG_UNIT_ANSWER)
+    uint32_t ports = ports_of(record, record_len);
+    if (record_len != words_for[ports] || answer_len != DEORASAENG_UNIT_ANSWER)
         return 2;
     answer[DEORASAENG_UNIT_STATE] = u->claim;
     answer[DEORASAENG_UNIT_ADDRESS] = u->address;
     answer[DEORASAENG_UNIT_PREFERRED] = u->preferred;
     answer[DEORASAENG_UNIT_NAME] = u->name;
-    answer[DEORASAENG_UNIT_PORTS] = PORTS;
+    answer[DEORASAENG_UNIT_PORTS] = ports;
     return 0;
 }

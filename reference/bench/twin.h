@@ -6,6 +6,7 @@
 
 #define FUNCTIONS(side)                         \
     __typeof__(deorasaeng_power_on) side##_power_on; \
+    __typeof__(deorasaeng_power_on_ports) side##_power_on_ports; \
     __typeof__(deorasaeng_frame) side##_frame;       \
     __typeof__(deorasaeng_take) side##_take;         \
     __typeof__(deorasaeng_message) side##_message;   \

@@ -2,16 +2,16 @@
 
 use std::slice;
 
-const PORTS: usize = 4;
+const FEWEST: usize = 2;
+const USUAL: usize = 4;
+const MOST: usize = 8;
 const LIST: usize = 32;
 const QUEUE: usize = 32;
 const PLACES: usize = 254;
 const PAIR_WORDS: usize = 2 + LIST;
 const QUEUE_WORDS: usize = 1 + 2 * QUEUE;
 const PLACE_WORDS: usize = 2;
-const PAIRS: usize = PORTS * (PORTS - 1);
-const OWN: usize = 4;
-const RECORD: usize = OWN + PAIR_WORDS * PAIRS + QUEUE_WORDS * PORTS + PLACE_WORDS * PLACES;
+const OWN: usize = 5;
 const LONGEST: usize = 1785;
 const NO_ADDRESS: u64 = 254;
 const ALL: usize = 15;
@@ -45,12 +45,24 @@ type Queue = [u64; QUEUE_WORDS];
 /// The arrival port, the NAME.
 type Place = [u64; PLACE_WORDS];
 
-/// The record's regions.
+/// The record's regions. The pairs are, for each port, those to the others.
 struct Unit<'a> {
     own: &'a mut [u64; OWN],
-    pairs: &'a mut [Pair; PAIRS],
-    queues: &'a mut [Queue; PORTS],
     table: &'a mut [Place; PLACES],
+    queues: &'a mut [Queue],
+    pairs: &'a mut [Pair],
+}
+
+const fn record_words(ports: usize) -> usize {
+    OWN + PLACE_WORDS * PLACES + QUEUE_WORDS * ports + PAIR_WORDS * ports * (ports - 1)
+}
+
+/// How many ports the record has.
+fn ports_of(words: &[u64]) -> usize {
+    match words.get(OWN - 1) {
+        Some(&ports) if (FEWEST as u64..=MOST as u64).contains(&ports) => ports as usize,
+        _ => USUAL,
+    }
 }
 
 enum Event {
@@ -164,7 +176,7 @@ fn add(pairs: &mut [Pair], body: &[u8]) -> Result<(), u32> {
     }
     let (pgns, held) = different(body)?;
     let pgns = &pgns[..held];
-    let mut fresh = [0u32; PORTS - 1];
+    let mut fresh = [0u32; MOST - 1];
     for (pair, fresh) in pairs.iter().zip(&mut fresh) {
         let entries = entries_of(pair);
         for (i, x) in pgns.iter().enumerate() {
@@ -191,7 +203,7 @@ fn delete(pairs: &mut [Pair], body: &[u8]) -> Result<(), u32> {
     if pairs.iter().any(|p| p[0] == CLEARED) {
         return Err(15);
     }
-    let mut gone = [0u32; PORTS - 1];
+    let mut gone = [0u32; MOST - 1];
     for (pair, gone) in pairs.iter().zip(&mut gone) {
         let entries = entries_of(pair);
         for x in entries_from(body).map(u64::from) {
@@ -273,7 +285,7 @@ fn pack(bytes: &[u8]) -> u64 {
     }
 }
 
-/// The place among a port's three pairs of the one to another port.
+/// The place among a port's pairs of the one to another port.
 fn pair_of(from: usize, to: usize) -> usize {
     if to < from {
         to
@@ -284,16 +296,29 @@ fn pair_of(from: usize, to: usize) -> usize {
 
 impl<'a> Unit<'a> {
     fn over(words: &'a mut [u64]) -> Option<Unit<'a>> {
-        let words: &mut [u64; RECORD] = words.try_into().ok()?;
+        let ports = ports_of(words);
+        if words.len() != record_words(ports) {
+            return None;
+        }
         let (own, rest) = words.split_first_chunk_mut()?;
-        let (pairs, rest) = rest.split_at_mut(PAIR_WORDS * PAIRS);
-        let (queues, table) = rest.split_at_mut(QUEUE_WORDS * PORTS);
+        let (table, rest) = rest.split_at_mut(PLACE_WORDS * PLACES);
+        let (queues, pairs) = rest.split_at_mut(QUEUE_WORDS * ports);
         Some(Unit {
             own,
-            pairs: pairs.as_chunks_mut().0.try_into().ok()?,
-            queues: queues.as_chunks_mut().0.try_into().ok()?,
             table: table.as_chunks_mut().0.try_into().ok()?,
+            queues: queues.as_chunks_mut().0,
+            pairs: pairs.as_chunks_mut().0,
         })
+    }
+
+    fn ports(&self) -> usize {
+        self.queues.len()
+    }
+
+    /// The pairs from a port, counted from 0.
+    fn pairs_from(&mut self, from: usize) -> &mut [Pair] {
+        let n = self.ports() - 1;
+        &mut self.pairs[n * from..][..n]
     }
 
     fn holds_address(&self) -> bool {
@@ -340,8 +365,10 @@ impl<'a> Unit<'a> {
     /// Rules 2, 3 and 5: accepted, lost, compared.
     fn forward(&mut self, from: usize, pgn: u32, head: u64, bytes: u64) -> (u64, u64, u64) {
         let (mut accepted, mut lost, mut total) = (0, 0, 0);
-        for to in (0..PORTS).filter(|&to| to != from) {
-            let (permitted, compared) = ask(&self.pairs[3 * from + pair_of(from, to)], pgn);
+        let n = self.ports() - 1;
+        let pairs = &self.pairs[n * from..][..n];
+        for (pair, to) in pairs.iter().zip((0..=n).filter(|&to| to != from)) {
+            let (permitted, compared) = ask(pair, pgn);
             total += compared;
             if !permitted {
                 continue;
@@ -384,10 +411,10 @@ impl<'a> Unit<'a> {
 
     /// A command on pairs, where `to` may be all.
     fn command(&mut self, from: usize, to: usize, payload: &[u8]) -> Result<(), u32> {
-        let first = 3 * (from - 1);
+        let all = self.pairs_from(from - 1);
         let pairs = match to {
-            ALL => &mut self.pairs[first..first + 3],
-            _ => slice::from_mut(&mut self.pairs[first + pair_of(from - 1, to - 1)]),
+            ALL => all,
+            _ => slice::from_mut(&mut all[pair_of(from - 1, to - 1)]),
         };
         match payload[0] {
             ADD => add(pairs, entries_in(payload, 2)?),
@@ -402,8 +429,8 @@ impl<'a> Unit<'a> {
     }
 
     /// Writes the reply that reports a list; its length without filling.
-    fn reply_list(&self, from: usize, to: usize, pair: u8, reply: &mut [u8]) -> usize {
-        let block = &self.pairs[3 * (from - 1) + pair_of(from - 1, to - 1)];
+    fn reply_list(&mut self, from: usize, to: usize, pair: u8, reply: &mut [u8]) -> usize {
+        let block = &self.pairs_from(from - 1)[pair_of(from - 1, to - 1)];
         let entries = entries_of(block);
         reply[..3].copy_from_slice(&[1, pair, u8::from(block[0] == PASS)]);
         for (out, pgn) in reply[3..].chunks_exact_mut(3).zip(entries) {
@@ -429,7 +456,8 @@ impl<'a> Unit<'a> {
     /// 9 to 17, and what the payload asks for where none applies: a reply's length, or nothing where an acknowledgment is due.
     fn perform(&mut self, port: usize, payload: &[u8], reply: &mut [u8]) -> Result<Option<usize>, u32> {
         let (from, to) = (usize::from(payload[1] >> 4), usize::from(payload[1] & 15));
-        let is_port = |p: usize| (1..=PORTS).contains(&p);
+        let ports = self.ports();
+        let is_port = |p: usize| (1..=ports).contains(&p);
         let function = payload[0];
         match function {
             ADDRESSES if !is_port(to) => Err(10),
@@ -439,7 +467,8 @@ impl<'a> Unit<'a> {
                 if !is_port(from) || from == to || !(is_port(to) || to == ALL && function != REQUEST) {
                     return Err(10);
                 }
-                if port != 1 && port != from && port != to {
+                // All pairs from a port are a neighbour's too only where there is one.
+                if port != 1 && port != from && port != to && !(to == ALL && ports == 2) {
                     return Err(11);
                 }
                 if function == REQUEST {
@@ -510,7 +539,7 @@ fn event_words(event: Event) -> (u64, u64) {
 
 /// 1, then 2.
 fn lent<'a>(words: &'a mut [u64], port: u32, good: bool) -> Result<Unit<'a>, u32> {
-    if !(1..=PORTS as u32).contains(&port) {
+    if !(1..=ports_of(words) as u32).contains(&port) {
         return Err(1);
     }
     match Unit::over(words) {
@@ -565,6 +594,21 @@ fn message(words: &mut [u64], port: u32, requester: u32, payload: &[u8], reply: 
     }
 }
 
+fn power_on(words: &mut [u64], name: u64, preferred: u32, ports: u32) -> Result<(), u32> {
+    let good = (FEWEST..=MOST).contains(&(ports as usize));
+    let count = if good { ports as usize } else { USUAL };
+    if words.len() != record_words(count) {
+        return Err(2);
+    }
+    words.fill(0);
+    words[..OWN].copy_from_slice(&[UNSTARTED, NO_ADDRESS, u64::from(preferred), name, count as u64]);
+    if good {
+        Ok(())
+    } else {
+        Err(27)
+    }
+}
+
 fn number(done: Result<(), u32>) -> u32 {
     done.err().unwrap_or(0)
 }
@@ -573,13 +617,12 @@ fn number(done: Result<(), u32>) -> u32 {
 
 #[no_mangle]
 pub unsafe extern "C" fn rust_power_on(record: *mut u64, record_len: usize, name: u64, preferred: u32) -> u32 {
-    let words = slice::from_raw_parts_mut(record, record_len);
-    if words.len() != RECORD {
-        return 2;
-    }
-    words.fill(0);
-    words[..4].copy_from_slice(&[UNSTARTED, NO_ADDRESS, u64::from(preferred), name]);
-    0
+    number(power_on(slice::from_raw_parts_mut(record, record_len), name, preferred, USUAL as u32))
+}
+
+#[no_mangle]
+pub unsafe extern "C" fn rust_power_on_ports(record: *mut u64, record_len: usize, name: u64, preferred: u32, ports: u32) -> u32 {
+    number(power_on(slice::from_raw_parts_mut(record, record_len), name, preferred, ports))
 }
 
 #[no_mangle]
@@ -654,10 +697,11 @@ pub unsafe extern "C" fn rust_quiet(record: *mut u64, record_len: usize) -> u32 
 pub unsafe extern "C" fn rust_unit(record: *const u64, record_len: usize, answer: *mut u64, answer_len: usize) -> u32 {
     let words = slice::from_raw_parts(record, record_len);
     let answer = slice::from_raw_parts_mut(answer, answer_len);
-    if words.len() != RECORD || answer.len() != OWN + 1 {
+    let ports = ports_of(words);
+    if words.len() != record_words(ports) || answer.len() != OWN {
         return 2;
     }
-    answer[..OWN].copy_from_slice(&words[..OWN]);
-    answer[OWN] = PORTS as u64;
+    answer.copy_from_slice(&words[..OWN]);
+    answer[OWN - 1] = ports as u64;
     0
 }

@@ -8,13 +8,17 @@
 #include <stdlib.h>
 #include <string.h>
 
-enum kind { POWER_ON, FRAME, TAKE, MESSAGE, START, QUIET, UNIT, TAKE_QUEUE, KINDS };
+enum kind { POWER_ON, POWER_ON_PORTS, FRAME, TAKE, MESSAGE, START, QUIET, UNIT, TAKE_QUEUE, KINDS };
 
-static const char *const kind_name[KINDS] = {"power-on", "frame", "take", "message", "Start", "Quiet", "unit", "take on a queue"};
+/* One more than the highest number. */
+enum { NUMBERS = DEORASAENG_WRONG_PORT_COUNT + 1 };
+
+static const char *const kind_name[KINDS] = {"power-on", "power-on with ports", "frame", "take", "message", "Start", "Quiet", "unit", "take on a queue"};
 
 /* The numbers that each call can give. */
 static const uint32_t allowed[KINDS] = {
     1u << 0 | 1u << 2,
+    1u << 0 | 1u << 2 | 1u << 27,
     0x3Fu,
     0x7u,
     0x7u | 0x3FFC0u,
@@ -24,7 +28,10 @@ static const uint32_t allowed[KINDS] = {
     1u << 0 | 1u << 2,
 };
 
-static uint64_t seed, calls, number_count[KINDS][19];
+static uint64_t seed, calls, number_count[KINDS][NUMBERS];
+
+/* How many ports the unit has that is called. */
+static uint32_t ports = USUAL_PORTS;
 
 /* splitmix64 */
 static uint64_t next(void)
@@ -51,7 +58,7 @@ static void check(int holds, const char *otherwise)
 
 static void count(enum kind kind, uint32_t number)
 {
-    check(number < 19 && (allowed[kind] >> number & 1), "a number that this call does not have");
+    check(number < NUMBERS && (allowed[kind] >> number & 1), "a number that this call does not have");
     number_count[kind][number]++;
 }
 
@@ -59,7 +66,7 @@ static void print_counts(void)
 {
     for (int kind = 0; kind < KINDS; kind++) {
         printf("%s:", kind_name[kind]);
-        for (int number = 0; number < 19; number++)
+        for (int number = 0; number < NUMBERS; number++)
             if (number_count[kind][number] != 0)
                 printf("  %d: %" PRIu64, number, number_count[kind][number]);
         printf("\n");
@@ -99,7 +106,11 @@ static void some_bytes(uint8_t *bytes, uint32_t id, size_t length)
 
 static uint32_t some_port(void)
 {
-    return below(50) == 0 ? (uint32_t)next() >> below(32) : 1 + below(4);
+    switch (below(100)) {
+    case 0: return (uint32_t)next() >> below(32);
+    case 1: return ports + 1;
+    default: return 1 + below(ports);
+    }
 }
 
 /* A frame's length: that of a claim, of a request, or any. */
@@ -129,7 +140,7 @@ static void some_payload(uint8_t *payload, size_t length)
     if (length < 3)
         return;
     payload[0] = below(20) == 0 ? (uint8_t)next() : functions[below(8)];
-    payload[1] = (uint8_t)(below(20) == 0 ? next() : (1 + below(4)) << 4 | (below(4) == 0 ? 15 : 1 + below(4)));
+    payload[1] = (uint8_t)(below(20) == 0 ? next() : (1 + below(ports)) << 4 | (below(4) == 0 ? 15 : 1 + below(ports)));
     size_t first = payload[0] == 6 ? 3 : 2;
     payload[2] = payload[0] == 6 ? (uint8_t)below(below(20) == 0 ? 256 : 2) : 0xFF;
     size_t entries = length == 8 ? 1 + below(2) : (length - first) / 3;

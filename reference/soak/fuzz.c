@@ -1,11 +1,11 @@
-/* A fuzz run: the exported functions on records of any words and on buffers of any length, each exactly as long as it says. The library is not instrumented, so a
+/* A fuzz run: the exported functions on records of any words, of every number of ports, and on buffers of any length, each exactly as long as it says. The library is not instrumented, so a
    buffer ends at a page that faults, or begins behind one, or is of the heap, where the sanitizer watches what goes through memcpy; one of no length is null every
    other time. usage: fuzz SEED CALLS */
 #define _DEFAULT_SOURCE
 #include "common.h"
 #include <sys/mman.h>
 
-enum { RECORD = DEORASAENG_RECORD_WORDS, ROOM = 32768, PAGE = 65536, LENT = 4 };
+enum { ROOM = 32768, PAGE = 65536, LENT = 4 };
 
 /* A buffer of one call: its place, its bytes, and what it held before. */
 struct lent {
@@ -77,28 +77,39 @@ static size_t some_size(size_t right, uint32_t most)
 }
 
 /* A record whose claim state is one of the four, and whose lists and queues are of likely lengths. */
-static uint64_t *some_record(size_t length)
+static void fill_record(uint64_t *record, uint32_t likely, size_t length)
+{
+    record[0] = below(3) ? 2 : below(5);
+    record[1] = record[2] = 0x80;
+    for (uint64_t *pair = record + PAIRS_AT(likely); pair < record + length; pair += PAIR_WORDS) {
+        pair[0] = below(4);
+        pair[1] = below(LIST + 4);
+        for (int j = 0; j < LIST; j++)
+            pair[2 + j] = some_pgn();
+    }
+    for (uint32_t port = 1; port <= likely; port++)
+        record[DEORASAENG_QUEUE_AT(port)] = below(QUEUE + 4);
+}
+
+static size_t record_words; /* what the record's own count asks for */
+
+/* A record that says so many ports, or any word in place of that. */
+static uint64_t *some_record(size_t length, uint32_t likely)
 {
     uint64_t *record = lend(0, 8 * length);
-    if (length == RECORD && below(4) != 0) {
-        record[0] = below(3) ? 2 : below(5);
-        record[1] = record[2] = 0x80;
-        for (uint64_t *pair = record + PAIRS_AT; pair < record + QUEUES_AT; pair += PAIR_WORDS) {
-            pair[0] = below(4);
-            pair[1] = below(LIST + 4);
-            for (int j = 0; j < LIST; j++)
-                pair[2 + j] = some_pgn();
-        }
-        for (int port = 1; port <= PORTS; port++)
-            record[DEORASAENG_QUEUE_AT(port)] = below(QUEUE + 4);
-        keep(0);
-    }
+    if (length > PORTS_AT && below(8) != 0)
+        record[PORTS_AT] = likely;
+    if (length == DEORASAENG_RECORD_WORDS_FOR(likely) && below(4) != 0)
+        fill_record(record, likely, length);
+    keep(0);
+    ports = ports_of(record, length);
+    record_words = DEORASAENG_RECORD_WORDS_FOR(ports);
     return record;
 }
 
 static int is_port(uint32_t port)
 {
-    return port >= 1 && port <= 4;
+    return port >= 1 && port <= ports;
 }
 
 /* Number 1, then 2, exactly; a refusal changes nothing that was lent. */
@@ -118,13 +129,32 @@ static void judge(enum kind kind, uint32_t number, int has_port, int right)
 /* A frame of no bytes whose pointer is null is any other frame of no bytes. */
 static void judge_null(uint32_t port, uint32_t id, uint32_t number, const uint64_t *record, const uint64_t *answer)
 {
-    static uint64_t again[RECORD];
+    static uint64_t again[MOST_WORDS];
     uint64_t told[DEORASAENG_FRAME_ANSWER];
     uint8_t none = 0;
-    memcpy(again, lent[0].old, sizeof again);
+    memcpy(again, lent[0].old, 8 * record_words);
     memcpy(told, lent[1].old, sizeof told);
-    check(deorasaeng_frame(again, RECORD, port, id, &none, 0, told, DEORASAENG_FRAME_ANSWER) == number, "null: another number");
-    check(memcmp(again, record, sizeof again) == 0 && memcmp(told, answer, sizeof told) == 0, "null: another record or answer");
+    check(deorasaeng_frame(again, record_words, port, id, &none, 0, told, DEORASAENG_FRAME_ANSWER) == number, "null: another number");
+    check(memcmp(again, record, 8 * record_words) == 0 && memcmp(told, answer, sizeof told) == 0, "null: another record or answer");
+}
+
+/* 27 makes a fresh unit with four ports; 2 changes no word. */
+static void fuzz_power_on_ports(size_t length, uint64_t *record, uint32_t likely)
+{
+    uint32_t asked = below(4) ? likely : below(2) ? below(12) : (uint32_t)next();
+    int good = asked >= FEWEST_PORTS && asked <= MOST_PORTS, right = length == DEORASAENG_RECORD_WORDS_FOR(asked);
+    uint64_t name = next();
+    uint32_t preferred = (uint32_t)next(), number = deorasaeng_power_on_ports(record, length, name, preferred, asked);
+    count(POWER_ON_PORTS, number);
+    check(number == (!right ? 2u : good ? 0u : 27u), "number of a power-on");
+    if (!right) {
+        check(unchanged(0), "a refused power-on changed the record");
+        return;
+    }
+    uint64_t own[TABLE_AT] = {0, 254, preferred, name, good ? asked : USUAL_PORTS};
+    check(memcmp(record, own, sizeof own) == 0, "the unit's own words");
+    for (size_t i = TABLE_AT; i < length; i++)
+        check(record[i] == 0, "a word of a fresh unit");
 }
 
 static void fuzz_frame(size_t length, uint64_t *record)
@@ -136,7 +166,7 @@ static void fuzz_frame(size_t length, uint64_t *record)
     some_bytes(bytes, id, size);
     keep(3);
     uint32_t number = deorasaeng_frame(record, length, port, id, bytes, size, answer, words);
-    int right = length == RECORD && words == DEORASAENG_FRAME_ANSWER;
+    int right = length == record_words && words == DEORASAENG_FRAME_ANSWER;
     judge(FRAME, number, is_port(port), right);
     if (right && bytes == NULL)
         judge_null(port, id, number, record, answer);
@@ -159,7 +189,7 @@ static void fuzz_take(size_t length, uint64_t *record, int by_queue)
         number = deorasaeng_take_queue(record, answer, words, bytes, size);
     else
         number = deorasaeng_take(record, length, port, answer, words, bytes, size);
-    judge(by_queue ? TAKE_QUEUE : TAKE, number, is_port(port), right && (by_queue || length == RECORD));
+    judge(by_queue ? TAKE_QUEUE : TAKE, number, is_port(port), right && (by_queue || length == record_words));
     if (number == 0 && answer[DEORASAENG_GIVEN] == 0)
         check(unchanged(0) && unchanged(2), "a take of nothing changed something");
     if (number == 0)
@@ -178,7 +208,7 @@ static void fuzz_message(size_t length, uint64_t *record)
         some_payload(payload, size);
     keep(3);
     uint32_t number = deorasaeng_message(record, length, port, requester, payload, size, reply, room, answer, words);
-    int right = length == RECORD && words == DEORASAENG_MESSAGE_ANSWER && room >= DEORASAENG_REPLY_BYTES;
+    int right = length == record_words && words == DEORASAENG_MESSAGE_ANSWER && room >= DEORASAENG_REPLY_BYTES;
     judge(MESSAGE, number, is_port(port), right);
     if (words != DEORASAENG_MESSAGE_ANSWER) {
         check(unchanged(1) && unchanged(2), "a wrong answer was written to");
@@ -195,7 +225,7 @@ static void fuzz_start(size_t length, uint64_t *record)
     size_t words = some_size(DEORASAENG_START_ANSWER, 20);
     uint64_t *answer = lend(1, 8 * words);
     uint32_t number = deorasaeng_start(record, length, answer, words);
-    judge(START, number, 1, length == RECORD && words == DEORASAENG_START_ANSWER);
+    judge(START, number, 1, length == record_words && words == DEORASAENG_START_ANSWER);
 }
 
 static void fuzz_unit(size_t length, uint64_t *record)
@@ -203,22 +233,24 @@ static void fuzz_unit(size_t length, uint64_t *record)
     size_t words = some_size(DEORASAENG_UNIT_ANSWER, 20);
     uint64_t *answer = lend(1, 8 * words);
     uint32_t number = deorasaeng_unit(record, length, answer, words);
-    judge(UNIT, number, 1, length == RECORD && words == DEORASAENG_UNIT_ANSWER);
+    judge(UNIT, number, 1, length == record_words && words == DEORASAENG_UNIT_ANSWER);
     check(unchanged(0), "reading the unit changed the record");
 }
 
 static void fuzz(void)
 {
     enum kind kind = below(4) ? FRAME + below(3) : below(KINDS);
-    size_t length = kind == TAKE_QUEUE ? DEORASAENG_QUEUE_WORDS : some_size(RECORD, 2000);
-    uint64_t *record = some_record(length);
+    uint32_t likely = kind == POWER_ON && below(2) ? USUAL_PORTS : FEWEST_PORTS + below(7);
+    size_t length = kind == TAKE_QUEUE ? DEORASAENG_QUEUE_WORDS : some_size(DEORASAENG_RECORD_WORDS_FOR(likely), 4000);
+    uint64_t *record = some_record(length, likely);
     switch (kind) {
-    case POWER_ON: judge(kind, deorasaeng_power_on(record, length, next(), (uint32_t)next()), 1, length == RECORD); break;
+    case POWER_ON: judge(kind, deorasaeng_power_on(record, length, next(), (uint32_t)next()), 1, length == DEORASAENG_RECORD_WORDS); break;
+    case POWER_ON_PORTS: fuzz_power_on_ports(length, record, likely); break;
     case FRAME: fuzz_frame(length, record); break;
     case MESSAGE: fuzz_message(length, record); break;
     case START: fuzz_start(length, record); break;
     case UNIT: fuzz_unit(length, record); break;
-    case QUIET: judge(kind, deorasaeng_quiet(record, length), 1, length == RECORD); break;
+    case QUIET: judge(kind, deorasaeng_quiet(record, length), 1, length == record_words); break;
     default: fuzz_take(length, record, kind == TAKE_QUEUE); break;
     }
     take_back();

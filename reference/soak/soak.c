@@ -1,13 +1,14 @@
-/* A soak: one unit through the C interface, every buffer between guards. After each call the guards hold, a refusal has changed nothing, and what the answer
+/* A soak: one unit after the other, of every number of ports, through the C interface, every buffer between guards. After each call the guards hold, a refusal has changed nothing, and what the answer
    says agrees with what the record's words say. usage: soak SEED CALLS */
 #include "common.h"
 
-enum { RECORD = DEORASAENG_RECORD_WORDS, GUARDS = 16, LONGEST = 2000 };
+enum { GUARDS = 16, LONGEST = 2000 };
 
 static const uint64_t WORD = 0xA5A55A5AA5A55A5A;
 static const uint8_t BYTE = 0x5C;
 
-static uint64_t record_area[GUARDS + RECORD + GUARDS], before[RECORD];
+static uint64_t record_area[GUARDS + MOST_WORDS + GUARDS], before[MOST_WORDS];
+static size_t words; /* of the record, as the unit's number of ports has it */
 static uint64_t *const record = record_area + GUARDS;
 static uint64_t answer_area[GUARDS + DEORASAENG_FRAME_ANSWER + GUARDS];
 static uint64_t *const answer = answer_area + GUARDS;
@@ -24,10 +25,10 @@ static void lend(size_t byte_length)
     memcpy(before, record, sizeof before);
 }
 
-static int words_are(const uint64_t *words, size_t length, uint64_t word)
+static int words_are(const uint64_t *from, size_t length, uint64_t word)
 {
     for (size_t i = 0; i < length; i++)
-        if (words[i] != word)
+        if (from[i] != word)
             return 0;
     return 1;
 }
@@ -40,14 +41,14 @@ static int bytes_are(const uint8_t *from, size_t length, uint8_t byte)
     return 1;
 }
 
-/* `words` of the answer and `written` of `byte_length` bytes may have changed. */
-static void check_lent(size_t words, size_t written, size_t byte_length)
+/* `answered` words of the answer and `written` of `byte_length` bytes may have changed. */
+static void check_lent(size_t answered, size_t written, size_t byte_length)
 {
     check(words_are(answer_area, GUARDS, WORD), "a guard before the answer");
-    check(words_are(answer + words, DEORASAENG_FRAME_ANSWER - words + GUARDS, WORD), "a word behind the answer");
+    check(words_are(answer + answered, DEORASAENG_FRAME_ANSWER - answered + GUARDS, WORD), "a word behind the answer");
     check(bytes_are(byte_area, GUARDS, BYTE), "a guard before the bytes");
     check(bytes_are(bytes + written, byte_length - written + GUARDS, BYTE), "a byte past what was written");
-    check(words_are(record_area, GUARDS, WORD) && words_are(record + RECORD, GUARDS, WORD), "a guard of the record");
+    check(words_are(record_area, GUARDS, WORD) && words_are(record + words, MOST_WORDS - words + GUARDS, WORD), "a guard of the record");
 }
 
 static void check_same(size_t from, size_t to, const char *otherwise)
@@ -55,9 +56,9 @@ static void check_same(size_t from, size_t to, const char *otherwise)
     check(memcmp(record + from, before + from, (to - from) * sizeof *record) == 0, otherwise);
 }
 
-static uint64_t waiting(const uint64_t *words, uint32_t port)
+static uint64_t waiting(const uint64_t *unit, uint32_t port)
 {
-    uint64_t count_word = words[DEORASAENG_QUEUE_AT(port)];
+    uint64_t count_word = unit[DEORASAENG_QUEUE_AT(port)];
     return count_word < 32 ? count_word : 32;
 }
 
@@ -65,25 +66,36 @@ static void power_on(void)
 {
     static const uint32_t preferred[8] = {0x80, 0x80, 0x80, 0x80, 0x80, 0x80, 0, 254};
     uint64_t name = 0xA000000000000000u + (below(8) == 0 ? 8 : 0); /* the lowest but for a few, so that the unit is seldom displaced */
-    uint32_t number = deorasaeng_power_on(record, RECORD, name, preferred[below(8)]);
-    count(POWER_ON, number);
-    check(number == 0 && words_are(record + PAIRS_AT, RECORD - PAIRS_AT, 0), "power-on");
+    static const uint32_t counts[16] = {2, 3, 4, 5, 6, 7, 8, 4, 2, 8, 8, 4, 4, 0, 9, 4294967295};
+    uint32_t number, asked = counts[below(16)];
+    int good = asked >= FEWEST_PORTS && asked <= MOST_PORTS, plain = asked == USUAL_PORTS && below(2);
+    for (size_t i = 0; i < sizeof record_area / sizeof *record_area; i++)
+        record_area[i] = WORD;
+    words = DEORASAENG_RECORD_WORDS_FOR(asked);
+    if (plain)
+        number = deorasaeng_power_on(record, words, name, preferred[below(8)]);
+    else
+        number = deorasaeng_power_on_ports(record, words, name, preferred[below(8)], asked);
+    count(plain ? POWER_ON : POWER_ON_PORTS, number);
+    ports = good ? asked : USUAL_PORTS;
+    check(number == (good ? 0 : 27) && record[PORTS_AT] == ports && words_are(record + TABLE_AT, words - TABLE_AT, 0), "power-on");
+    check(words_are(record + words, MOST_WORDS - words + GUARDS, WORD), "power-on wrote behind the record");
 }
 
 /* The forwarded frame joins where it is accepted, the unit's own at every port or at none, save where it is lost. */
 static void check_joined(uint32_t port, uint64_t accepted, uint64_t lost, uint64_t own_lost)
 {
     int sent = own_lost != 0;
-    for (uint32_t q = 1; q <= 4; q++)
+    for (uint32_t q = 1; q <= ports; q++)
         sent |= waiting(record, q) != waiting(before, q) + (accepted >> (q - 1) & 1);
-    for (uint32_t q = 1; q <= 4; q++) {
+    for (uint32_t q = 1; q <= ports; q++) {
         uint64_t bit = 1u << (q - 1), own = sent && !(own_lost & bit);
         check(waiting(record, q) == waiting(before, q) + !!(accepted & bit) + own, "frames that joined");
         check(!(lost & bit) || waiting(before, q) == 32, "lost though there was room");
         check(!(own_lost & bit) || waiting(record, q) == 32, "own frame lost though there was room");
     }
     check((accepted & lost) == 0 && !((accepted | lost) >> (port - 1) & 1), "accepted and lost ports");
-    check((accepted | lost | own_lost) < 16, "ports");
+    check((accepted | lost | own_lost) >> ports == 0, "ports");
 }
 
 static void frame(void)
@@ -92,18 +104,18 @@ static void frame(void)
     size_t length = some_length(id);
     some_bytes(handed_in, id, length);
     lend(0);
-    uint32_t number = deorasaeng_frame(record, RECORD, port, id, handed_in, length, answer, DEORASAENG_FRAME_ANSWER);
+    uint32_t number = deorasaeng_frame(record, words, port, id, handed_in, length, answer, DEORASAENG_FRAME_ANSWER);
     count(FRAME, number);
     check_lent(number == 0 ? DEORASAENG_FRAME_ANSWER : 0, 0, 0);
     if (number != 0) {
-        check_same(0, RECORD, "a refused frame changed the record");
+        check_same(0, words, "a refused frame changed the record");
         return;
     }
-    check_same(PAIRS_AT, QUEUES_AT, "a frame changed a list");
+    check_same(PAIRS_AT(ports), words, "a frame changed a list");
     check_joined(port, answer[DEORASAENG_ACCEPTED], answer[DEORASAENG_LOST], answer[DEORASAENG_OWN_LOST]);
     if (answer[DEORASAENG_CONSUMED])
         check((answer[DEORASAENG_ACCEPTED] | answer[DEORASAENG_LOST] | answer[DEORASAENG_COMPARED]) == 0, "consumed and forwarded");
-    check(answer[DEORASAENG_CONSUMED] <= 1 && answer[DEORASAENG_COMPARED] <= 96, "consumed, compared");
+    check(answer[DEORASAENG_CONSUMED] <= 1 && answer[DEORASAENG_COMPARED] <= LIST * (ports - 1), "consumed, compared");
     check(answer[DEORASAENG_EVENT] <= 7 && (answer[DEORASAENG_EVENT] == 6 || answer[DEORASAENG_OLD_NAME] == 0), "event");
 }
 
@@ -122,12 +134,12 @@ static void check_taken(uint32_t port)
     uint64_t given = waiting(before, port) != 0;
     size_t at = DEORASAENG_QUEUE_AT(port);
     check_same(0, at, "a take changed a word before its queue");
-    check_same(at + DEORASAENG_QUEUE_WORDS, RECORD, "a take changed a word behind its queue");
+    check_same(at + DEORASAENG_QUEUE_WORDS, words, "a take changed a word behind its queue");
     check(answer[DEORASAENG_GIVEN] == given && waiting(record, port) == waiting(before, port) - given, "nothing waiting");
     check_lent(DEORASAENG_TAKE_ANSWER, given ? 8 : 0, DEORASAENG_FRAME_BYTES);
     if (!given) {
         check(answer[DEORASAENG_ID] == 0 && answer[DEORASAENG_LENGTH] == 0, "an identifier of nothing");
-        check_same(0, RECORD, "a take of nothing changed the record");
+        check_same(0, words, "a take of nothing changed the record");
         return;
     }
     const uint64_t *frame = due(port);
@@ -139,20 +151,20 @@ static void check_taken(uint32_t port)
 static void take(void)
 {
     uint32_t port = some_port();
-    int by_queue = port >= 1 && port <= 4 && below(4) == 0;
+    int by_queue = port >= 1 && port <= ports && below(4) == 0;
     lend(DEORASAENG_FRAME_BYTES);
     uint32_t number;
     if (by_queue)
         number = deorasaeng_take_queue(record + DEORASAENG_QUEUE_AT(port), answer, DEORASAENG_TAKE_ANSWER, bytes, DEORASAENG_FRAME_BYTES);
     else
-        number = deorasaeng_take(record, RECORD, port, answer, DEORASAENG_TAKE_ANSWER, bytes, DEORASAENG_FRAME_BYTES);
+        number = deorasaeng_take(record, words, port, answer, DEORASAENG_TAKE_ANSWER, bytes, DEORASAENG_FRAME_BYTES);
     count(by_queue ? TAKE_QUEUE : TAKE, number);
     if (number == 0) {
         check_taken(port);
         return;
     }
     check_lent(0, 0, DEORASAENG_FRAME_BYTES);
-    check_same(0, RECORD, "a refused take changed the record");
+    check_same(0, words, "a refused take changed the record");
 }
 
 static void message(void)
@@ -163,14 +175,13 @@ static void message(void)
     some_payload(handed_in, length);
     lend(room);
     uint32_t number =
-        deorasaeng_message(record, RECORD, some_port(), requester, handed_in, length, bytes, room, answer, DEORASAENG_MESSAGE_ANSWER);
+        deorasaeng_message(record, words, some_port(), requester, handed_in, length, bytes, room, answer, DEORASAENG_MESSAGE_ANSWER);
     count(MESSAGE, number);
     uint64_t pgn = answer[DEORASAENG_PGN], written = answer[DEORASAENG_WRITTEN];
     check_lent(DEORASAENG_MESSAGE_ANSWER, written, room);
-    check_same(0, PAIRS_AT, "a message changed the unit");
-    check_same(QUEUES_AT, RECORD, "a message changed a queue or the table");
+    check_same(0, PAIRS_AT(ports), "a message changed the unit, the table or a queue");
     if (number != 0)
-        check_same(0, RECORD, "a refused message changed the record");
+        check_same(0, words, "a refused message changed the record");
     if (pgn == 60672)
         check(number == 0 && written >= 8 && written <= 256, "a reply");
     else if (pgn == 59392)
@@ -182,15 +193,15 @@ static void message(void)
 static void start(void)
 {
     lend(0);
-    uint32_t number = deorasaeng_start(record, RECORD, answer, DEORASAENG_START_ANSWER);
+    uint32_t number = deorasaeng_start(record, words, answer, DEORASAENG_START_ANSWER);
     count(START, number);
     check_lent(number == 0 ? DEORASAENG_START_ANSWER : 0, 0, 0);
     if (number != 0) {
-        check_same(0, RECORD, "a refused Start changed the record");
+        check_same(0, words, "a refused Start changed the record");
         return;
     }
-    check_same(PAIRS_AT, QUEUES_AT, "Start changed a list");
-    for (uint32_t q = 1; q <= 4; q++)
+    check_same(PAIRS_AT(ports), words, "Start changed a list");
+    for (uint32_t q = 1; q <= ports; q++)
         check(waiting(record, q) == waiting(before, q) + !(answer[DEORASAENG_START_OWN_LOST] >> (q - 1) & 1), "Start's frame");
     uint64_t state = answer[DEORASAENG_START_STATE];
     check(state == record[0] && (state == DEORASAENG_STATE_CLAIMING || state == DEORASAENG_STATE_LOST), "what became of the unit");
@@ -199,26 +210,26 @@ static void start(void)
 static void quiet(void)
 {
     lend(0);
-    uint32_t number = deorasaeng_quiet(record, RECORD);
+    uint32_t number = deorasaeng_quiet(record, words);
     count(QUIET, number);
     check_lent(0, 0, 0);
     check(number != 0 || (before[0] == 1 && record[0] == 2), "Quiet");
-    check_same(number == 0, RECORD, "Quiet changed another word");
+    check_same(number == 0, words, "Quiet changed another word");
 }
 
 /* The unit is what its own words say; its address is the preferred one or none. */
 static void unit(void)
 {
     lend(0);
-    uint32_t number = deorasaeng_unit(record, RECORD, answer, DEORASAENG_UNIT_ANSWER);
+    uint32_t number = deorasaeng_unit(record, words, answer, DEORASAENG_UNIT_ANSWER);
     count(UNIT, number);
     check_lent(DEORASAENG_UNIT_ANSWER, 0, 0);
-    check_same(0, RECORD, "reading the unit changed the record");
+    check_same(0, words, "reading the unit changed the record");
     int has = record[0] == DEORASAENG_STATE_CLAIMING || record[0] == DEORASAENG_STATE_CLAIMED;
     check(number == 0 && answer[DEORASAENG_UNIT_STATE] == record[0], "claim state");
     check(answer[DEORASAENG_UNIT_ADDRESS] == (has ? record[2] : DEORASAENG_NO_ADDRESS), "address");
     check(answer[DEORASAENG_UNIT_PREFERRED] == record[2] && answer[DEORASAENG_UNIT_NAME] == record[3], "preferred address, NAME");
-    check(answer[DEORASAENG_UNIT_PORTS] == PORTS, "number of ports");
+    check(answer[DEORASAENG_UNIT_PORTS] == ports, "number of ports");
 }
 
 int main(int argc, char **argv)
@@ -226,8 +237,6 @@ int main(int argc, char **argv)
     seed = argc > 1 ? strtoull(argv[1], NULL, 10) : 1;
     uint64_t total = argc > 2 ? strtoull(argv[2], NULL, 10) : 50000000;
     uint64_t full = 0;
-    for (size_t i = 0; i < sizeof record_area / sizeof *record_area; i++)
-        record_area[i] = WORD;
     power_on();
     for (calls = 1; calls < total; calls++) {
         uint32_t takes = calls >> 12 & 3 ? 55 : 25, pick = below(100);

@@ -1,7 +1,7 @@
 //! "Addresses": claims, requests, the unit's own claim, Start and Quiet.
 
 use crate::frame::{self, Frame};
-use crate::unit::{FrameAnswer, Number, Unit, PORTS};
+use crate::unit::{FrameAnswer, Number, Unit};
 
 /// The state of the unit's own claim.
 #[derive(Clone, Copy, Debug, PartialEq, Eq)]
@@ -66,7 +66,7 @@ impl Unit {
             address: self.address(),
             preferred: self.preferred,
             name: self.name,
-            ports: PORTS.len() as u32,
+            ports: self.ports,
         }
     }
 
@@ -175,10 +175,10 @@ impl Unit {
         Frame { id: 0x18EE_FF00 + sender, bytes: self.name.to_le_bytes().to_vec() }
     }
 
-    /// The unit's frame joins all four queues under rule 3; gives the ports where it was lost.
+    /// The unit's frame joins every queue under rule 3; gives the ports where it was lost.
     fn send_own_frame(&mut self) -> Vec<u32> {
         let own = self.own_frame();
-        PORTS.into_iter().filter(|&port| !self.join(port, &own)).collect()
+        self.all_ports().filter(|&port| !self.join(port, &own)).collect()
     }
 }
 

@@ -2,7 +2,7 @@
 
 use crate::frame::Frame;
 use crate::generate::Random;
-use crate::unit::{check_port, Number, Unit};
+use crate::unit::{Number, Unit, USUAL_PORTS};
 
 /// Unknown kind; to text, a take too.
 pub const UNKNOWN_KIND: Number = 24;
@@ -105,7 +105,9 @@ pub fn to_text(record: &Record) -> Result<String, Number> {
     let Record::Frame { port, id, length, data } = record else {
         return Err(UNKNOWN_KIND);
     };
-    check_port(u32::from(*port))?;
+    if !(1..=USUAL_PORTS).contains(&u32::from(*port)) {
+        return Err(1);
+    }
     if *id >= 1 << 29 {
         return Err(3);
     }

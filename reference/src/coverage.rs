@@ -6,7 +6,8 @@ use crate::address::{is_claim, is_request_for_address_claimed, name_of, ClaimSta
 use crate::frame::{self, Frame};
 use crate::pair::{Pair, LONGEST_LIST};
 use crate::script::{apply, is_passed_over, lines_of, read_call, Answer, Call};
-use crate::unit::{other_ports, FrameAnswer, Unit, LONGEST_QUEUE};
+use crate::unit::{FrameAnswer, Unit, LONGEST_QUEUE, PORT_COUNTS};
+use crate::words::WORDS;
 
 /// The call letters of a script.
 pub const LETTERS: [&str; 7] = ["P", "S", "Q", "F", "T", "M", "U"];
@@ -18,13 +19,15 @@ pub const STATES: [&str; 4] = ["Unstarted", "Claiming", "Claimed", "Lost"];
 pub const MODES: [&str; 5] = ["cleared", "block", "block emptied", "pass", "pass emptied"];
 
 /// The further rows that a deep script reaches.
-pub const DEEP: [&str; 36] = [
+pub const DEEP: [&str; 42] = [
     "frame consumed",
     "frame stopped by a pair",
     "frame lost at some ports, accepted at others",
-    "frame lost at three ports",
+    "frame lost at every other port",
+    "frame accepted at seven ports",
+    "frame at the last port",
     "own frame lost at some ports",
-    "own frame lost at four ports",
+    "own frame lost at every port",
     "own claim lost, forwarded frame took the last place",
     "claim with the unit's own NAME",
     "claim that moved its NAME",
@@ -47,14 +50,18 @@ pub const DEEP: [&str; 36] = [
     "To 15 done by Delete",
     "To 15 done by Clear",
     "To 15 done by Create",
+    "To 15 done on one pair",
+    "To 15 done on seven pairs",
     "list of exactly 32 reached",
     "list emptied by Delete",
     "command of 594 entries done",
     "reply 1 of 99 bytes",
     "reply 65 over 8 bytes",
     "reply 65 of 255 bytes",
-    "done from port 2, 3 or 4",
-    "refused 11 from port 2, 3 or 4",
+    "done from another port than 1",
+    "refused 11 from another port than 1",
+    "port one past the count refused with 1",
+    "pair with the port one past the count refused with 10",
 ];
 
 /// The counts of one or more scripts.
@@ -104,12 +111,15 @@ impl Coverage {
         self.add(&format!("call {letter}"));
         self.add(&format!("number {} {letter}", answer.number()));
         let Some(after) = after else { return };
+        self.add(&format!("ports {}", after.ports));
         self.longest_queue = after.queues.values().map(|queue| queue.len()).fold(self.longest_queue, usize::max);
         self.largest_table = self.largest_table.max(after.table.len());
         let Some(before) = before else { return };
         if !matches!(call, Call::PowerOn { .. }) {
             self.add(&format!("state {:?}", before.state));
         }
+        let past = named_port(call) == Some(before.ports + 1);
+        self.add_if(past && answer.number() == 1, "port one past the count refused with 1");
         match (call, answer) {
             (Call::Frame { port, id, bytes }, Answer::Frame(Ok(answer))) => {
                 let frame = Frame { id: *id, bytes: bytes.clone() };
@@ -128,17 +138,20 @@ impl Coverage {
     fn count_frame(&mut self, before: &Unit, port: u32, frame: &Frame, answer: &FrameAnswer) {
         self.add(&format!("event {}", event_row(&answer.event)));
         self.add_if(answer.consumed, "frame consumed");
-        let asked = if answer.consumed { Vec::new() } else { other_ports(port) };
+        let asked = if answer.consumed { Vec::new() } else { before.other_ports(port) };
+        self.add_if(port == before.ports, "frame at the last port");
         for to in &asked {
             self.add(&format!("mode {}", mode_row(&before.pairs[&(port, *to)])));
         }
         let (accepted, lost) = (answer.accepted.len(), answer.lost.len());
         self.add_if(accepted + lost < asked.len(), "frame stopped by a pair");
         self.add_if(lost > 0 && accepted > 0, "frame lost at some ports, accepted at others");
-        self.add_if(lost == 3, "frame lost at three ports");
+        self.add_if(lost > 0 && lost == asked.len(), "frame lost at every other port");
+        self.add_if(accepted == 7, "frame accepted at seven ports");
         let own_lost = &answer.own_lost;
-        self.add_if((1..4).contains(&own_lost.len()), "own frame lost at some ports");
-        self.add_if(own_lost.len() == 4, "own frame lost at four ports");
+        let all = before.ports as usize;
+        self.add_if((1..all).contains(&own_lost.len()), "own frame lost at some ports");
+        self.add_if(own_lost.len() == all, "own frame lost at every port");
         let took_last = own_lost.iter().any(|to| answer.accepted.contains(to));
         self.add_if(took_last, "own claim lost, forwarded frame took the last place");
         self.add_if(frame::sa(frame.id) == frame::NULL, "SA 254 accepted");
@@ -199,10 +212,13 @@ impl Coverage {
         if answer.number != 9 {
             self.pair_bytes.insert((port, payload[1]));
         }
-        self.add_if(answer.number == 11, "refused 11 from port 2, 3 or 4");
+        self.add_if(answer.number == 11, "refused 11 from another port than 1");
+        let halves = [payload[1] >> 4, payload[1] & 0x0F].map(u32::from);
+        let past = halves.contains(&(before.ports + 1));
+        self.add_if(past && answer.number == 10, "pair with the port one past the count refused with 10");
         if answer.number == 0 {
             self.add(&format!("done {function}"));
-            self.add_if(port != 1, "done from port 2, 3 or 4");
+            self.add_if(port != 1, "done from another port than 1");
             self.count_done(before, payload, answer.length, after);
         }
     }
@@ -217,6 +233,8 @@ impl Coverage {
         };
         let all = payload[1] & 0x0F == 15 && function != 64;
         self.add_if(all, &format!("To 15 done by {word}"));
+        self.add_if(all && before.ports == 2, "To 15 done on one pair");
+        self.add_if(all && before.ports == 8, "To 15 done on seven pairs");
         self.add_if(payload.len() >= 1784, "command of 594 entries done");
         self.add_if(function == 0 && length == 99, "reply 1 of 99 bytes");
         self.add_if(function == 64 && length > 8, "reply 65 over 8 bytes");
@@ -232,13 +250,15 @@ impl Coverage {
     pub fn table(&self) -> Vec<String> {
         let mut lines = vec![self.line_of("calls", &LETTERS, "call ")];
         lines.push(format!("lines that are no call: {}", self.not_calls));
-        for number in 0..=18 {
+        for number in [0].into_iter().chain(WORDS.map(|(number, _)| number)) {
             let by_call = LETTERS.map(|letter| self.reached(&format!("number {number} {letter}")));
             let shown = LETTERS.iter().zip(by_call).filter(|(_, count)| *count > 0);
             let split: Vec<String> = shown.map(|(letter, count)| format!("{letter} {count}")).collect();
             let total: u64 = by_call.iter().sum();
             lines.push(format!("number {number:2}: {total:6}  {}", split.join(", ")));
         }
+        let counts = PORT_COUNTS.map(|ports| format!("{ports}: {}", self.reached(&format!("ports {ports}"))));
+        lines.push(format!("calls on units with ports {}", counts.collect::<Vec<_>>().join(", ")));
         lines.push(self.line_of("events", &EVENTS, "event "));
         lines.push(self.line_of("calls in state", &STATES, "state "));
         lines.push(self.line_of("unit told in state", &STATES, "told "));
@@ -248,7 +268,7 @@ impl Coverage {
             lines.push(format!("{row}: {}", self.reached(row)));
         }
         lines.push(format!("function bytes answered: {} of 256", self.functions.len()));
-        lines.push(format!("port and pair byte answered: {} of 1024", self.pair_bytes.len()));
+        lines.push(format!("port and pair byte answered: {} of 2048", self.pair_bytes.len()));
         let lengths = [7, 8, 9, 10, 11, 12, 1783, 1784, 1785, 1786];
         let shown = lengths.map(|length| format!("{length}: {}", self.lengths.get(&length).unwrap_or(&0)));
         lines.push(format!("payloads of length {}", shown.join(", ")));
@@ -271,6 +291,13 @@ fn letter(call: &Call) -> &'static str {
         Call::Take { .. } => "T",
         Call::Message { .. } => "M",
         Call::Unit => "U",
+    }
+}
+
+fn named_port(call: &Call) -> Option<u32> {
+    match call {
+        Call::Frame { port, .. } | Call::Take { port } | Call::Message { port, .. } => Some(*port),
+        _ => None,
     }
 }
 

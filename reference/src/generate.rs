@@ -3,7 +3,7 @@
 use crate::address::ClaimState;
 use crate::frame::{is_pgn, HIGHEST_ADDRESS};
 use crate::script::{apply, Call};
-use crate::unit::{other_ports, Unit, PORTS};
+use crate::unit::Unit;
 
 /// splitmix64.
 pub struct Random {
@@ -41,7 +41,7 @@ impl Random {
 /// A list of calls that begins with a power-on.
 pub fn generate(seed: u64, calls: usize) -> Vec<Call> {
     let mut random = Random::new(seed);
-    let (function_sweep, pair_sweep) = (random.below(256), random.below(1024));
+    let (function_sweep, pair_sweep) = (random.below(256), random.below(2048));
     let mut generator = Generator {
         random,
         calls: Vec::new(),
@@ -61,13 +61,21 @@ pub fn generate(seed: u64, calls: usize) -> Vec<Call> {
     generator.calls
 }
 
-/// Every pair byte of every function from every port, on one unit that is Claimed, with an address at each port.
-/// Create comes first, so that the others find lists.
+/// Every pair byte of every function, on a unit with four ports from every port, on one with two and one with eight
+/// from the first and the last.
 pub fn sweep() -> Vec<Call> {
-    let mut calls = vec![Call::PowerOn { name: 1 << 63, preferred: 200 }, Call::Start, Call::Quiet];
-    calls.extend(PORTS.map(|port| Call::Frame { port, id: 0x18EE_FF20 + port, bytes: vec![port as u8; 8] }));
+    let mut calls = sweep_of(4, &[1, 2, 3, 4]);
+    calls.extend(sweep_of(2, &[1, 2]));
+    calls.extend(sweep_of(8, &[1, 8]));
+    calls
+}
+
+/// On one unit that is Claimed, with an address at each port. Create comes first, so that the others find lists.
+fn sweep_of(ports: u32, tools: &[u32]) -> Vec<Call> {
+    let mut calls = vec![Call::PowerOn { name: 1 << 63, preferred: 200, ports }, Call::Start, Call::Quiet];
+    calls.extend((1..=ports).map(|port| Call::Frame { port, id: 0x18EE_FF20 + port, bytes: vec![port as u8; 8] }));
     for function in [6, 0, 2, 3, 4, 64] {
-        for port in PORTS {
+        for &port in tools {
             for byte in 0..=255 {
                 let payload = payload(function, byte, byte % 2, &[65265 + u32::from(byte % 3)]);
                 calls.push(Call::Message { port, requester: 33, payload });
@@ -152,7 +160,22 @@ impl Generator {
                 self.pgns.push(pgn);
             }
         }
-        self.make(Call::PowerOn { name, preferred });
+        let ports = self.some_count();
+        self.make(Call::PowerOn { name, preferred, ports });
+    }
+
+    /// Each count that there is, four most of all, and now and then one that is none.
+    fn some_count(&mut self) -> u32 {
+        let bad = self.random.pick(&[0, 1, 9, 10, 15, 16, 256 + 4, u32::MAX]);
+        self.random.pick(&[4, 4, 4, 2, 3, 5, 6, 7, 8, 2, 8, bad])
+    }
+
+    fn some_port(&mut self) -> u32 {
+        1 + self.random.below(self.unit.ports)
+    }
+
+    fn some_other_port(&mut self, port: u32) -> u32 {
+        self.random.pick(&self.unit.other_ports(port))
     }
 
     /// Now and then full queues, or claims for the preferred address, before Start.
@@ -175,7 +198,7 @@ impl Generator {
 
     /// A higher NAME holds the preferred address, is dropped at Start, and withdraws or comes again.
     fn start_over_a_holder(&mut self) {
-        let port = self.random.pick(&PORTS);
+        let port = self.some_port();
         let higher = self.unit.name.saturating_add(1).to_le_bytes().to_vec();
         let preferred = self.unit.preferred.min(HIGHEST_ADDRESS);
         let next = self.random.pick(&[254, preferred]);
@@ -187,7 +210,7 @@ impl Generator {
 
     /// Takes until nothing waits, and once more.
     fn empty_queues(&mut self) {
-        for port in PORTS {
+        for port in self.unit.all_ports() {
             for _ in 0..=self.unit.queues[&port].len() {
                 self.make(Call::Take { port });
             }
@@ -196,7 +219,7 @@ impl Generator {
 
     fn mood(&mut self) {
         self.takes = self.random.pick(&[0, 20, 60, 75]);
-        self.stuck = self.random.below(5);
+        self.stuck = self.random.below(self.unit.ports + 1);
     }
 
     /// Start and Quiet, in their place and out of it, and now and then a look at the unit.
@@ -230,8 +253,9 @@ impl Generator {
     }
 
     fn take(&mut self) {
-        let port = self.random.pick(&PORTS);
-        let bad = self.random.pick(&[0, 5, 15, 256, 257, u32::MAX]);
+        let port = self.some_port();
+        let past = self.unit.ports + 1;
+        let bad = self.random.pick(&[0, past, past, 9, 15, 256, 257, u32::MAX]);
         if self.random.once_in(40) {
             self.make(Call::Take { port: bad });
         } else if port != self.stuck {
@@ -276,7 +300,7 @@ impl Generator {
     }
 
     fn traffic(&mut self) {
-        let port = self.random.pick(&PORTS);
+        let port = self.some_port();
         let priority = self.random.below(8);
         let pgn = self.random.pick(&self.pgns);
         let (ps, sa) = (self.some_ps(), self.some_sa());
@@ -287,7 +311,7 @@ impl Generator {
 
     /// Many frames into one port with no take.
     fn burst(&mut self) {
-        let port = self.random.pick(&PORTS);
+        let port = self.some_port();
         for count in 0..30 + self.random.below(20) {
             let priority = self.random.pick(&[3, 6, 7]);
             let pgn = self.random.pick(&self.pgns);
@@ -297,7 +321,7 @@ impl Generator {
     }
 
     fn claim(&mut self) {
-        let port = self.random.pick(&PORTS);
+        let port = self.some_port();
         let priority = self.random.pick(&[6, 6, 6, 0, 7]);
         let address = self.random.pick(&self.addresses);
         let sa = if self.random.once_in(8) { 254 } else { address };
@@ -311,13 +335,13 @@ impl Generator {
 
     /// All NAMEs withdraw, then new ones claim every address, at one port or at all.
     fn storm(&mut self) {
-        let one = self.random.pick(&PORTS);
+        let one = self.some_port();
         let mixed = self.random.once_in(3);
         for holder in self.unit.table.clone().values() {
             self.send(one, 6, 60928, 255, 254, holder.name.to_le_bytes().to_vec());
         }
         for sa in 0..=HIGHEST_ADDRESS {
-            let any = self.random.pick(&PORTS);
+            let any = self.some_port();
             let port = if mixed { any } else { one };
             let name = self.random.number();
             if self.unit.address() != Some(sa) || name > self.unit.name {
@@ -331,7 +355,7 @@ impl Generator {
     }
 
     fn request(&mut self) {
-        let port = self.random.pick(&PORTS);
+        let port = self.some_port();
         let priority = self.random.pick(&[6, 6, 3]);
         let own = self.unit.address().unwrap_or(HIGHEST_ADDRESS);
         let any = self.some_ps();
@@ -356,7 +380,7 @@ impl Generator {
 
     /// Frames that are almost a claim: another length, destination or page.
     fn near_claim(&mut self) {
-        let port = self.random.pick(&PORTS);
+        let port = self.some_port();
         let sa = self.random.pick(&[self.addresses[0], self.addresses[3], 254]);
         let ps = self.random.pick(&[255, 254, 0, self.addresses[3]]);
         let pgn = self.random.pick(&[60928, 60928, 0x1EE00, 0x2EE00, 60672]);
@@ -366,7 +390,7 @@ impl Generator {
     }
 
     fn frame_to_the_unit(&mut self) {
-        let port = self.random.pick(&PORTS);
+        let port = self.some_port();
         let pgn = self.random.pick(&[61184, 60672, 60928, 59392, 0x3EF00, 0]);
         let ps = self.unit.preferred & 0xFF;
         let sa = self.some_sa();
@@ -377,8 +401,8 @@ impl Generator {
 
     /// One or more of numbers 1, 3, 4 and 5, and their neighbours.
     fn bad_frame(&mut self) {
-        let good = self.random.pick(&PORTS);
-        let port = self.random.pick(&[good, good, good, good, 0, 5, u32::MAX]);
+        let (good, past) = (self.some_port(), self.unit.ports + 1);
+        let port = self.random.pick(&[good, good, good, good, 0, past, u32::MAX]);
         let any = self.random.number() as u32;
         let below = any & 0x1FFF_FFFF;
         let known = 0x18FE_F100 | self.some_sa();
@@ -422,6 +446,13 @@ impl Generator {
         }
     }
 
+    /// The pairs of a good pair byte.
+    fn pairs_of(&self, byte: u8) -> Vec<(u32, u32)> {
+        let (from, to) = (u32::from(byte >> 4), u32::from(byte & 0x0F));
+        let all = self.unit.other_ports(from).into_iter().map(|other| (from, other));
+        all.filter(|&(_, other)| to == 15 || to == other).collect()
+    }
+
     fn hand_in(&mut self, port: u32, payload: Vec<u8>) {
         let any = self.random.below(254);
         let requester = self.random.pick(&[33, 33, 0, 253, any]);
@@ -430,8 +461,8 @@ impl Generator {
 
     /// A port and a pair byte that its tool may name, To 15 now and then.
     fn port_and_pair(&mut self) -> (u32, u8) {
-        let from = self.random.pick(&PORTS);
-        let to = self.random.pick(&other_ports(from));
+        let from = self.some_port();
+        let to = self.some_other_port(from);
         let port = self.random.pick(&[1, from, to]);
         if self.random.once_in(4) {
             (self.random.pick(&[1, from]), pair_byte(from, 15))
@@ -443,7 +474,7 @@ impl Generator {
     /// A command that suits the named pairs, most of the time.
     fn command(&mut self) {
         let (port, byte) = self.port_and_pair();
-        let named = pairs_of(byte);
+        let named = self.pairs_of(byte);
         let cleared = named.iter().filter(|pair| self.unit.pairs[pair].is_cleared()).count();
         let suits: &[u8] = match cleared {
             0 => &[2, 2, 2, 3, 3, 3, 4, 0, 6, 64],
@@ -484,11 +515,12 @@ impl Generator {
     /// Brings a list to exactly 32, then one more (16), then a listed one, then the reply.
     fn fill_list(&mut self) {
         let (port, byte) = self.port_and_pair();
-        let longest = pairs_of(byte).iter().map(|pair| self.unit.pairs[pair].entries().len()).max().unwrap_or(0);
+        let longest = self.pairs_of(byte).iter().map(|pair| self.unit.pairs[pair].entries().len()).max().unwrap_or(0);
         let function = if longest == 0 { 6 } else { 2 };
         let mode = self.random.pick(&[0, 1]);
         let all = self.different_pgns(50);
-        let listed = self.unit.pairs[&pairs_of(byte)[0]].entries().to_vec();
+        let named = self.pairs_of(byte);
+        let listed = self.unit.pairs[&named[0]].entries().to_vec();
         let fresh: Vec<u32> = all.into_iter().filter(|pgn| !listed.contains(pgn)).collect();
         let room = 32usize.saturating_sub(listed.len());
         let to_32 = &fresh[..room.min(fresh.len())];
@@ -502,7 +534,7 @@ impl Generator {
             self.hand_in(port, payload(function, byte, mode, &repeated(to_32, times)));
         }
         self.hand_in(port, payload(2, byte, 0, &[one_more]));
-        let listed_one = self.listed_pgns(&pairs_of(byte), 1);
+        let listed_one = self.listed_pgns(&named, 1);
         self.hand_in(port, payload(2, byte, 0, &listed_one));
         if byte & 0x0F != 15 {
             self.hand_in(port, payload(0, byte, 0, &[]));
@@ -511,7 +543,7 @@ impl Generator {
 
     /// Clear, Create, Add and Delete with To 15.
     fn all_pairs(&mut self) {
-        let from = self.random.pick(&PORTS);
+        let from = self.some_port();
         let byte = pair_byte(from, 15);
         let port = self.random.pick(&[1, from]);
         let mode = self.random.pick(&[0, 1]);
@@ -520,7 +552,7 @@ impl Generator {
         self.hand_in(port, payload(6, byte, mode, &entries[..4]));
         self.hand_in(port, payload(2, byte, 0, &entries[3..]));
         if self.random.once_in(2) {
-            let one = self.random.pick(&other_ports(from));
+            let one = self.some_other_port(from);
             self.hand_in(port, payload(3, pair_byte(from, one), 0, &entries[..1]));
         }
         self.hand_in(port, payload(3, byte, 0, &entries[..2]));
@@ -529,7 +561,7 @@ impl Generator {
     /// Deletes all that a pair lists; it does not become cleared by that.
     fn empty_list(&mut self) {
         let (port, byte) = self.port_and_pair();
-        let pair = pairs_of(byte)[0];
+        let pair = self.pairs_of(byte)[0];
         let byte = pair_byte(pair.0, pair.1);
         let listed = self.unit.pairs[&pair].entries().to_vec();
         let port = if port == pair.0 || port == pair.1 { port } else { 1 };
@@ -543,7 +575,7 @@ impl Generator {
     }
 
     fn function_sweep(&mut self) {
-        let port = self.random.pick(&PORTS);
+        let port = self.some_port();
         for _ in 0..6 {
             self.function_sweep += 1;
             let byte = self.random.pick(&[0x12, 0x21, 0x34, 0x00, 0x1F]);
@@ -560,12 +592,13 @@ impl Generator {
         let entries = self.different_pgns(1);
         for _ in 0..6 {
             self.pair_sweep += 1;
-            let port = 1 + self.pair_sweep / 256 % 4;
+            let port = 1 + self.pair_sweep / 256 % self.unit.ports;
             self.hand_in(port, payload(function, self.pair_sweep as u8, 1, &entries));
         }
-        let port = self.random.pick(&[2, 3, 4]);
-        let from = self.random.pick(&PORTS);
-        let to = self.random.pick(&[1, 2, 3, 4, 15]);
+        let port = self.some_other_port(1);
+        let from = self.some_port();
+        let any = self.some_port();
+        let to = self.random.pick(&[any, any, any, any, 15]);
         self.hand_in(port, payload(function, pair_byte(from, to), 0, &entries));
     }
 
@@ -610,9 +643,11 @@ impl Generator {
     /// Faults of numbers 9 to 17 together, for the order of the numbers.
     fn several_faults(&mut self) {
         for _ in 0..4 {
-            let port = self.random.pick(&PORTS);
+            let port = self.some_port();
             let (_, allowed) = self.port_and_pair();
-            let byte = self.random.pick(&[allowed, allowed, allowed, 0x11, 0x51, 0x05, 0xF1]);
+            let past = self.unit.ports + 1;
+            let byte =
+                self.random.pick(&[allowed, allowed, allowed, 0x11, pair_byte(past, 1), pair_byte(1, past), 0xF1]);
             let function = self.random.pick(&[0, 2, 3, 4, 6, 64, 5]);
             let mode = self.random.pick(&[0, 1, 2]);
             let count = self.random.pick(&[1, 2, 33]);
@@ -630,8 +665,8 @@ impl Generator {
 
     /// One or more of numbers 1, 6, 7 and 8.
     fn silent_refusal(&mut self) {
-        let good = self.random.pick(&PORTS);
-        let port = self.random.pick(&[good, good, good, 0, 5, u32::MAX]);
+        let (good, past) = (self.some_port(), self.unit.ports + 1);
+        let port = self.random.pick(&[good, good, good, 0, past, u32::MAX]);
         let requester = self.random.pick(&[33, 33, 253, 254, 255, 256, u32::MAX]);
         let length = self.random.pick(&[8, 8, 8, 0, 1, 7, 1785, 1786, 2000]);
         let bytes = vec![0; length];
@@ -641,13 +676,6 @@ impl Generator {
 
 fn pair_byte(from: u32, to: u32) -> u8 {
     (from * 16 + to) as u8
-}
-
-/// The pairs of a good pair byte.
-fn pairs_of(byte: u8) -> Vec<(u32, u32)> {
-    let (from, to) = (u32::from(byte >> 4), u32::from(byte & 0x0F));
-    let all = other_ports(from).into_iter().map(|other| (from, other));
-    all.filter(|&(_, other)| to == 15 || to == other).collect()
 }
 
 /// The PGNs over and over, up to so many entries.

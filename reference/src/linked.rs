@@ -7,10 +7,9 @@ use std::ops::Range;
 
 use crate::frame::{Frame, NULL};
 use crate::pair::{Pair, LONGEST_LIST};
-use crate::unit::{other_ports, Unit, LONGEST_QUEUE, PORTS};
+use crate::unit::{Unit, LONGEST_QUEUE, PORT_COUNTS, USUAL_PORTS};
 
-/// The published lengths, in words.
-pub const RECORD_WORDS: usize = TABLE_AT + 2 * PLACES;
+/// The published length of a queue, in words; `record_words` has the record's.
 pub const QUEUE_WORDS: usize = 1 + 2 * LONGEST_QUEUE;
 /// The lengths of the answers, in words.
 pub const FRAME_ANSWER: usize = 7;
@@ -21,17 +20,35 @@ pub const UNIT_ANSWER: usize = 5;
 /// The length of a frame's bytes in a take.
 pub const FRAME_BYTES: usize = 8;
 
-/// The regions of the record: where each begins.
-const PAIRS_AT: usize = 4;
+/// The regions of the record, where each begins: the unit's own words, the table, the queues, and the pairs, which
+/// alone lie elsewhere with another number of ports.
+pub const PORTS_AT: usize = 4;
+const TABLE_AT: usize = 5;
+const QUEUES_AT: usize = TABLE_AT + 2 * PLACES;
 const PAIR_WORDS: usize = 2 + LONGEST_LIST;
-const QUEUES_AT: usize = PAIRS_AT + PAIR_WORDS * PORTS.len() * (PORTS.len() - 1);
-const TABLE_AT: usize = QUEUES_AT + QUEUE_WORDS * PORTS.len();
 /// The addresses that the table has a place for.
 const PLACES: usize = 254;
+
+fn pairs_at(ports: u32) -> usize {
+    QUEUES_AT + QUEUE_WORDS * ports as usize
+}
+
+/// The published length of a record, in words; for a count that is none that of four ports.
+pub fn record_words(ports: u32) -> usize {
+    let ports = if PORT_COUNTS.contains(&ports) { ports } else { USUAL_PORTS };
+    pairs_at(ports) + PAIR_WORDS * (ports * (ports - 1)) as usize
+}
+
+/// How many ports a record's words say, however many they are: four where they say no count.
+pub fn ports_of(words: &[u64]) -> u32 {
+    let said = words.get(PORTS_AT).and_then(|&word| u32::try_from(word).ok());
+    said.filter(|ports| PORT_COUNTS.contains(ports)).unwrap_or(USUAL_PORTS)
+}
 
 #[link(name = "deorasaeng", kind = "static")]
 extern "C" {
     fn deorasaeng_power_on(record: *mut u64, record_len: usize, name: u64, preferred: u32) -> u32;
+    fn deorasaeng_power_on_ports(record: *mut u64, record_len: usize, name: u64, preferred: u32, ports: u32) -> u32;
     fn deorasaeng_frame(
         record: *mut u64,
         record_len: usize,
@@ -81,6 +98,10 @@ pub struct Record<'a>(pub &'a mut [u64]);
 impl Record<'_> {
     pub fn power_on(&mut self, name: u64, preferred: u32) -> u32 {
         unsafe { deorasaeng_power_on(self.0.as_mut_ptr(), self.0.len(), name, preferred) }
+    }
+
+    pub fn power_on_ports(&mut self, name: u64, preferred: u32, ports: u32) -> u32 {
+        unsafe { deorasaeng_power_on_ports(self.0.as_mut_ptr(), self.0.len(), name, preferred, ports) }
     }
 
     pub fn frame(&mut self, port: u32, id: u32, bytes: &[u8], answer: &mut [u64]) -> u32 {
@@ -137,10 +158,16 @@ pub fn queue_range(port: u32) -> Range<usize> {
 
 /// Where a record's words mean something else than a unit: the first such thing, in words.
 pub fn difference(words: &[u64], unit: &Unit) -> Option<String> {
-    own_difference(&words[..PAIRS_AT], unit)
-        .or_else(|| pairs_difference(&words[PAIRS_AT..QUEUES_AT], unit))
+    ports_difference(words, unit)
+        .or_else(|| own_difference(&words[..PORTS_AT], unit))
+        .or_else(|| table_difference(&words[TABLE_AT..QUEUES_AT], unit))
         .or_else(|| queues_difference(words, unit))
-        .or_else(|| table_difference(&words[TABLE_AT..], unit))
+        .or_else(|| pairs_difference(&words[pairs_at(unit.ports)..], unit))
+}
+
+fn ports_difference(words: &[u64], unit: &Unit) -> Option<String> {
+    let (said, expected) = (ports_of(words), unit.ports);
+    (said != expected).then(|| format!("{said} ports, expected {expected}"))
 }
 
 /// Claim state, address, preferred address, NAME.
@@ -154,8 +181,8 @@ fn own_difference(words: &[u64], unit: &Unit) -> Option<String> {
 /// For each pair in order of From, then To: mode, count, PGNs.
 fn pairs_difference(words: &[u64], unit: &Unit) -> Option<String> {
     let mut blocks = words.chunks(PAIR_WORDS);
-    for from in PORTS {
-        for to in other_ports(from) {
+    for from in unit.all_ports() {
+        for to in unit.other_ports(from) {
             let block = blocks.next()?;
             let count = (block[1] as usize).min(LONGEST_LIST);
             let entries = || block[2..2 + count].iter().map(|&pgn| pgn as u32).collect();

@@ -3,7 +3,7 @@
 use crate::address::ClaimState;
 use crate::frame::{self, is_pgn};
 use crate::pair::{added, deleted, Pair, LONGEST_LIST};
-use crate::unit::{check_port, other_ports, Number, Unit, PORTS};
+use crate::unit::{Number, Unit};
 
 /// PGN of the network message, of every reply.
 pub const NETWORK_MESSAGE: u32 = 60672;
@@ -44,7 +44,7 @@ impl Unit {
 
     /// Numbers 1, 2, 6, 7 and 8, which write nothing.
     fn check_message(&self, port: u32, requester: u32, payload: &[u8], reply: &[u8]) -> Result<(), Number> {
-        check_port(port)?;
+        self.check_port(port)?;
         if reply.len() < LONGEST_MESSAGE {
             return Err(2);
         }
@@ -75,7 +75,7 @@ impl Unit {
 
     /// 0 Request: 1, the pair byte, the mode, the PGNs in order of addition.
     fn request(&self, port: u32, payload: &[u8]) -> Result<Vec<u8>, Number> {
-        let named = one_pair(payload[1])?;
+        let named = self.one_pair(payload[1])?;
         check_right(port, &[named])?;
         check_eight_bytes(payload)?;
         let pair = &self.pairs[&named];
@@ -88,7 +88,7 @@ impl Unit {
 
     /// 2 Add: entries from byte 3.
     fn add(&mut self, port: u32, payload: &[u8]) -> Result<(), Number> {
-        let named = pairs_named(payload[1])?;
+        let named = self.pairs_named(payload[1])?;
         check_right(port, &named)?;
         let entries = entries(payload, 2)?;
         self.check_none_cleared(&named)?;
@@ -107,7 +107,7 @@ impl Unit {
 
     /// 3 Delete: entries from byte 3, judged against the list before the command.
     fn delete(&mut self, port: u32, payload: &[u8]) -> Result<(), Number> {
-        let named = pairs_named(payload[1])?;
+        let named = self.pairs_named(payload[1])?;
         check_right(port, &named)?;
         let entries = entries(payload, 2)?;
         self.check_none_cleared(&named)?;
@@ -126,7 +126,7 @@ impl Unit {
 
     /// 4 Clear.
     fn clear(&mut self, port: u32, payload: &[u8]) -> Result<(), Number> {
-        let named = pairs_named(payload[1])?;
+        let named = self.pairs_named(payload[1])?;
         check_right(port, &named)?;
         check_eight_bytes(payload)?;
         for pair in named {
@@ -137,7 +137,7 @@ impl Unit {
 
     /// 6 Create: mode in byte 3, entries from byte 4, on cleared pairs only.
     fn create(&mut self, port: u32, payload: &[u8]) -> Result<(), Number> {
-        let named = pairs_named(payload[1])?;
+        let named = self.pairs_named(payload[1])?;
         check_right(port, &named)?;
         let entries = entries(payload, 3)?;
         let mode = payload[2];
@@ -159,7 +159,7 @@ impl Unit {
     /// 64: 65, the port, its addresses in rising order, the unit's own left out.
     fn addresses(&self, port: u32, payload: &[u8]) -> Result<Vec<u8>, Number> {
         let named = u32::from(payload[1] & 0x0F);
-        if !PORTS.contains(&named) {
+        if !self.all_ports().contains(&named) {
             return Err(10);
         }
         if port != 1 && port != named {
@@ -183,31 +183,31 @@ impl Unit {
             Ok(())
         }
     }
-}
 
-/// The pair of byte 2, From in the upper four bits, To in the lower, or number 10.
-fn one_pair(byte: u8) -> Result<(u32, u32), Number> {
-    let from = u32::from(byte >> 4);
-    let to = u32::from(byte & 0x0F);
-    if PORTS.contains(&from) && PORTS.contains(&to) && from != to {
-        Ok((from, to))
-    } else {
-        Err(10)
+    /// The pair of byte 2, From in the upper four bits, To in the lower, or number 10.
+    fn one_pair(&self, byte: u8) -> Result<(u32, u32), Number> {
+        let from = u32::from(byte >> 4);
+        let to = u32::from(byte & 0x0F);
+        if self.all_ports().contains(&from) && self.all_ports().contains(&to) && from != to {
+            Ok((from, to))
+        } else {
+            Err(10)
+        }
+    }
+
+    /// The pairs of byte 2 in rising To order, where To may be 15, all pairs from that port.
+    fn pairs_named(&self, byte: u8) -> Result<Vec<(u32, u32)>, Number> {
+        let from = u32::from(byte >> 4);
+        let to = u32::from(byte & 0x0F);
+        if self.all_ports().contains(&from) && to == ALL_PORTS {
+            Ok(self.other_ports(from).into_iter().map(|other| (from, other)).collect())
+        } else {
+            Ok(vec![self.one_pair(byte)?])
+        }
     }
 }
 
-/// The pairs of byte 2 in rising To order, where To may be 15, all pairs from that port.
-fn pairs_named(byte: u8) -> Result<Vec<(u32, u32)>, Number> {
-    let from = u32::from(byte >> 4);
-    let to = u32::from(byte & 0x0F);
-    if PORTS.contains(&from) && to == ALL_PORTS {
-        Ok(other_ports(from).into_iter().map(|other| (from, other)).collect())
-    } else {
-        Ok(vec![one_pair(byte)?])
-    }
-}
-
-/// Number 11: on a port of 2 to 4, every named pair must have it as From or To.
+/// Number 11: on a port other than 1, every named pair must have it as From or To.
 fn check_right(port: u32, named: &[(u32, u32)]) -> Result<(), Number> {
     if port == 1 || named.iter().all(|&(from, to)| from == port || to == port) {
         Ok(())

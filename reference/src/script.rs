@@ -5,12 +5,12 @@ use std::fmt;
 use crate::address::{Event, StartAnswer, UnitAnswer};
 use crate::frame::Frame;
 use crate::message::{MessageAnswer, LONGEST_MESSAGE};
-use crate::unit::{FrameAnswer, Number, Unit};
+use crate::unit::{FrameAnswer, Number, Unit, USUAL_PORTS};
 
 /// One call of a script.
 #[derive(Clone, Debug, PartialEq, Eq)]
 pub enum Call {
-    PowerOn { name: u64, preferred: u32 },
+    PowerOn { name: u64, preferred: u32, ports: u32 },
     Start,
     Quiet,
     Frame { port: u32, id: u32, bytes: Vec<u8> },
@@ -22,7 +22,7 @@ pub enum Call {
 /// The answer to a call; a message's answer carries the bytes written.
 #[derive(Clone, Debug, PartialEq, Eq)]
 pub enum Answer {
-    PowerOn,
+    PowerOn(Result<(), Number>),
     Start(Result<StartAnswer, Number>),
     Quiet(Result<(), Number>),
     Frame(Result<FrameAnswer, Number>),
@@ -35,7 +35,8 @@ impl Answer {
     /// The number of a refusal, 0 for none.
     pub fn number(&self) -> Number {
         match self {
-            Answer::PowerOn | Answer::Unit(_) => 0,
+            Answer::Unit(_) => 0,
+            Answer::PowerOn(result) => result.err().unwrap_or(0),
             Answer::Start(result) => result.as_ref().err().copied().unwrap_or(0),
             Answer::Quiet(result) => result.as_ref().err().copied().unwrap_or(0),
             Answer::Frame(result) => result.as_ref().err().copied().unwrap_or(0),
@@ -74,13 +75,14 @@ impl fmt::Display for Wrong {
 
 /// Makes one call. Power-on makes the unit; without a unit there is no answer.
 pub fn apply(unit: &mut Option<Unit>, call: &Call) -> Option<Answer> {
-    if let Call::PowerOn { name, preferred } = call {
-        *unit = Some(Unit::power_on(*name, *preferred));
-        return Some(Answer::PowerOn);
+    if let Call::PowerOn { name, preferred, ports } = call {
+        let (fresh, result) = Unit::power_on_ports(*name, *preferred, *ports);
+        *unit = Some(fresh);
+        return Some(Answer::PowerOn(result));
     }
     let unit = unit.as_mut()?;
     Some(match call {
-        Call::PowerOn { .. } => Answer::PowerOn,
+        Call::PowerOn { .. } => return None,
         Call::Start => Answer::Start(unit.start()),
         Call::Quiet => Answer::Quiet(unit.quiet()),
         Call::Frame { port, id, bytes } => Answer::Frame(unit.frame(*port, *id, bytes)),
@@ -175,6 +177,7 @@ pub fn read_call(line: impl AsRef<[u8]>) -> Result<Call, Wrong> {
         b"P" => Call::PowerOn {
             name: words.next("NAME", "1 to 16 hex digits", |word| read_hex(word, 16))?,
             preferred: words.decimal("preferred address")?,
+            ports: if words.0.is_empty() { USUAL_PORTS } else { words.decimal("number of ports")? },
         },
         b"S" => Call::Start,
         b"Q" => Call::Quiet,
@@ -224,7 +227,8 @@ fn read_bytes(word: &[u8]) -> Option<Vec<u8>> {
 /// Writes a call as a line of a script.
 pub fn write_call(call: &Call) -> String {
     match call {
-        Call::PowerOn { name, preferred } => format!("P {name:016X} {preferred}"),
+        Call::PowerOn { name, preferred, ports: USUAL_PORTS } => format!("P {name:016X} {preferred}"),
+        Call::PowerOn { name, preferred, ports } => format!("P {name:016X} {preferred} {ports}"),
         Call::Start => "S".to_string(),
         Call::Quiet => "Q".to_string(),
         Call::Frame { port, id, bytes } => format!("F {port} {id:08X} {}", print_bytes(bytes)),
@@ -239,7 +243,8 @@ pub fn write_call(call: &Call) -> String {
 /// The printed line of an answer.
 pub fn print_answer(answer: &Answer) -> String {
     match answer {
-        Answer::PowerOn => "P".to_string(),
+        Answer::PowerOn(Ok(())) => "P".to_string(),
+        Answer::PowerOn(Err(number)) => format!("P R {number}"),
         Answer::Start(Ok(answer)) => format!("S {:?} {}", answer.state, print_ports(&answer.own_lost)),
         Answer::Start(Err(number)) => format!("S R {number}"),
         Answer::Quiet(Ok(())) => "Q".to_string(),

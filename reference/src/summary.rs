@@ -3,14 +3,17 @@
 use std::collections::BTreeMap;
 
 use crate::script::{Answer, Call};
-use crate::unit::{other_ports, FrameAnswer, Number, PORTS};
+use crate::unit::{FrameAnswer, Number, USUAL_PORTS};
 use crate::words::told;
 
 /// The counts of one script.
 #[derive(Default)]
 pub struct Summary {
     not_calls: u64,
-    power_ons: u64,
+    power_ons: Outcomes,
+    /// How many ports the unit has, and the most that a unit of the script had.
+    ports: u32,
+    most_ports: u32,
     starts: Outcomes,
     quiets: Outcomes,
     frames: Outcomes,
@@ -98,7 +101,12 @@ impl Summary {
             }
             (Call::Message { .. }, _) => self.messages.add(number),
             (Call::Unit, _) => self.units.add(number),
-            _ => self.power_ons += 1,
+            (Call::PowerOn { ports, .. }, _) => {
+                self.power_ons.add(number);
+                self.ports = if number == 0 { *ports } else { USUAL_PORTS };
+                self.most_ports = self.most_ports.max(self.ports);
+            }
+            _ => {}
         }
     }
 
@@ -110,7 +118,7 @@ impl Summary {
             return;
         }
         let permitted = |to: &u32| answer.accepted.contains(to) || answer.lost.contains(to);
-        let stopped: Vec<u32> = other_ports(port).into_iter().filter(|to| !permitted(to)).collect();
+        let stopped: Vec<u32> = (1..=self.ports).filter(|to| *to != port && !permitted(to)).collect();
         self.accepted.add(&answer.accepted);
         self.lost.add(&answer.lost);
         self.stopped.add(&stopped);
@@ -119,12 +127,14 @@ impl Summary {
     /// The summary as printed lines.
     pub fn lines(&self) -> Vec<String> {
         let nothing = self.takes.done() - self.given;
-        let mut lines = vec![format!("power-on {}, lines that are no call {}", self.power_ons, self.not_calls)];
+        let mut lines = vec![format!("power-on {}, lines that are no call {}", self.power_ons.calls(), self.not_calls)];
+        lines.extend(self.power_ons.by_number());
         lines.extend(outcome_lines("Start", &format!("done {}", self.starts.done()), &self.starts));
         lines.extend(outcome_lines("Quiet", &format!("done {}", self.quiets.done()), &self.quiets));
         lines.extend(outcome_lines("unit", &format!("told {}", self.units.done()), &self.units));
         lines.extend(outcome_lines("frames", &format!("consumed {}", self.consumed), &self.frames));
-        lines.extend(PORTS.map(|port| self.port_line(port)));
+        let ports = if self.most_ports == 0 { USUAL_PORTS } else { self.most_ports };
+        lines.extend((1..=ports).map(|port| self.port_line(port)));
         let given = format!("given {}, nothing waiting {nothing}", self.given);
         lines.extend(outcome_lines("takes", &given, &self.takes));
         lines.extend(outcome_lines("messages", &format!("answered {}", self.messages.done()), &self.messages));

@@ -1,13 +1,16 @@
 //! The unit, its power-on, and "Forwarding": frames and takes.
 
 use std::collections::{BTreeMap, VecDeque};
+use std::ops::RangeInclusive;
 
 use crate::address::{ClaimState, Event, Holder};
 use crate::frame::{self, Frame};
 use crate::pair::Pair;
 
-/// Ports 1 to 4; port 1 is the service port.
-pub const PORTS: [u32; 4] = [1, 2, 3, 4];
+/// How many ports a unit may have (02, ticket 10).
+pub const PORT_COUNTS: RangeInclusive<u32> = 2..=8;
+/// How many it has where power-on says no count, or another one.
+pub const USUAL_PORTS: u32 = 4;
 /// The most frames that wait at one port.
 pub const LONGEST_QUEUE: usize = 32;
 
@@ -20,7 +23,9 @@ pub struct Unit {
     pub name: u64,
     pub preferred: u32,
     pub state: ClaimState,
-    /// The twelve directed pairs, by (From, To).
+    /// How many ports it has; port 1 is the service port.
+    pub ports: u32,
+    /// The directed pairs, by (From, To).
     pub pairs: BTreeMap<(u32, u32), Pair>,
     /// One queue for each port, in order of joining.
     pub queues: BTreeMap<u32, VecDeque<Frame>>,
@@ -40,22 +45,55 @@ pub struct FrameAnswer {
 }
 
 impl Unit {
-    /// Power-on: pairs cleared, queues and table empty, the unit Unstarted.
+    /// Power-on with four ports.
     pub fn power_on(name: u64, preferred: u32) -> Unit {
+        Unit::fresh(name, preferred, USUAL_PORTS)
+    }
+
+    /// Power-on with a number of ports. 27 hands back the unit as with four, and is a power-on all the same.
+    pub fn power_on_ports(name: u64, preferred: u32, ports: u32) -> (Unit, Result<(), Number>) {
+        if PORT_COUNTS.contains(&ports) {
+            (Unit::fresh(name, preferred, ports), Ok(()))
+        } else {
+            (Unit::power_on(name, preferred), Err(27))
+        }
+    }
+
+    /// Pairs cleared, queues and table empty, the unit Unstarted.
+    fn fresh(name: u64, preferred: u32, ports: u32) -> Unit {
         let mut pairs = BTreeMap::new();
         let mut queues = BTreeMap::new();
-        for from in PORTS {
+        for from in 1..=ports {
             queues.insert(from, VecDeque::new());
-            for to in other_ports(from) {
+            for to in (1..=ports).filter(|&to| to != from) {
                 pairs.insert((from, to), Pair::Cleared);
             }
         }
-        Unit { name, preferred, state: ClaimState::Unstarted, pairs, queues, table: BTreeMap::new() }
+        Unit { name, preferred, state: ClaimState::Unstarted, ports, pairs, queues, table: BTreeMap::new() }
+    }
+
+    /// The ports, in rising order.
+    pub fn all_ports(&self) -> RangeInclusive<u32> {
+        1..=self.ports
+    }
+
+    /// The ports other than this one, in rising order.
+    pub fn other_ports(&self, port: u32) -> Vec<u32> {
+        self.all_ports().filter(|&other| other != port).collect()
+    }
+
+    /// Number 1.
+    pub(crate) fn check_port(&self, port: u32) -> Result<(), Number> {
+        if self.all_ports().contains(&port) {
+            Ok(())
+        } else {
+            Err(1)
+        }
     }
 
     /// A frame that arrived at a port.
     pub fn frame(&mut self, port: u32, id: u32, bytes: &[u8]) -> Result<FrameAnswer, Number> {
-        check_port(port)?;
+        self.check_port(port)?;
         check_frame(id, bytes)?;
         let frame = Frame { id, bytes: bytes.to_vec() };
         let mut answer = FrameAnswer {
@@ -81,7 +119,7 @@ impl Unit {
     /// Forwarding rules 2 and 3, and the count of rule 5.
     fn forward(&mut self, port: u32, frame: &Frame, answer: &mut FrameAnswer) {
         let pgn = frame::pgn(frame.id);
-        for to in other_ports(port) {
+        for to in self.other_ports(port) {
             let pair = &self.pairs[&(port, to)];
             answer.compared += pair.compared(pgn);
             if pair.permits(pgn) {
@@ -107,27 +145,13 @@ impl Unit {
 
     /// Forwarding rule 4: the frame of highest rank, the earliest accepted of those.
     pub fn take(&mut self, port: u32) -> Result<Option<Frame>, Number> {
-        check_port(port)?;
+        self.check_port(port)?;
         let queue = self.queues.get_mut(&port).expect("a port of the unit");
         let Some(highest) = queue.iter().map(|waiting| frame::priority(waiting.id)).min() else {
             return Ok(None);
         };
         let first = queue.iter().position(|waiting| frame::priority(waiting.id) == highest);
         Ok(first.and_then(|index| queue.remove(index)))
-    }
-}
-
-/// The ports other than this one, in rising order.
-pub fn other_ports(port: u32) -> Vec<u32> {
-    PORTS.into_iter().filter(|&other| other != port).collect()
-}
-
-/// Number 1.
-pub(crate) fn check_port(port: u32) -> Result<(), Number> {
-    if PORTS.contains(&port) {
-        Ok(())
-    } else {
-        Err(1)
     }
 }
 

@@ -2,29 +2,31 @@
 
 use crate::unit::Number;
 
-/// The numbers from 1 on, in words.
-pub const WORDS: [&str; 18] = [
-    "port not 1 to 4",
-    "lent storage not of its published length",
-    "identifier 2^29 or more",
-    "frame length over 8",
-    "source address 255, or 254 in a frame that may not have it",
-    "unit not Claimed",
-    "payload not 8 to 1,785 bytes",
-    "requester, or at Start the preferred address, not 0 to 253",
-    "function not listed",
-    "port outside 1 to 4, or From equals To",
-    "pair or port not this tool's",
-    "body wrong: length, entry or filling",
-    "Create mode not 0 or 1",
-    "Create: a named pair not cleared",
-    "Add, Delete: a named pair cleared",
-    "a named pair would pass 32",
-    "Delete: a PGN absent from a named pair",
-    "Start not in Unstarted, Quiet not in Claiming",
+/// The numbers in words.
+pub const WORDS: [(Number, &str); 19] = [
+    (1, "port not 1 to the number of ports"),
+    (2, "lent storage not of its published length"),
+    (3, "identifier 2^29 or more"),
+    (4, "frame length over 8"),
+    (5, "source address 255, or 254 in a frame that may not have it"),
+    (6, "unit not Claimed"),
+    (7, "payload not 8 to 1,785 bytes"),
+    (8, "requester, or at Start the preferred address, not 0 to 253"),
+    (9, "function not listed"),
+    (10, "port outside 1 to the number of ports, or From equals To"),
+    (11, "pair or port not this tool's"),
+    (12, "body wrong: length, entry or filling"),
+    (13, "Create mode not 0 or 1"),
+    (14, "Create: a named pair not cleared"),
+    (15, "Add, Delete: a named pair cleared"),
+    (16, "a named pair would pass 32"),
+    (17, "Delete: a PGN absent from a named pair"),
+    (18, "Start not in Unstarted, Quiet not in Claiming"),
+    (27, "port count not 2 to 8"),
 ];
 
 /// A number and its words.
 pub fn told(number: Number) -> String {
-    format!("{number} {}", WORDS[number as usize - 1])
+    let words = WORDS.iter().find(|(listed, _)| *listed == number).map_or("", |(_, words)| words);
+    format!("{number} {words}")
 }

@@ -9,19 +9,19 @@ use std::collections::BTreeMap;
 use common::*;
 use reference::address::{ClaimState, Holder};
 use reference::generate::Random;
-use reference::unit::{Unit, PORTS};
+use reference::unit::Unit;
 
 const DAYS: u64 = 400;
 
 /// An arrival port, an address and a NAME.
 type Claim = (u32, u32, u64);
 
-/// Claims of different NAMEs, for few addresses, so that they meet; some for the unit's own.
-fn claims(random: &mut Random) -> Vec<Claim> {
+/// Claims of different NAMEs on so many ports, for few addresses, so that they meet; some for the unit's own.
+fn claims(random: &mut Random, ports: u32) -> Vec<Claim> {
     (1..=u64::from(random.below(12)))
         .map(|i| {
             let name = if random.once_in(2) { NAME + i } else { NAME - i };
-            (random.pick(&PORTS), random.pick(&[0, 38, 39, 253, ADDRESS, ADDRESS]), name)
+            (1 + random.below(ports), random.pick(&[0, 38, 39, 253, ADDRESS, ADDRESS]), name)
         })
         .collect()
 }
@@ -38,18 +38,19 @@ fn other_calls(random: &mut Random, unit: &mut Unit) {
         match random.below(7) {
             0 => drain(unit),
             1 => drop(unit.quiet()),
-            2 => drop(unit.frame(random.below(6), 0x0CF00400, &[1])),
+            2 => drop(unit.frame(random.below(10), 0x0CF00400, &[1])),
             3 => drop(unit.frame(2, 0x18EEFF26, &[1, 2, 3, 4, 5, 6, 7])),
-            4 => drop(unit.frame(3, 0x18EAFFFE, &[0x00, 0xEE, 0x00])),
-            5 => drop(unit.take(random.below(6))),
+            4 => drop(unit.frame(1, 0x18EAFFFE, &[0x00, 0xEE, 0x00])),
+            5 => drop(unit.take(random.below(10))),
             _ => drop(message(unit, 1, TOOL, &[4, 0x12, 255, 255, 255, 255, 255, 255])),
         }
     }
 }
 
-/// A morning from power-on. Start comes before the claim of this number, if at all.
-fn morning(random: &mut Random, claims: &[Claim], start: Option<usize>) -> Unit {
-    let mut unit = unstarted();
+/// A morning from power-on with so many ports. Start comes before the claim of this number, if at all.
+fn morning(random: &mut Random, ports: u32, claims: &[Claim], start: Option<usize>) -> Unit {
+    let (mut unit, result) = Unit::power_on_ports(NAME, ADDRESS, ports);
+    assert_eq!(result, Ok(()));
     for (number, &(port, address, name)) in claims.iter().enumerate() {
         if start == Some(number) {
             assert!(unit.start().is_ok());
@@ -91,10 +92,11 @@ fn expect(unit: &Unit, claims: &[Claim], started: bool) {
 fn the_unit_is_unstarted() {
     let mut random = Random::new(1201);
     for _ in 0..DAYS {
-        let mut claims = claims(&mut random);
+        let ports = 2 + random.below(7);
+        let mut claims = claims(&mut random, ports);
         for _ in 0..4 {
             shuffle(&mut random, &mut claims);
-            expect(&morning(&mut random, &claims, None), &claims, false);
+            expect(&morning(&mut random, ports, &claims, None), &claims, false);
         }
     }
 }
@@ -103,10 +105,11 @@ fn the_unit_is_unstarted() {
 fn the_unit_was_started_before_the_first_claim() {
     let mut random = Random::new(1202);
     for _ in 0..DAYS {
-        let mut claims = claims(&mut random);
+        let ports = 2 + random.below(7);
+        let mut claims = claims(&mut random, ports);
         for _ in 0..4 {
             shuffle(&mut random, &mut claims);
-            expect(&morning(&mut random, &claims, Some(0)), &claims, true);
+            expect(&morning(&mut random, ports, &claims, Some(0)), &claims, true);
         }
     }
 }
@@ -116,7 +119,8 @@ fn the_unit_was_started_before_the_first_claim() {
 fn started_anywhere_and_claims_again() {
     let mut random = Random::new(1203);
     for _ in 0..DAYS {
-        let once = claims(&mut random);
+        let ports = 2 + random.below(7);
+        let once = claims(&mut random, ports);
         for _ in 0..4 {
             let mut claims = once.clone();
             for _ in 0..random.below(4) {
@@ -124,7 +128,7 @@ fn started_anywhere_and_claims_again() {
             }
             shuffle(&mut random, &mut claims);
             let start = random.below(claims.len() as u32 + 1) as usize;
-            expect(&morning(&mut random, &claims, Some(start)), &once, true);
+            expect(&morning(&mut random, ports, &claims, Some(start)), &once, true);
         }
     }
 }

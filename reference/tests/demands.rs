@@ -6,16 +6,16 @@ use std::collections::BTreeMap;
 
 use common::*;
 use reference::address::{ClaimState, Holder};
-use reference::coverage::{Coverage, DEEP, EVENTS, MODES, STATES};
+use reference::coverage::{Coverage, DEEP, EVENTS, LETTERS, MODES, STATES};
 use reference::frame::{priority, Frame};
 use reference::generate::{generate, Random};
 use reference::pair::Pair;
 use reference::script::{apply, write_call, Answer, Call};
-use reference::unit::{Unit, PORTS};
+use reference::unit::Unit;
 
 const CALLS: usize = 8000;
 
-/// Makes every call of a generated list and shows the unit before and after it.
+/// Makes every call of a generated list, on units of every number of ports, and shows the unit before and after it.
 fn each_call(seed: u64, mut look: impl FnMut(&Unit, &Call, &Answer, &Unit)) {
     let mut unit = None;
     for call in generate(seed, CALLS) {
@@ -29,8 +29,12 @@ fn each_call(seed: u64, mut look: impl FnMut(&Unit, &Call, &Answer, &Unit)) {
 
 #[test]
 fn demand_1_refusals_change_nothing() {
-    each_call(101, |before, _, answer, after| {
-        if answer.number() != 0 {
+    each_call(101, |before, call, answer, after| {
+        if let Call::PowerOn { name, preferred, ports } = call {
+            let taken = (2..=8).contains(ports);
+            assert_eq!(answer.number(), if taken { 0 } else { 27 });
+            assert_eq!(*after, Unit::power_on_ports(*name, *preferred, if taken { *ports } else { 4 }).0);
+        } else if answer.number() != 0 {
             assert_eq!(before, after);
         }
         if let Answer::Message(given, written) = answer {
@@ -94,13 +98,13 @@ fn scrambled(unit: &Unit, port: u32, random: &mut Random) -> Unit {
     for address in 0..254 {
         if other.address() != Some(address) && !other.table.contains_key(&address) && random.once_in(3) {
             let name = 0x7000_0000_0000_0000 + u64::from(address);
-            other.table.insert(address, Holder { name, port: port % 4 + 1 });
+            other.table.insert(address, Holder { name, port: port % unit.ports + 1 });
         }
     }
     other
 }
 
-/// For a tool on port 2, 3 or 4 the answer does not depend on a neighbour's lists and addresses.
+/// For a tool on a port other than 1 the answer does not depend on a neighbour's lists and addresses.
 #[test]
 fn demand_2_privacy() {
     let mut random = Random::new(1);
@@ -108,7 +112,7 @@ fn demand_2_privacy() {
     each_call(103, |before, call, answer, _| {
         let Call::Message { port, requester, payload } = call else { return };
         let Answer::Message(given, written) = answer else { return };
-        if (2..=4).contains(port) && before.state == ClaimState::Claimed {
+        if (2..=before.ports).contains(port) && before.state == ClaimState::Claimed {
             let mut other = scrambled(before, *port, &mut random);
             let (number, pgn, bytes) = message(&mut other, *port, *requester, payload);
             assert_eq!((number, pgn, &bytes), (given.number, given.pgn, written));
@@ -122,14 +126,16 @@ fn demand_2_privacy() {
 #[test]
 fn demand_2_round_trip() {
     for (count, mode) in (1..=32).flat_map(|count| [(count, 0), (count, 1)]) {
-        let mut unit = claimed();
-        assert_eq!(number(&mut unit, &command(6, 0x34, mode, &pgns(count))), 0);
-        let (_, _, mut reply) = message(&mut unit, 1, TOOL, &hex("00 34 FF FF FF FF FF FF"));
-        let listed = unit.pairs[&(3, 4)].clone();
-        assert_eq!(number(&mut unit, &command(4, 0x34, 0, &[])), 0);
-        reply[0] = 6;
-        assert_eq!(number(&mut unit, &reply), 0);
-        assert_eq!(unit.pairs[&(3, 4)], listed);
+        for ports in 2..=8 {
+            let (mut unit, pair) = (claimed_with(ports), (ports * 16 + 1) as u8);
+            assert_eq!(number(&mut unit, &command(6, pair, mode, &pgns(count))), 0);
+            let (_, _, mut reply) = message(&mut unit, 1, TOOL, &command(0, pair, 0, &[]));
+            let listed = unit.pairs[&(ports, 1)].clone();
+            assert_eq!(number(&mut unit, &command(4, pair, 0, &[])), 0);
+            reply[0] = 6;
+            assert_eq!(number(&mut unit, &reply), 0);
+            assert_eq!(unit.pairs[&(ports, 1)], listed);
+        }
     }
 }
 
@@ -166,7 +172,7 @@ fn leaving(row: &mut Vec<Waiting>) -> Option<Frame> {
 #[test]
 fn demand_3_every_frame_leaves_at_its_take() {
     for seed in [104, 105] {
-        let mut rows: BTreeMap<u32, Vec<Waiting>> = PORTS.map(|port| (port, Vec::new())).into();
+        let mut rows: BTreeMap<u32, Vec<Waiting>> = (1..=8).map(|port| (port, Vec::new())).collect();
         each_call(seed, |before, call, answer, after| {
             if matches!(call, Call::PowerOn { .. }) {
                 rows.values_mut().for_each(Vec::clear);
@@ -178,13 +184,13 @@ fn demand_3_every_frame_leaves_at_its_take() {
                 assert_eq!(leaving(row), *given);
                 assert_eq!(given.is_none(), empty);
             } else {
-                for port in PORTS {
+                for port in after.all_ports() {
                     let (old, new) = (&before.queues[&port], &after.queues[&port]);
                     assert!(old.iter().eq(new.iter().take(old.len())), "only a take makes a frame leave");
                     new.iter().skip(old.len()).for_each(|frame| joined(rows.get_mut(&port).unwrap(), frame));
                 }
             }
-            for port in PORTS {
+            for port in after.all_ports() {
                 assert!(rows[&port].iter().map(|waiting| &waiting.frame).eq(after.queues[&port].iter()));
                 assert!(after.queues[&port].len() <= 32);
             }
@@ -200,8 +206,8 @@ fn demand_3_ports_named() {
         let Answer::Frame(Ok(given)) = answer else { return };
         let frame = Frame { id: *id, bytes: bytes.clone() };
         let new = |port: u32| after.queues[&port].iter().skip(before.queues[&port].len()).cloned().collect::<Vec<_>>();
-        let own = PORTS.into_iter().find_map(|port| new(port).into_iter().find(|joined| *joined != frame));
-        for port in PORTS {
+        let own = after.all_ports().find_map(|port| new(port).into_iter().find(|joined| *joined != frame));
+        for port in after.all_ports() {
             let mut expected = Vec::new();
             if given.accepted.contains(&port) {
                 expected.push(frame.clone());
@@ -244,15 +250,17 @@ fn generator_reaches_deep_states() {
         let lines: Vec<String> = generate(seed, 20_000).iter().map(write_call).collect();
         coverage.count_script(lines.join("\n").as_bytes());
     }
-    for number in (0..=18).filter(|&number| number != 2) {
-        let reached: u64 =
-            ["S", "Q", "F", "T", "M", "U"].iter().map(|letter| coverage.reached(&format!("number {number} {letter}"))).sum();
+    for number in (0..=18).chain([27]).filter(|&number| number != 2) {
+        let reached: u64 = LETTERS.iter().map(|letter| coverage.reached(&format!("number {number} {letter}"))).sum();
         assert!(reached > 0, "number {number}");
     }
     assert!(EVENTS.iter().all(|row| coverage.reached(&format!("event {row}")) > 0));
     assert!(STATES.iter().all(|row| coverage.reached(&format!("state {row}")) > 0));
     assert!(STATES.iter().all(|row| coverage.reached(&format!("told {row}")) > 0));
     assert!(MODES.iter().all(|row| coverage.reached(&format!("mode {row}")) > 0));
+    for ports in 2..=8 {
+        assert!(coverage.reached(&format!("ports {ports}")) > 0, "{ports} ports");
+    }
     for row in DEEP {
         assert!(coverage.reached(row) > 0, "{row}");
     }

@@ -5,7 +5,7 @@ mod common;
 use common::*;
 use reference::address::{ClaimState, Event};
 use reference::pair::Pair;
-use reference::unit::{Unit, PORTS};
+use reference::unit::Unit;
 
 /// Transport frames are filtered by the PGN of their own identifier.
 #[test]

@@ -5,7 +5,7 @@ mod common;
 use common::*;
 use reference::address::{ClaimState, Event, UnitAnswer};
 use reference::pair::Pair;
-use reference::unit::{Unit, PORTS};
+use reference::unit::Unit;
 
 #[test]
 fn power_on_is_fresh() {

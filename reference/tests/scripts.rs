@@ -29,6 +29,12 @@ fn lines() {
     check(include_str!("../scripts/lines.txt"), include_str!("../scripts/lines.out"));
 }
 
+/// Eight ports, two, and counts that are none.
+#[test]
+fn ports() {
+    check(include_str!("../scripts/ports.txt"), include_str!("../scripts/ports.out"));
+}
+
 /// The old box's hole: the port number one up.
 #[test]
 fn one_up() {
@@ -44,6 +50,7 @@ fn recorded() {
     script += include_str!("../scripts/morning.txt");
     script += include_str!("../scripts/unit.txt");
     script += include_str!("../scripts/one_up.txt");
+    script += include_str!("../scripts/ports.txt");
     for call in sweep().iter().chain(&generate(19, 9000)) {
         script += &(write_call(call) + "\n");
     }
@@ -86,7 +93,10 @@ const NO_CALLS: &[(&str, &str)] = &[
     ("SS", "the first word is none of P S Q F T M U"),
     ("P", "NAME missing"),
     ("P 1", "preferred address missing"),
-    ("P 1 2 3", "more words than the call has"),
+    ("P 1 2 3 4", "more words than the call has"),
+    ("P 1 2 x", "number of ports: not a decimal number below 2^32"),
+    ("P 1 2 4294967296", "number of ports: not a decimal number below 2^32"),
+    ("P 1 x 4", "preferred address: not a decimal number below 2^32"),
     ("P 12345678901234567 1", "NAME: not 1 to 16 hex digits"),
     ("P G 1", "NAME: not 1 to 16 hex digits"),
     ("P +1 1", "NAME: not 1 to 16 hex digits"),
@@ -134,7 +144,10 @@ fn comments_empty_lines_and_no_unit() {
 /// Blanks, tabs, carriage returns, a byte-order mark and an indented comment are harmless.
 #[test]
 fn harmless_bytes() {
-    let scripts = ["P ff 0\nF 1 18FEF100 0102\nS\nT 2\n", "\u{feff}P ff 0\r\n F\t1  18FEF100 \t0102 \r\n\tS\n  # no call\n T\r 2"];
+    let scripts = [
+        "P ff 0\nF 1 18FEF100 0102\nS\nT 2\n",
+        "\u{feff}P ff 0\r\n F\t1  18FEF100 \t0102 \r\n\tS\n  # no call\n T\r 2",
+    ];
     assert_eq!(run_script(scripts[0]), run_script(scripts[1]));
     assert_eq!(run_script(" \u{feff}\u{feff} P ff 0\n \t\r\n"), ["P"]);
     assert_eq!(run_script("P ff 0\n\u{feff}S"), ["P", "? line 2: the first word is none of P S Q F T M U"]);
@@ -152,7 +165,7 @@ fn beside() {
         "P 20001C000AC00123 200                P",
         "S                                     S Claiming -",
         "M 3 33 0012FFFFFFFFFFFF               M 6 0 0 -  (6 unit not Claimed)",
-        "F 9 18FEF100 -                        F R 1  (1 port not 1 to 4)",
+        "F 9 18FEF100 -                        F R 1  (1 port not 1 to the number of ports)",
         "x                                     ? line 7: the first word is none of P S Q F T M U",
         "",
     ];
@@ -166,7 +179,7 @@ fn words_are_the_same_everywhere() {
     let help = include_str!("../../replay");
     let header = include_str!("../../include/deorasaeng.h");
     let rules = include_str!("../../docs/RULES.md");
-    for (number, words) in (1..).zip(WORDS) {
+    for (number, words) in WORDS {
         let comment = format!("/* {words} */");
         let line = header.lines().find(|line| line.ends_with(&comment)).expect(words);
         assert_eq!(line.split([' ', ',']).nth(6), Some(&number.to_string()[..]), "header: {line}");
@@ -177,8 +190,10 @@ fn words_are_the_same_everywhere() {
 
 #[test]
 fn limits_of_the_fields() {
-    let power_on = Call::PowerOn { name: u64::MAX, preferred: u32::MAX };
-    assert_eq!(read_call("P ffffFFFFffffFFFF 4294967295"), Ok(power_on));
+    let power_on = |ports| Ok(Call::PowerOn { name: u64::MAX, preferred: u32::MAX, ports });
+    assert_eq!(read_call("P ffffFFFFffffFFFF 4294967295"), power_on(4));
+    assert_eq!(read_call("P ffffFFFFffffFFFF 4294967295 008"), power_on(8));
+    assert_eq!(read_call("P ffffFFFFffffFFFF 4294967295 4294967295"), power_on(u32::MAX));
     let nine = Call::Frame { port: 0, id: u32::MAX, bytes: vec![0xAB; 9] };
     assert_eq!(read_call("F 0 FFFFFFFF ABABABABABABABABAB"), Ok(nine));
 }
@@ -187,8 +202,14 @@ fn limits_of_the_fields() {
 fn longest_line() {
     let line = |length: usize| format!("M 1 33 {}", "0".repeat(length - 7));
     assert_eq!(run_script(&format!("P 1 2\n{}\r\n", line(LONGEST_LINE - 1))), ["P", "M 6 0 0 -"]);
-    assert_eq!(run_script(&format!("P 1 2\n{} \t\n", line(LONGEST_LINE + 1))), ["P", "? line 2: longer than 4,096 bytes"]);
-    assert_eq!(run_script(&format!("P 1 2\nT 1{}x\nT 1{}\n", " ".repeat(5000), " ".repeat(5000)))[1..], ["? line 2: longer than 4,096 bytes", "T -"]);
+    assert_eq!(
+        run_script(&format!("P 1 2\n{} \t\n", line(LONGEST_LINE + 1))),
+        ["P", "? line 2: longer than 4,096 bytes"]
+    );
+    assert_eq!(
+        run_script(&format!("P 1 2\nT 1{}x\nT 1{}\n", " ".repeat(5000), " ".repeat(5000)))[1..],
+        ["? line 2: longer than 4,096 bytes", "T -"]
+    );
     assert_eq!(run_script(&format!("P 1 2\n#{}\nT 1", line(LONGEST_LINE))), ["P", "T -"]);
 }
 
@@ -205,14 +226,14 @@ fn summary() {
         "    18 Start not in Unstarted, Quiet not in Claiming: 1",
         "unit 2: told 2, refused 0",
         "frames 5: consumed 1, refused 3",
-        "    1 port not 1 to 4: 2",
+        "    1 port not 1 to the number of ports: 2",
         "    3 identifier 2^29 or more: 1",
         "  port 1: accepted 0, stopped 0, lost 0, own lost 0",
         "  port 2: accepted 0, stopped 1, lost 0, own lost 0",
         "  port 3: accepted 1, stopped 0, lost 0, own lost 0",
         "  port 4: accepted 1, stopped 0, lost 0, own lost 0",
         "takes 3: given 1, nothing waiting 1, refused 1",
-        "    1 port not 1 to 4: 1",
+        "    1 port not 1 to the number of ports: 1",
         "messages 3: answered 1, refused 2",
         "    11 pair or port not this tool's: 1",
         "    14 Create: a named pair not cleared: 1",
@@ -227,6 +248,37 @@ fn summary_of_a_full_port() {
     assert_eq!(lines[1], "Start 1: done 1, refused 0");
     assert_eq!(lines[5], "  port 1: accepted 32, stopped 0, lost 1, own lost 1");
     assert_eq!(lines[7], "  port 3: accepted 0, stopped 0, lost 0, own lost 0");
+}
+
+/// A power-on with another number of ports, and one with none that there is, which goes on with four.
+#[test]
+fn ports_of_a_script() {
+    let script = "P 1 2 8\nU\nF 8 18FEF100 -\nF 9 18FEF100 -\nP 1 2 2\nF 1 18FEF100 -\nF 3 18FEF100 -\nP 1 2 9\nU\nF 4 18FEF100 -\n\
+        F 5 18FEF100 -\n";
+    let printed = [
+        "P",
+        "U Unstarted - 2 0000000000000001 8",
+        "F - 1234567 - - - 0",
+        "F R 1",
+        "P",
+        "F - 2 - - - 0",
+        "F R 1",
+        "P R 27",
+        "U Unstarted - 2 0000000000000001 4",
+        "F - 123 - - - 0",
+        "F R 1",
+    ];
+    assert_eq!(run_script(script), printed);
+    let beside = String::from_utf8(Run::of(script).beside()).unwrap();
+    assert_eq!(beside.lines().nth(7), Some("P 1 2 9                               P R 27  (27 port count not 2 to 8)"));
+    let lines = Run::of(script).summary.lines();
+    assert_eq!(lines[..2], ["power-on 3, lines that are no call 0", "    27 port count not 2 to 8: 1"]);
+    let ports: Vec<&String> = lines.iter().filter(|line| line.starts_with("  port ")).collect();
+    assert_eq!(ports.len(), 8);
+    assert_eq!(ports[1], "  port 2: accepted 3, stopped 0, lost 0, own lost 0");
+    assert_eq!(ports[6], "  port 7: accepted 1, stopped 0, lost 0, own lost 0");
+    assert_eq!(Run::of("P 1 2 3").summary.lines().iter().filter(|line| line.starts_with("  port ")).count(), 3);
+    assert_eq!(Run::of("").summary.lines().iter().filter(|line| line.starts_with("  port ")).count(), 4);
 }
 
 #[test]

@@ -4,10 +4,11 @@ use mathlib.Core.Path.{_≡_, refl, sym, ap, _∙_}
 use mathlib.Core.Bool.{Bool, true, false}
 use mathlib.Core.List.{List, [], _∷_, _++_, List·Memᴰ, List·Memᴰ·head, List·Memᴰ·tail}
 use Prim.Native.Nat.{ℕ, _<_}
+use native.Mathlib.Omega.{arith}
 use borrow.Author.Tests.{le-leb, lt-leb}
 use Rattle.unit.specs.Model.{modelOf}
 use Rattle.bridge.specs.Calls.{Call, FrameIn, TakeOut, Message, Start, Quiet, ReadUnit}
-use Rattle.demand_3.specs.Demand3.{ports, modelAfter}
+use Rattle.demand_3.specs.Demand3.{modelAfter}
 use Rattle.demand_3.proofs.Demand3.{demand-3}
 use Rattle.any_order.specs.Claimants.{Same}
 use Rattle.any_order.specs.Mornings.{claimants, callsStart, hasStarted, OnePort, NoneIsTheUnit, Orderly}
@@ -18,12 +19,15 @@ use Rattle.any_order.proofs.Calls.{settled-after}
 use Rattle.any_order.proofs.Unique.{one-table, stands-alike}
 
 -- what the record means after a morning
-pub rest-in : {name preferred : ℕ} {ks : List Call} {v : List ℕ} → Morning name preferred ks v → modelOf ports v .rest ≡ modelAfter name preferred ks .rest
-rest-in {ks = ks} {v = v} M = ap (λ m. m .rest) (demand-3 (M .powersOn) .every (M .goesOn) ks (M .answers) v (M .run) .state)
+pub rest-in : {ports name preferred : ℕ} {ks : List Call} {v : List ℕ} → Morning ports name preferred ks v → modelOf ports v .rest ≡ modelAfter ports name preferred ks .rest
+rest-in {ks = ks} {v = v} M =
+    let D = demand-3 (M .powersOn) in
+    let same = D .chosen (M .goesOn) .0 in
+    ap (λ m. m .rest) (rw same at (D .every (λ e. omega (arith, M .goesOn, e)) ks (M .answers) v (M .run) .state))
 
-settled-in : {name preferred : ℕ} {ks : List Call} {v : List ℕ} → Morning name preferred ks v → Orderly ports name ks
+settled-in : {ports name preferred : ℕ} {ks : List Call} {v : List ℕ} → Morning ports name preferred ks v → Orderly ports name ks
     → SettledIn (hasStarted preferred ks) name preferred (claimants ks) (modelOf ports v .rest)
-settled-in {name} {preferred} {ks} M O = rw (rest-in M) (settled-after ports name preferred ks O)
+settled-in {ports} {name} {preferred} {ks} M O = rw (rest-in M) (settled-after ports name preferred ks O)
 
 -- ---- the unit at the beginning
 never : (preferred : ℕ) (ks : List Call) → (List·Memᴰ Start ks → 253 < preferred) → hasStarted preferred ks ≡ false
@@ -49,12 +53,12 @@ begins {preferred = preferred} {ks = ks} (unstarted n) = never preferred ks n
 begins {preferred = preferred} (started js later e none good) = rw (e, once js later, le-leb preferred 253 good)
 
 -- ---- the theorem
-lowest : {name preferred : ℕ} {ks : List Call} {v : List ℕ} → Morning name preferred ks v → Orderly ports name ks → Outcome name preferred ks v
+lowest : {ports name preferred : ℕ} {ks : List Call} {v : List ℕ} → Morning ports name preferred ks v → Orderly ports name ks → Outcome ports name preferred ks v
 lowest M O = let S = settled-in M O in record { table = S .goes; unit = S .stands }
 
-same : {name preferred : ℕ} {ks ks′ : List Call} {v v′ : List ℕ} → Morning name preferred ks v → Morning name preferred ks′ v′
-    → Orderly ports name ks → Orderly ports name ks′ → hasStarted preferred ks ≡ hasStarted preferred ks′ → Same (claimants ks) (claimants ks′) → Alike v v′
-same {name} {preferred} {ks} {ks′} {v} {v′} M M′ O O′ b s =
+same : {ports name preferred : ℕ} {ks ks′ : List Call} {v v′ : List ℕ} → Morning ports name preferred ks v → Morning ports name preferred ks′ v′
+    → Orderly ports name ks → Orderly ports name ks′ → hasStarted preferred ks ≡ hasStarted preferred ks′ → Same (claimants ks) (claimants ks′) → Alike ports v v′
+same {ports} {name} {preferred} {ks} {ks′} {v} {v′} M M′ O O′ b s =
     let S = settled-in M O in
     let S′ : SettledIn (hasStarted preferred ks) name preferred (claimants ks′) (modelOf ports v′ .rest) = rw b (settled-in M′ O′) in
     let unit = stands-alike s (S .stands) (S′ .stands) in

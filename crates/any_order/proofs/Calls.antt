@@ -21,7 +21,7 @@ use Rattle.unit.specs.PowerOn.{notLong, fresh}
 use Rattle.claims.specs.Claims.{isRequestToUnit, frameActed, claimActed, started}
 use Rattle.claims.specs.Claims.{frameOf, isClaim as isClaimFrame}
 use Rattle.checks.specs.Ports.{noPort, isPort}
-use Rattle.refusals.specs.Refusals.{frameRefusal, takeRefusal, startRefusal, quietRefusal, unitRefusal}
+use Rattle.refusals.specs.Refusals.{frameRefusal, takeRefusal, startRefusal, quietRefusal, lengthRefusal}
 use Rattle.refusals.proofs.Checks.{none, port-in, source-in}
 use Rattle.bridge.specs.Calls.{Call, FrameIn, TakeOut, Message, Start, Quiet, ReadUnit, refusal, restAfter, performed, next}
 use Rattle.any_order.specs.Claimants.{Claimant, Stands, unstarted, keeps, loses}
@@ -210,7 +210,7 @@ module _ (ports name preferred : ℕ) (day : List Call) (one : Holds ports name 
       (either-way (SettledIn b name preferred cs) (eqb number 0) (restAfter ports (recordLength ports) rest Quiet) rest
       (λ t. quiet-settles rest (quiet-goes ports (recordLength ports) (rest .own) t) S) S)
   after-call b {cs} rest ReadUnit seen now goes S =
-      rw (append-nil cs, or-false b) (either-way (SettledIn b name preferred cs) (eqb (unitRefusal ports (recordLength ports)) 0) rest rest (λ _. S) S)
+      rw (append-nil cs, or-false b) (either-way (SettledIn b name preferred cs) (eqb (lengthRefusal ports (recordLength ports)) 0) rest rest (λ _. S) S)
 
   -- ---- a list of calls
   after-list : (b : Bool) (cs : List Claimant) (m : Model) (ks : List Call) → Among cs
@@ -234,4 +234,4 @@ pub settled-after : (ports name preferred : ℕ) (ks : List Call) → Orderly po
     → SettledIn (hasStarted preferred ks) name preferred (claimants ks) (afterCalls (next ports (recordLength ports)) (fresh ports name preferred) ks .rest)
 settled-after ports name preferred ks O =
     after-list ports name preferred ks (O OneAddress) (O NoneWithdraws) (O NoneIsTheUnit) false [] (fresh ports name preferred) ks
-    (λ d m. absurd (List·Memᴰ·not-nil m)) (λ d m. m) (O Unrefused) (fresh-settled name preferred)
+    (λ d m. absurd (List·Memᴰ·not-nil m)) (λ d m. m) (O Unrefused) (fresh-settled ports name preferred)

@@ -15,25 +15,26 @@ use Rattle.unit.specs.Own.{isOwn}
 use Rattle.claims.specs.Claims.{isClaim as isClaimFrame, claimActed, frameActed, started}
 use Rattle.claims.specs.Claims.{contested as contestedOwn}
 use Rattle.checks.specs.Ports.{isPort}
+use Rattle.unit.specs.Count.{pairCount}
 use Rattle.refusals.specs.Refusals.{frameRefusal, startRefusal}
 use Rattle.bridge.specs.Calls.{Call, refusal, restAfter, performed, next}
-use Rattle.demand_3.specs.Demand3.{ports, modelAfter}
+use Rattle.demand_3.specs.Demand3.{modelAfter}
 use Rattle.any_order.specs.Claimants.{Claimant, GoesTo, nobody, lowest}
 use Rattle.any_order.specs.Mornings.{isClaim, claimOf, Unrefused, OneAddress, OnePort, NoneWithdraws, NoneIsTheUnit}
 use Rattle.any_order.specs.AnyOrder.{Morning, tableIn}
-use Rattle.any_order.specs.Needed.{narrow, wide, fromPort5, fiveThenSix, sixThenFive, port2Then3, port3Then2, claimsThenWithdraws, withdrawsThenClaims, unitsName, unstartedUnit, startedUnit, Needed}
+use Rattle.any_order.specs.Needed.{ports, narrow, wide, fromPort5, fiveThenSix, sixThenFive, port2Then3, port3Then2, claimsThenWithdraws, withdrawsThenClaims, unitsName, unstartedUnit, startedUnit, Needed}
 use Rattle.any_order.proofs.AnyOrder.{rest-in}
 use Rattle.any_order.proofs.Tests.{test, all, but, place, tested-but, all-tested, every, everyTwo, implies, passes, agreeOnAddress, agreeOnPort}
 
 -- what the table holds at an address after a morning
-found : {name preferred : ℕ} {ks : List Call} {v : List ℕ} (a : ℕ) (p : Place) → Morning name preferred ks v
-    → getD (modelAfter name preferred ks .rest .table) a Free ≡ p → getD (tableIn v) a Free ≡ p
+found : {name preferred : ℕ} {ks : List Call} {v : List ℕ} (a : ℕ) (p : Place) → Morning ports name preferred ks v
+    → getD (modelAfter ports name preferred ks .rest .table) a Free ≡ p → getD (tableIn ports v) a Free ≡ p
 found a p M e = ap (λ r. getD (r .table) a Free) (rest-in M) ∙ e
 
 module _ {name preferred : ℕ} {ks ks′ : List Call} {v v′ : List ℕ} (a : ℕ) {p p′ : Place} where
   -- two places that differ
-  differ : getD (modelAfter name preferred ks .rest .table) a Free ≡ p → getD (modelAfter name preferred ks′ .rest .table) a Free ≡ p′ → (p ≡ p′ → ⊥)
-      → Morning name preferred ks v → Morning name preferred ks′ v′ → tableIn v ≡ tableIn v′ → ⊥
+  differ : getD (modelAfter ports name preferred ks .rest .table) a Free ≡ p → getD (modelAfter ports name preferred ks′ .rest .table) a Free ≡ p′ → (p ≡ p′ → ⊥)
+      → Morning ports name preferred ks v → Morning ports name preferred ks′ v′ → tableIn ports v ≡ tableIn ports v′ → ⊥
   differ e e′ ne M M′ same = ne (sym (found a p M e) ∙ ap (λ t. getD t a Free) same ∙ found a p′ M′ e′)
 
 free-held : (port name : ℕ) → Free ≡ Held port name → ⊥
@@ -47,7 +48,7 @@ not-free c real (lowest d L) e =
     free-held (d .port) (d .name) (sym e ∙ placed (d .port) (d .name) (rw s real))
 
 pub needed : Needed
-unfolding isPort next performed refusal restAfter frameRefusal startRefusal wrongSource sentWithoutAddress pgnOf packed frameActed isClaimFrame claimActed contestedOwn isOwn movedTo withdrawn without heldBy contested placeFrom started test all but place every everyTwo implies passes agreeOnAddress agreeOnPort isClaim claimOf
+unfolding pairCount isPort next performed refusal restAfter frameRefusal startRefusal wrongSource sentWithoutAddress pgnOf packed frameActed isClaimFrame claimActed contestedOwn isOwn movedTo withdrawn without heldBy contested placeFrom started test all but place every everyTwo implies passes agreeOnAddress agreeOnPort isClaim claimOf
 needed = record {
   unrefused = record {
     premises = tested-but Unrefused ports 8 narrow refl;

@@ -199,8 +199,8 @@ quiet-settles rest h S =
     record { long = S .long; goes = S .goes; called = S .called; wants = S .wants; stands = quieter h (S .stands); real = S .real; inside = S .inside }
 
 -- ---- power-on
-pub fresh-settled : (name preferred : ℕ) → Settled false name preferred [] (freshUnit name preferred) (replicate places Free)
-fresh-settled name preferred = record {
+pub fresh-settled : (ports name preferred : ℕ) → Settled false name preferred [] (freshUnit name preferred ports) (replicate places Free)
+fresh-settled ports name preferred = record {
   long = length-replicate places Free;
   goes = λ a small. rw (getD-replicate places a Free Free small) (nobody (λ c m at. List·Memᴰ·not-nil m));
   called = refl;

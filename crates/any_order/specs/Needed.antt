@@ -4,9 +4,12 @@ use Prim.Native.Nat.{ℕ, _+_}
 use mathlib.Core.Path.{_≡_}
 use mathlib.Core.List.{List, [], _∷_, List·Permᴰ}
 use Rattle.bridge.specs.Calls.{Call, FrameIn, Start}
-use Rattle.demand_3.specs.Demand3.{ports}
 use Rattle.any_order.specs.Mornings.{claimants, hasStarted, Premise, Unrefused, OneAddress, OnePort, NoneWithdraws, NoneIsTheUnit, Holds, Orderly}
 use Rattle.any_order.specs.AnyOrder.{Morning, tableIn, Outcome}
+
+-- the examples have four ports
+abbrev pub ports : ℕ
+ports = 4
 
 -- a claim by a NAME below 256, which its identifier may carry at any priority
 abbrev pub claimAs : ℕ → ℕ → ℕ → ℕ → Call
@@ -25,12 +28,12 @@ pub record Differ (p : Premise) (name preferred : ℕ) (ks ks′ : List Call) : 
   pub premises′ : AllBut p name ks′
   pub begin : hasStarted preferred ks ≡ hasStarted preferred ks′
   pub order : List·Permᴰ (claimants ks) (claimants ks′)
-  pub tables : {v v′ : List ℕ} → Morning name preferred ks v → Morning name preferred ks′ v′ → tableIn v ≡ tableIn v′ → ⊥
+  pub tables : {v v′ : List ℕ} → Morning ports name preferred ks v → Morning ports name preferred ks′ v′ → tableIn ports v ≡ tableIn ports v′ → ⊥
 
 -- an address does not go to its lowest claimant
 pub record Misses (p : Premise) (name preferred : ℕ) (ks : List Call) : Type 0 where
   pub premises : AllBut p name ks
-  pub outcome : {v : List ℕ} → Morning name preferred ks v → Outcome name preferred ks v → ⊥
+  pub outcome : {v : List ℕ} → Morning ports name preferred ks v → Outcome ports name preferred ks v → ⊥
 
 -- ---- the lists: the unit has NAME 8 and prefers address 7
 -- an identifier of 29 bits, and one of 30, which is refused (3)
@@ -88,4 +91,4 @@ pub record Needed : Type 0 where
   pub noneIsTheUnit : Misses NoneIsTheUnit 8 7 unitsName
   -- the unit has started the one morning, and not the other: NAME 9 is beaten, or is not
   pub begin : {v v′ : List ℕ} → Orderly ports 8 unstartedUnit × Orderly ports 8 startedUnit
-      × (Morning 8 7 unstartedUnit v → Morning 8 7 startedUnit v′ → tableIn v ≡ tableIn v′ → ⊥)
+      × (Morning ports 8 7 unstartedUnit v → Morning ports 8 7 startedUnit v′ → tableIn ports v ≡ tableIn ports v′ → ⊥)

@@ -8,6 +8,7 @@ use Rattle.network_message.specs.Decoding.{isKnown, mayBeAll, isPair, namesPort
 use Rattle.checks.specs.Ports.{isPort}
 use Rattle.replies.specs.Replies.{controlOf, acknowledgment, filled, listBody, listReply}
 use Rattle.storage.specs.Bytes.{packed, bytesOf}
+use Rattle.unit.specs.Count.{pairCount}
 use Rattle.unit.specs.Ports.{each, mask, total}
 use Rattle.unit.specs.Own.{consumes, isOwn}
 use Rattle.forwarding.specs.Forwarding.{verdict}
@@ -23,7 +24,7 @@ use Rattle.demand_3.specs.Demand3.{answer}
 use Rattle.assurance.specs.Examples.{Examples}
 
 pub examples : Examples
-unfolding frameAnswer frameRefusal takeAnswer takeRefusal isPort answer next refusal performed restAfter asks sends frameActed isClaim isRequest isRequestToUnit sentWithoutAddress pgnOf destinationOf wrongSource framePassed mask total offered consumes isOwn verdict asked permits listed place messaged messageRefusal decoded refusalOf isKnown namesPorts isPair mayBeAll mayName hasGoodBody holdsEntries entriesEnd isFilling wellFormed entriesOf every packed isPgn hasWrongMode commandOf performedBy listRefusal listChecks anyNamed anyBelow names holdsOf isCleared wouldPass addAll addOne commanded changeNamed each changeOf created mayCreate modeFor acknowledgment controlOf listReply filled listBody reportedMode reported bytesOf
+unfolding pairCount frameAnswer frameRefusal takeAnswer takeRefusal isPort answer next refusal performed restAfter asks sends frameActed isClaim isRequest isRequestToUnit sentWithoutAddress pgnOf destinationOf wrongSource framePassed mask total offered consumes isOwn verdict asked permits listed place messaged messageRefusal decoded refusalOf isKnown namesPorts isPair mayBeAll mayName hasGoodBody holdsEntries entriesEnd isFilling wellFormed entriesOf every packed isPgn hasWrongMode commandOf performedBy listRefusal listChecks anyNamed anyBelow names holdsOf isCleared wouldPass addAll addOne commanded changeNamed each changeOf created mayCreate modeFor acknowledgment controlOf listReply filled listBody reportedMode reported bytesOf
 examples = record {
   p1 = (refl, refl);
   p2 = (refl, refl);

@@ -11,7 +11,7 @@ use Rattle.assurance.specs.Examples.{Examples}
 pub record Assurance : Type 0 where
   pub demand-1 : Demand1
   pub demand-2 : Demand2
-  -- power-on was called on the words w, whatever they held, with any NAME and any preferred address, was answered r and left u
-  pub demand-3 : {w u : List ℕ} {name preferred r : ℕ} → Powered w name preferred r u → EveryList w u name preferred r
+  -- power-on was called on the words w, whatever they held, with any NAME, preferred address and count of ports, was answered r and left u
+  pub demand-3 : {w u : List ℕ} {name preferred count r : ℕ} → Powered w name preferred count r u → EveryList w u name preferred count r
   pub literals : Literals
   pub examples : Examples

@@ -38,7 +38,7 @@ calls = FrameIn 1 0x18FEF121 [] ∷ FrameIn 1 0x18FEF122 [] ∷ FrameIn 1 0x0CF0
 -- "Before P5 the unit is Claimed at an address no example uses, all pairs are cleared and all queues empty"
 abbrev pub with : List Filter → Model
 with pairs = record {
-  rest = record { own = record { claim = Claimed; address = 0x90; preferred = 0x90; name = 1 }; pairs = pairs; table = replicate 254 Free };
+  rest = record { own = record { claim = Claimed; address = 0x90; preferred = 0x90; name = 1; ports = 4 }; pairs = pairs; table = replicate 254 Free };
   rows = replicate 4 [];
   seen = record {};
 }
@@ -52,11 +52,11 @@ afterP5 = with (record { mode = pass; entries = 65265 ∷ [] } ∷ replicate 11 
 
 -- what a frame from port 1 with no bytes is answered
 abbrev pub frameIn : Model → ℕ → FrameAnswer
-frameIn m id = frameAnswer 4 1180 m 1 id []
+frameIn m id = frameAnswer 4 1181 m 1 id []
 
 -- "Unless said, the tool is on port 1 with requester 21 and the buffer is long enough"
 abbrev pub message : Model → ℕ → List ℕ → Replied
-message m port payload = messaged 4 1180 1785 (m .rest) port 0x21 payload
+message m port payload = messaged 4 1181 1785 (m .rest) port 0x21 payload
 
 abbrev pub create : List ℕ
 create = 0x06 ∷ 0x12 ∷ 0x01 ∷ 0xF1 ∷ 0xFE ∷ 0x00 ∷ 0xFF ∷ 0xFF ∷ []
@@ -94,4 +94,4 @@ pub record Examples : Type 0 where
       × (frameIn afterP5 0x0CF00400 .lost ≡ 0)
       × (frameIn afterP5 0x0CF00400 .compared ≡ 1)
   -- priorities 6, 6, 3 accepted; three takes: 3, first 6, second 6
-  pub p11 : drop 3 (answersOf next answer beforeP5 calls) ≡ ToTake (Took (Given three)) ∷ ToTake (Took (Given six₁)) ∷ ToTake (Took (Given six₂)) ∷ []
+  pub p11 : drop 3 (answersOf (next 4) (answer 4) beforeP5 calls) ≡ ToTake (Took (Given three)) ∷ ToTake (Took (Given six₁)) ∷ ToTake (Took (Given six₂)) ∷ []

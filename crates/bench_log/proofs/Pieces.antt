@@ -10,6 +10,7 @@ use lib.Dec.{eqb, ltb}
 use lib.ListN.{length, take, drop, length-append, length-drop}
 use lib.Seq.{take-append-add, drop-append-add, drop-append-le, drop-drop, drop-at, drop-length, length-take-le}
 use Rattle.storage.proofs.Parts.{back}
+use Rattle.unit.specs.Count.{portsOf}
 use Rattle.unit.specs.Model.{modelOf}
 use Rattle.bench_records.specs.Records.{kindOf, sizeOf, logNumber}
 use Rattle.bench_lines.specs.Lines.{lineRoom}
@@ -44,7 +45,7 @@ passed-none = record {
 }
 
 -- a step that used nothing and is not over found no room, or no whole record
-idle : {v u piece lent part : List ℕ} {last : Bool} {s : Stepped} → Stepping 4 v u piece last lent part s → s .used ≡ 0 → s .over ≡ false
+idle : {v u piece lent part : List ℕ} {last : Bool} {s : Stepped} → Stepping (portsOf v) v u piece last lent part s → s .used ≡ 0 → s .over ≡ false
     → (length lent < lineRoom) ⊎ (isRecord piece ≡ false)
 unfolding outcome
 idle {v} {u} {piece} {lent} {part} {last} {s} t z o = by (ltb (length lent) lineRoom) refl
@@ -67,7 +68,7 @@ idle {v} {u} {piece} {lent} {part} {last} {s} t z o = by (ltb (length lent) line
 
 -- one more step
 module _ {w v u piece lent mid part : List ℕ} {last : Bool} {used written : ℕ} {s : Stepped} (p : Passed w v piece last lent mid used written false)
-    (t : Stepping 4 v u (drop used piece) last (drop written mid) part s) where
+    (t : Stepping (portsOf v) v u (drop used piece) last (drop written mid) part s) where
   left : (later : List ℕ) → drop used (piece ++ later) ≡ drop used piece ++ later
   left later = drop-append-le used piece later (p .fits)
 
@@ -82,7 +83,7 @@ module _ {w v u piece lent mid part : List ℕ} {last : Bool} {used written : �
 
   rest-part : drop (s .written) part ≡ drop (s .written) (drop written mid)
   rest-part =
-      let text = outcome 4 (length (drop written mid)) (length v) (modelOf 4 v) (drop used piece) last .text in
+      let text = outcome (portsOf v) (length (drop written mid)) (length v) (modelOf (portsOf v) v) (drop used piece) last .text in
       rw (t .text) (drop-at text (drop (0 + length text) (drop written mid)) (s .written) (sym (t .written)) ∙ ap (λ n. drop n (drop written mid)) (same-length (t .written)))
     where
       same-length : {m n : ℕ} → m ≡ n → 0 + n ≡ m
@@ -112,7 +113,7 @@ pub going-none : {w piece lent : List ℕ} {last : Bool} → Going w w piece las
 going-none = record { passed = passed-none; on = λ e. refl; idles = λ e. no e; words = refl }
 
 -- a step that used something is not over
-goes-on : {v u piece lent part : List ℕ} {last : Bool} {s : Stepped} → Stepping 4 v u piece last lent part s → 0 < s .used → s .over ≡ false
+goes-on : {v u piece lent part : List ℕ} {last : Bool} {s : Stepped} → Stepping (portsOf v) v u piece last lent part s → 0 < s .used → s .over ≡ false
 unfolding outcome
 goes-on {v} {u} {piece} {lent} {part} {last} {s} t some = by (ltb (length lent) lineRoom) (eqb (length piece) 0) (eqb (logNumber piece) 0) (eqb (logNumber piece) 25) last refl refl refl refl refl
   where
@@ -135,12 +136,12 @@ to-end written mid part near =
     rw (drop-drop (length mid - written) written mid, e, drop-length mid, append-nil part)
 
 module _ {w v u piece lent mid part : List ℕ} {last over : Bool} {used written : ℕ} {s : Stepped} (g : Going w v piece last lent mid used written over true)
-    (t : Stepping 4 v u (take (length piece - used) (drop used piece)) last (take (length mid - written) (drop written mid)) part s)
+    (t : Stepping (portsOf v) v u (take (length piece - used) (drop used piece)) last (take (length mid - written) (drop written mid)) part s)
     (long : length part ≡ length mid - written) where
   so-far : Passed w v piece last lent mid used written false
   so-far = rw (g .on refl) at (g .passed)
 
-  one-more : Stepping 4 v u (drop used piece) last (drop written mid) part s
+  one-more : Stepping (portsOf v) v u (drop used piece) last (drop written mid) part s
   one-more = rw (part-whole piece used, part-whole mid written) at t
 
   stopped : ltb 0 (s .used) ≡ false → s .over ≡ false

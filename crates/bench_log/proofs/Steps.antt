@@ -9,6 +9,7 @@ use borrow.Author.Tests.{lt-ltb, le-ltb, eq-eqb, ne-eqb}
 use lib.Dec.{eqb, ltb}
 use lib.ListN.{length, take, drop, getD, replicate, length-append, length-drop}
 use Rattle.text.specs.Writing.{put, Writing}
+use Rattle.unit.specs.Count.{portsOf}
 use Rattle.unit.specs.Model.{modelOf}
 use Rattle.bridge.specs.declared.FrameAnswer.{FrameAnswer}
 use Rattle.bridge.specs.declared.TakeAnswer.{TakeAnswer}
@@ -21,12 +22,12 @@ use Rattle.bench_log.specs.Step.{frameText, takeText, callText, Doing, C
 use Rattle.bench_records.proofs.Numbers.{size-least, record-whole, number-frame, number-take}
 
 -- a call's line
-pub frame-done : {w v lent back bytes : List ℕ} {port id n : ℕ} {r : FrameAnswer} → Framing 4 w v port id bytes r → Writing lent back 0 (frameText r) n
-    → Doing 4 w v (FrameIn port id bytes) lent back n
+pub frame-done : {w v lent back bytes : List ℕ} {port id n : ℕ} {r : FrameAnswer} → Framing (portsOf w) w v port id bytes r → Writing lent back 0 (frameText r) n
+    → Doing (portsOf w) w v (FrameIn port id bytes) lent back n
 unfolding callText
 frame-done f l = record { call = f .call; line = rw (f .answer) at l }
 
-pub take-done : {w v lent back : List ℕ} {port n : ℕ} {r : TakeAnswer} → TakingOut 4 w v port r → Writing lent back 0 (takeText r) n → Doing 4 w v (TakeOut port) lent back n
+pub take-done : {w v lent back : List ℕ} {port n : ℕ} {r : TakeAnswer} → TakingOut (portsOf w) w v port r → Writing lent back 0 (takeText r) n → Doing (portsOf w) w v (TakeOut port) lent back n
 unfolding callText
 take-done f l = record { call = f .call; line = rw (f .answer) at l }
 
@@ -35,23 +36,24 @@ written-near : (t lent : List ℕ) → length (put 0 t lent) ≡ length lent →
 written-near t lent e = omega (arith, e, length-append t (drop (0 + length t) lent))
 
 inside : (w log lent : List ℕ) (last : Bool) → lineRoom ≤ length lent
-    → outcome 4 (length lent) (length w) (modelOf 4 w) log last ≡ onLog 4 (length w) (modelOf 4 w) log last
+    → outcome (portsOf w) (length lent) (length w) (modelOf (portsOf w) w) log last ≡ onLog (portsOf w) (length w) (modelOf (portsOf w) w) log last
 unfolding outcome
 inside w log lent last room = rw (le-ltb (length lent) lineRoom room)
 
 module _ {w log lent : List ℕ} {last : Bool} where
-  pub no-room : length lent < lineRoom → Stepping 4 w w log last lent lent (record { used = 0; written = 0; over = false })
+  pub no-room : length lent < lineRoom → Stepping (portsOf w) w w log last lent lent (record { used = 0; written = 0; over = false })
   unfolding outcome
   no-room h =
       let e = lt-ltb (length lent) lineRoom h in
-      record { long = refl; state = rw e; text = rw e; used = rw e; written = rw e; over = rw e; kept = λ z. refl; refused = λ z. refl; fits = omega arith; near = omega arith }
+      record { long = refl; count = refl; state = rw e; text = rw e; used = rw e; written = rw e; over = rw e; kept = λ z. refl; refused = λ z. refl; fits = omega arith; near = omega arith }
 
   module _ (room : lineRoom ≤ length lent) where
-    pub at-end : length log ≡ 0 → Stepping 4 w w log last lent lent (record { used = 0; written = 0; over = last })
+    pub at-end : length log ≡ 0 → Stepping (portsOf w) w w log last lent lent (record { used = 0; written = 0; over = last })
     at-end h =
         let e = eq-eqb (length log) 0 h in
         record {
           long = refl;
+          count = refl;
           state = rw (inside w log lent last room, e);
           text = rw (inside w log lent last room, e);
           used = rw (inside w log lent last room, e);
@@ -65,10 +67,11 @@ module _ {w log lent : List ℕ} {last : Bool} where
 
     module _ (some : length log ≡ 0 → ⊥) where
       pub at-unknown : {back : List ℕ} {n : ℕ} → logNumber log ≡ 24 → Writing lent back 0 (refusedText 24) n → length back ≡ length lent
-          → Stepping 4 w w log last lent back (record { used = 0; written = n; over = true })
+          → Stepping (portsOf w) w w log last lent back (record { used = 0; written = n; over = true })
       at-unknown {back} {n} e l b =
           record {
             long = refl;
+            count = refl;
             state = rw (inside w log lent last room, ne-eqb (length log) 0 some, e);
             text = rw (inside w log lent last room, ne-eqb (length log) 0 some, e) (l .bytes);
             used = rw (inside w log lent last room, ne-eqb (length log) 0 some, e);
@@ -80,15 +83,16 @@ module _ {w log lent : List ℕ} {last : Bool} where
             near = omega (arith, l .next, written-near (refusedText 24) lent (sym (ap length (l .bytes)) ∙ b));
           }
 
-      pub at-cut : {back : List ℕ} {r : Stepped} → logNumber log ≡ 25 → Cutting last lent back r → length back ≡ length lent → Stepping 4 w w log last lent back r
+      pub at-cut : {back : List ℕ} {r : Stepped} → logNumber log ≡ 25 → Cutting last lent back r → length back ≡ length lent → Stepping (portsOf w) w w log last lent back r
       at-cut {back} {r} e l b = cutting last refl
         where
-          cutting : (c : Bool) → last ≡ c → Stepping 4 w w log last lent back r
+          cutting : (c : Bool) → last ≡ c → Stepping (portsOf w) w w log last lent back r
           cutting true f =
               let text : back ≡ put 0 (refusedText 25) lent = rw f at (l .text) in
               let written : r .written ≡ length (refusedText 25) = rw f at (l .written) in
               record {
                 long = refl;
+                count = refl;
                 state = rw (inside w log lent last room, ne-eqb (length log) 0 some, e, f);
                 text = rw (inside w log lent last room, ne-eqb (length log) 0 some, e, f) text;
                 used = rw (inside w log lent last room, ne-eqb (length log) 0 some, e, f) (l .used);
@@ -103,6 +107,7 @@ module _ {w log lent : List ℕ} {last : Bool} where
               let written : r .written ≡ 0 = rw f at (l .written) in
               record {
                 long = refl;
+                count = refl;
                 state = rw (inside w log lent last room, ne-eqb (length log) 0 some, e, f);
                 text = rw (inside w log lent last room, ne-eqb (length log) 0 some, e, f) (rw f at (l .text));
                 used = rw (inside w log lent last room, ne-eqb (length log) 0 some, e, f) (l .used);
@@ -114,12 +119,13 @@ module _ {w log lent : List ℕ} {last : Bool} where
                 near = omega (arith, written);
               }
 
-      at-record : {v back : List ℕ} {n : ℕ} → logNumber log ≡ 0 → Doing 4 w v (callOf log) lent back n → length back ≡ length lent
-          → Stepping 4 w v log last lent back (record { used = sizeOf (kindOf log); written = n; over = false })
+      at-record : {v back : List ℕ} {n : ℕ} → logNumber log ≡ 0 → Doing (portsOf w) w v (callOf log) lent back n → length back ≡ length lent
+          → Stepping (portsOf w) w v log last lent back (record { used = sizeOf (kindOf log); written = n; over = false })
       at-record {v} {back} {n} e l b =
-          let text = callText 4 (length w) (modelOf 4 w) (callOf log) in
+          let text = callText (portsOf w) (length w) (modelOf (portsOf w) w) (callOf log) in
           record {
             long = l .call .long;
+            count = l .call .count;
             state = rw (inside w log lent last room, ne-eqb (length log) 0 some, e) (l .call .state);
             text = rw (inside w log lent last room, ne-eqb (length log) 0 some, e) (l .line .bytes);
             used = rw (inside w log lent last room, ne-eqb (length log) 0 some, e);
@@ -131,18 +137,18 @@ module _ {w log lent : List ℕ} {last : Bool} where
             near = omega (arith, l .line .next, written-near text lent (sym (ap length (l .line .bytes)) ∙ b));
           }
 
-      pub at-frame : {v back : List ℕ} {n : ℕ} → kindOf log ≡ 1 → 15 ≤ length log → Doing 4 w v (FrameIn (getD log 1 0) (idOf log) (bytesIn log)) lent back n
-          → length back ≡ length lent → Stepping 4 w v log last lent back (record { used = 15; written = n; over = false })
+      pub at-frame : {v back : List ℕ} {n : ℕ} → kindOf log ≡ 1 → 15 ≤ length log → Doing (portsOf w) w v (FrameIn (getD log 1 0) (idOf log) (bytesIn log)) lent back n
+          → length back ≡ length lent → Stepping (portsOf w) w v log last lent back (record { used = 15; written = n; over = false })
       unfolding callOf
       at-frame {v} {back} {n} k h l b =
-          let whole : Doing 4 w v (callOf log) lent back n = rw k l in
+          let whole : Doing (portsOf w) w v (callOf log) lent back n = rw k l in
           rw k at (at-record (number-frame log k h) whole b)
 
-      pub at-take : {v back : List ℕ} {n port : ℕ} → kindOf log ≡ 2 → 2 ≤ length log → port ≡ getD log 1 0 → Doing 4 w v (TakeOut port) lent back n
-          → length back ≡ length lent → Stepping 4 w v log last lent back (record { used = 2; written = n; over = false })
+      pub at-take : {v back : List ℕ} {n port : ℕ} → kindOf log ≡ 2 → 2 ≤ length log → port ≡ getD log 1 0 → Doing (portsOf w) w v (TakeOut port) lent back n
+          → length back ≡ length lent → Stepping (portsOf w) w v log last lent back (record { used = 2; written = n; over = false })
       unfolding callOf
       at-take {v} {back} {n} {port} k h p l b =
-          let whole : Doing 4 w v (callOf log) lent back n = rw (k, ← p) l in
+          let whole : Doing (portsOf w) w v (callOf log) lent back n = rw (k, ← p) l in
           rw k at (at-record (number-take log k h) whole b)
 
 -- a log that ends in the middle of a record

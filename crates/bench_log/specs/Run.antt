@@ -8,6 +8,7 @@ use mathlib.Core.List.{List, [], _∷_, _++_}
 use lib.Dec.{eqb}
 use lib.ListN.{length, take, drop}
 use Rattle.delivery.specs.Calls.{afterCalls, answersOf}
+use Rattle.unit.specs.Count.{portsOf}
 use Rattle.unit.specs.Model.{Model}
 use Rattle.demand_3.specs.Demand3.{Answer, ToFrame, ToTake, ToMessage, ToStart, ToQuiet, ToUnit, next, answer}
 use Rattle.bench_records.specs.Records.{logNumber}
@@ -34,17 +35,17 @@ linesOf (x ∷ xs) = lineOf x ++ linesOf xs
 abbrev pub endText : List ℕ → List ℕ
 endText rest = cond (eqb (length rest) 0) [] (refusedText (logNumber rest))
 
--- the lines of the book's answers over the calls of the records
-unfoldable pub textOf : Model → List ℕ → List ℕ
-textOf m log = linesOf (answersOf next answer m (callsOf log)) ++ endText (restOf log)
+-- the lines of the book's answers over the calls of the records, on a unit of so many ports
+unfoldable pub textOf : ℕ → Model → List ℕ → List ℕ
+textOf ports m log = linesOf (answersOf (next ports) (answer ports) m (callsOf log)) ++ endText (restOf log)
 
 -- ---- a run: steps until one says that it is over
 -- Each step is given the words as the last left them and a piece of what is not yet used of the log, of any length, with any room for text; that it is the
 -- last piece is said only where nothing follows it.
 pub data Run : (words log text after : List ℕ) → Type 0 where
-  ends : {w v log piece later lent back : List ℕ} {last : Bool} {r : Stepped} → log ≡ piece ++ later → (last ≡ true → later ≡ []) → Stepping 4 w v piece last lent back r
+  ends : {w v log piece later lent back : List ℕ} {last : Bool} {r : Stepped} → log ≡ piece ++ later → (last ≡ true → later ≡ []) → Stepping (portsOf w) w v piece last lent back r
       → r .over ≡ true → Run w log (take (r .written) back) v
-  goes : {w v u log piece later lent back text : List ℕ} {last : Bool} {r : Stepped} → log ≡ piece ++ later → (last ≡ true → later ≡ []) → Stepping 4 w v piece last lent back r
+  goes : {w v u log piece later lent back text : List ℕ} {last : Bool} {r : Stepped} → log ≡ piece ++ later → (last ≡ true → later ≡ []) → Stepping (portsOf w) w v piece last lent back r
       → r .over ≡ false → Run v (drop (r .used) log) text u → Run w log (take (r .written) back ++ text) u
 
 -- ---- the function `run`: steps over a piece of a log

@@ -6,6 +6,7 @@ use mathlib.Core.List.{List, []}
 use lib.Dec.{eqb, ltb}
 use lib.ListN.{length}
 use Rattle.text.specs.Writing.{put, Writing}
+use Rattle.unit.specs.Count.{portsOf}
 use Rattle.unit.specs.Model.{Model, modelOf}
 use Rattle.bridge.specs.declared.FrameAnswer.{FrameAnswer}
 use Rattle.bridge.specs.declared.TakeAnswer.{TakeAnswer}
@@ -77,6 +78,7 @@ outcome ports room lent m log last = cond (ltb room lineRoom) (still m false) (o
 
 pub record Stepping (ports : ℕ) (before after log : List ℕ) (last : Bool) (lent back : List ℕ) (r : Stepped) : Type 0 where
   pub long : length after ≡ length before
+  pub count : portsOf after ≡ portsOf before
   pub state : modelOf ports after ≡ outcome ports (length lent) (length before) (modelOf ports before) log last .model
   pub text : back ≡ put 0 (outcome ports (length lent) (length before) (modelOf ports before) log last .text) lent
   pub used : r .used ≡ outcome ports (length lent) (length before) (modelOf ports before) log last .used

@@ -6,6 +6,7 @@ use bridge::TakeAnswer;
 ghost use mathlib.Core.Path.{_≡_};
 ghost use Prim.Native.Nat.{_≤_, _<_};
 ghost use lib.ListN.{length, getD, replicate};
+ghost use Rattle.unit.specs.Count.{portsOf};
 ghost use Rattle.bridge.specs.Calls.{FrameIn, TakeOut, Framing};
 ghost use Rattle.text.specs.Writing.{Writing};
 ghost use Rattle.bench_records.specs.Records.{idOf};
@@ -49,7 +50,7 @@ fn put_take(out: &mut [u8], r: TakeAnswer) -> usize
 // The call of a frame that is said to be longer than eight bytes: none of a record's bytes is read.
 fn call_long(words: &mut [u64], port: u32, id: u32, len: usize) -> FrameAnswer
     requires { ⌜ len ≤ 255 ⌝ }
-    ensures { λ r. ⌜ Framing 4 (now (words .entry)) (now (words .exit)) port id (replicate len 0) r ⌝ }
+    ensures { λ r. ⌜ Framing (portsOf (now (words .entry))) (now (words .entry)) (now (words .exit)) port id (replicate len 0) r ⌝ }
 {
     let none = [0u8; 255];
     let bytes: &[u8] = &none;
@@ -59,7 +60,7 @@ fn call_long(words: &mut [u64], port: u32, id: u32, len: usize) -> FrameAnswer
 // The call of a frame's record, which is whole.
 fn call_frame(words: &mut [u64], log: &[u8]) -> FrameAnswer
     requires { ⌜ 15 ≤ length (now log) ⌝ }
-    ensures { λ r. ⌜ Framing 4 (now (words .entry)) (now (words .exit)) (getD (now (log .entry)) 1 0) (idOf (now (log .entry))) (bytesIn (now (log .entry))) r ⌝ }
+    ensures { λ r. ⌜ Framing (portsOf (now (words .entry))) (now (words .entry)) (now (words .exit)) (getD (now (log .entry)) 1 0) (idOf (now (log .entry))) (bytesIn (now (log .entry))) r ⌝ }
 {
     let port = bench_records::wide(log[1]);
     let id = bench_records::id_of(log);
@@ -74,7 +75,7 @@ fn call_frame(words: &mut [u64], log: &[u8]) -> FrameAnswer
 // A frame's record.
 fn do_frame(words: &mut [u64], log: &[u8], out: &mut [u8]) -> usize
     requires { ⌜ (15 ≤ length (now log)) × (lineRoom ≤ length (now out)) ⌝ }
-    ensures { λ r. ⌜ Doing 4 (now (words .entry)) (now (words .exit)) (FrameIn (getD (now (log .entry)) 1 0) (idOf (now (log .entry))) (bytesIn (now (log .entry)))) (now (out .entry)) (now (out .exit)) r ⌝ }
+    ensures { λ r. ⌜ Doing (portsOf (now (words .entry))) (now (words .entry)) (now (words .exit)) (FrameIn (getD (now (log .entry)) 1 0) (idOf (now (log .entry))) (bytesIn (now (log .entry)))) (now (out .entry)) (now (out .exit)) r ⌝ }
 {
     let r = call_frame(words, log);
     put_frame(out, r)
@@ -83,7 +84,7 @@ fn do_frame(words: &mut [u64], log: &[u8], out: &mut [u8]) -> usize
 // A take's record.
 fn do_take(words: &mut [u64], port: u32, out: &mut [u8]) -> usize
     requires { ⌜ lineRoom ≤ length (now out) ⌝ }
-    ensures { λ r. ⌜ Doing 4 (now (words .entry)) (now (words .exit)) (TakeOut port) (now (out .entry)) (now (out .exit)) r ⌝ }
+    ensures { λ r. ⌜ Doing (portsOf (now (words .entry))) (now (words .entry)) (now (words .exit)) (TakeOut port) (now (out .entry)) (now (out .exit)) r ⌝ }
 {
     let r = bridge::take(words, port);
     put_take(out, r)
@@ -112,7 +113,7 @@ fn cut(last: bool, out: &mut [u8]) -> Stepped
 // A frame's record at the front of a log.
 fn step_frame(words: &mut [u64], log: &[u8], last: bool, out: &mut [u8]) -> Stepped
     requires { ⌜ (lineRoom ≤ length (now out)) × (getD (now log) 0 0 ≡ 1) × (0 < length (now log)) ⌝ }
-    ensures { λ r. ⌜ Stepping 4 (now (words .entry)) (now (words .exit)) (now (log .entry)) last (now (out .entry)) (now (out .exit)) r ⌝ }
+    ensures { λ r. ⌜ Stepping (portsOf (now (words .entry))) (now (words .entry)) (now (words .exit)) (now (log .entry)) last (now (out .entry)) (now (out .exit)) r ⌝ }
 {
     if log.len() < FRAME_SIZE {
         return cut(last, out);
@@ -128,7 +129,7 @@ fn step_frame(words: &mut [u64], log: &[u8], last: bool, out: &mut [u8]) -> Step
 // A take's record at the front of a log.
 fn step_take(words: &mut [u64], log: &[u8], last: bool, out: &mut [u8]) -> Stepped
     requires { ⌜ (lineRoom ≤ length (now out)) × (getD (now log) 0 0 ≡ 2) × (0 < length (now log)) ⌝ }
-    ensures { λ r. ⌜ Stepping 4 (now (words .entry)) (now (words .exit)) (now (log .entry)) last (now (out .entry)) (now (out .exit)) r ⌝ }
+    ensures { λ r. ⌜ Stepping (portsOf (now (words .entry))) (now (words .entry)) (now (words .exit)) (now (log .entry)) last (now (out .entry)) (now (out .exit)) r ⌝ }
 {
     if log.len() < TAKE_SIZE {
         return cut(last, out);
@@ -145,7 +146,7 @@ fn step_take(words: &mut [u64], log: &[u8], last: bool, out: &mut [u8]) -> Stepp
 // One record at the front of a log, run on a unit; `last` says that nothing follows this log. Without room for the longest line, and without a whole
 // record while more may follow, nothing is done.
 pub fn step(words: &mut [u64], log: &[u8], last: bool, out: &mut [u8]) -> Stepped
-    ensures { λ r. ⌜ Stepping 4 (now (words .entry)) (now (words .exit)) (now (log .entry)) last (now (out .entry)) (now (out .exit)) r ⌝ }
+    ensures { λ r. ⌜ Stepping (portsOf (now (words .entry))) (now (words .entry)) (now (words .exit)) (now (log .entry)) last (now (out .entry)) (now (out .exit)) r ⌝ }
 {
     if out.len() < LINE_ROOM {
         return Stepped {

@@ -13,36 +13,50 @@ use Rattle.unit.specs.declared.Claim.the-variants.{Claimed}
 use Rattle.unit.specs.declared.Unit.{Unit}
 use Rattle.bridge.specs.declared.TakeAnswer.{TakeAnswer}
 use Rattle.bridge.specs.declared.UnitAnswer.{UnitAnswer}
-use Rattle.unit.specs.Model.{modelOf, recordLength, withOwn, withRest}
-use Rattle.unit.specs.Own.{isClaiming, moved}
-use Rattle.refusals.specs.Refusals.{takeRefusal, quietRefusal, unitRefusal}
-use Rattle.bridge.specs.Calls.{Call, refusal, restAfter, asks, sends, performed, next, takeAnswer, unitAnswer, Calling, TakingOut, Quieting, Reading}
+use Rattle.unit.specs.Model.{Model, modelOf, recordLength, withOwn, withRest}
+use Rattle.unit.specs.Own.{consumes, isClaiming, moved}
+use Rattle.refusals.specs.Refusals.{lengthRefusal, takeRefusal, quietRefusal}
+use Rattle.bridge.specs.Calls.{Call, FrameIn, TakeOut, Message, Start, Quiet, ReadUnit, frameOf, refusal, restAfter, asks, sends, performed, next, takeAnswer, unitAnswer, Calling, TakingOut, Quieting, Reading}
 use Rattle.record.specs.Steps.{RowTaking}
+use Rattle.unit.proofs.Own.{own-ports}
 use Rattle.unit.proofs.Ports.{each-none, each-one}
-use Rattle.record.proofs.Regions.{rows-four}
+use Rattle.claims.proofs.Count.{acted-ports, started-ports}
+use Rattle.record.proofs.Regions.{rows-long}
 use Rattle.refusals.proofs.Checks.{take-goes}
 
 -- ---- any call
-module _ {words : List ℕ} {k : Call} where
-  pub call-refused : (refusal 4 (length words) (modelOf 4 words .rest) k ≡ 0 → ⊥) → Calling 4 words words k
+-- no call changes the number of ports
+performed-ports : (ports lent : ℕ) (m : Model) (k : Call) → performed ports lent m k .rest .own .ports ≡ m .rest .own .ports
+unfolding performed restAfter
+performed-ports ports lent m (FrameIn port id bytes) = acted-ports (m .rest) port (consumes (m .rest .own) id) (frameOf id bytes)
+performed-ports ports lent m (TakeOut port) = refl
+performed-ports ports lent m (Message port requester payload lentReply) = refl
+performed-ports ports lent m Start = started-ports (m .rest)
+performed-ports ports lent m Quiet = refl
+performed-ports ports lent m ReadUnit = refl
+
+module _ {ports : ℕ} {words : List ℕ} {k : Call} where
+  pub call-refused : (refusal ports (length words) (modelOf ports words .rest) k ≡ 0 → ⊥) → Calling ports words words k
   unfolding next
   call-refused h = record {
     long = refl;
-    state = rw (ne-eqb (refusal 4 (length words) (modelOf 4 words .rest) k) 0 h);
+    state = rw (ne-eqb (refusal ports (length words) (modelOf ports words .rest) k) 0 h);
+    count = refl;
     refused = λ _. refl;
   }
 
-  pub call-done : {after : List ℕ} → refusal 4 (length words) (modelOf 4 words .rest) k ≡ 0 → length after ≡ length words → modelOf 4 after ≡ performed 4 (length words) (modelOf 4 words) k → Calling 4 words after k
+  pub call-done : {after : List ℕ} → refusal ports (length words) (modelOf ports words .rest) k ≡ 0 → length after ≡ length words → modelOf ports after ≡ performed ports (length words) (modelOf ports words) k → Calling ports words after k
   unfolding next
-  call-done done long state = record {
+  call-done {after} done long state = record {
     long = long;
-    state = rw (eq-eqb (refusal 4 (length words) (modelOf 4 words .rest) k) 0 done) state;
+    state = rw (eq-eqb (refusal ports (length words) (modelOf ports words .rest) k) 0 done) state;
+    count = sym (own-ports ports after) ∙ ap (λ (m : Model). m .rest .own .ports) state ∙ performed-ports ports (length words) (modelOf ports words) k ∙ own-ports ports words;
     refused = λ h. absurd (h done);
   }
 
 -- ---- take
-module _ {words : List ℕ} {port n : ℕ} (e : n ≡ takeRefusal 4 (length words) port) where
-  pub take-refused : (n ≡ 0 → ⊥) → TakingOut 4 words words port (TakeAnswer.Refused n)
+module _ {ports : ℕ} {words : List ℕ} {port n : ℕ} (e : n ≡ takeRefusal ports (length words) port) where
+  pub take-refused : (n ≡ 0 → ⊥) → TakingOut ports words words port (TakeAnswer.Refused n)
   unfolding takeAnswer refusal
   take-refused h = record {
     call = call-refused (λ z. h (e ∙ z));
@@ -51,71 +65,71 @@ module _ {words : List ℕ} {port n : ℕ} (e : n ≡ takeRefusal 4 (length word
     behind = refl;
   }
 
-  pub taken : {after : List ℕ} {r : Taken} → length after ≡ length words → n ≡ 0 → RowTaking 4 words after (port - 1) r → TakingOut 4 words after port (TakeAnswer.Took r)
+  pub taken : {after : List ℕ} {r : Taken} → length after ≡ length words → n ≡ 0 → RowTaking ports words after (port - 1) r → TakingOut ports words after port (TakeAnswer.Took r)
   unfolding takeAnswer refusal performed restAfter asks sends
   taken long z T =
-      let goes = take-goes (length words) port (sym e ∙ z) in
+      let goes = take-goes ports (length words) port (sym e ∙ z) in
       record {
         call =
             call-done (sym e ∙ z) long
             (T .state
-            ∙ ap (λ rows. record { rest = modelOf 4 words .rest; rows = rows; seen = modelOf 4 words .seen })
-            (sym (each-one (λ row. kept (pull priority row)) (port - 1) 4 (modelOf 4 words .rows) [] (omega (arith, goes .1, goes .2)) (omega (arith, goes .1, goes .2, rows-four words)))));
+            ∙ ap (λ rows. record { rest = modelOf ports words .rest; rows = rows; seen = modelOf ports words .seen })
+            (sym (each-one (λ row. kept (pull priority row)) (port - 1) ports (modelOf ports words .rows) [] (omega (arith, goes .1, goes .2)) (omega (arith, goes .1, goes .2, rows-long ports words)))));
         answer = rw (← e, eq-eqb n 0 z) (ap TakeAnswer.Took (T .answer));
         ahead = T .ahead;
         behind = T .behind;
       }
 
 -- ---- Quiet
-module _ {words : List ℕ} where
-  pub quiet-short : (length words ≡ recordLength 4 → ⊥) → Quieting 4 words words 2
+module _ {ports : ℕ} {words : List ℕ} where
+  pub quiet-short : (length words ≡ recordLength ports → ⊥) → Quieting ports words words 2
   unfolding quietRefusal refusal
   quiet-short h =
-      let e : 2 ≡ quietRefusal 4 (length words) (modelOf 4 words .rest .own) = rw (ne-eqb (length words) (recordLength 4) h) in
+      let e : 2 ≡ quietRefusal ports (length words) (modelOf ports words .rest .own) = rw (ne-eqb (length words) (recordLength ports) h) in
       record { call = call-refused (λ z. two-h (e ∙ z)); answer = e }
     where
       two-h : _≡_ {A = ℕ} 2 0 → ⊥
       two-h z = omega arith
 
-  module _ (full : length words ≡ recordLength 4) where
-    pub quiet-wrong : isClaiming (modelOf 4 words .rest .own .claim) ≡ false → Quieting 4 words words 18
+  module _ (full : length words ≡ recordLength ports) where
+    pub quiet-wrong : isClaiming (modelOf ports words .rest .own .claim) ≡ false → Quieting ports words words 18
     unfolding quietRefusal refusal
     quiet-wrong f =
-        let e : 18 ≡ quietRefusal 4 (length words) (modelOf 4 words .rest .own) = rw (eq-eqb (length words) (recordLength 4) full, f) in
+        let e : 18 ≡ quietRefusal ports (length words) (modelOf ports words .rest .own) = rw (eq-eqb (length words) (recordLength ports) full, f) in
         record { call = call-refused (λ z. h (e ∙ z)); answer = e }
       where
         h : _≡_ {A = ℕ} 18 0 → ⊥
         h z = omega arith
 
-    pub quieted : {after : List ℕ} {u : Unit} → isClaiming (modelOf 4 words .rest .own .claim) ≡ true → length after ≡ length words
-        → u ≡ moved (modelOf 4 words .rest .own) Claimed (modelOf 4 words .rest .own .address)
-        → modelOf 4 after ≡ withRest (modelOf 4 words) (withOwn (modelOf 4 words .rest) u) → Quieting 4 words after 0
+    pub quieted : {after : List ℕ} {u : Unit} → isClaiming (modelOf ports words .rest .own .claim) ≡ true → length after ≡ length words
+        → u ≡ moved (modelOf ports words .rest .own) Claimed (modelOf ports words .rest .own .address)
+        → modelOf ports after ≡ withRest (modelOf ports words) (withOwn (modelOf ports words .rest) u) → Quieting ports words after 0
     unfolding quietRefusal refusal performed restAfter asks sends
     quieted t long u state =
-        let e : 0 ≡ quietRefusal 4 (length words) (modelOf 4 words .rest .own) = rw (eq-eqb (length words) (recordLength 4) full, t) in
+        let e : 0 ≡ quietRefusal ports (length words) (modelOf ports words .rest .own) = rw (eq-eqb (length words) (recordLength ports) full, t) in
         record {
           call =
               call-done (sym e) long
-              (state ∙ rw (u, each-none 4 (modelOf 4 words .rows)));
+              (state ∙ rw (u, each-none ports (modelOf ports words .rows)));
           answer = e;
         }
 
 -- ---- the unit is read
-module _ {words : List ℕ} where
-  pub unit-short : (length words ≡ recordLength 4 → ⊥) → Reading 4 words (UnitAnswer.Refused 2)
-  unfolding unitRefusal unitAnswer refusal
+module _ {ports : ℕ} {words : List ℕ} where
+  pub unit-short : (length words ≡ recordLength ports → ⊥) → Reading ports words (UnitAnswer.Refused 2)
+  unfolding lengthRefusal unitAnswer refusal
   unit-short h =
-      let e : 2 ≡ unitRefusal 4 (length words) = rw (ne-eqb (length words) (recordLength 4) h) in
-      record { call = call-refused (λ z. two (e ∙ z)); answer = rw (ne-eqb (length words) (recordLength 4) h) }
+      let e : 2 ≡ lengthRefusal ports (length words) = rw (ne-eqb (length words) (recordLength ports) h) in
+      record { call = call-refused (λ z. two (e ∙ z)); answer = rw (ne-eqb (length words) (recordLength ports) h) }
     where
       two : _≡_ {A = ℕ} 2 0 → ⊥
       two z = omega arith
 
-  pub unit-read : {own : Unit} → length words ≡ recordLength 4 → own ≡ modelOf 4 words .rest .own → Reading 4 words (UnitAnswer.Told own 4)
-  unfolding unitRefusal unitAnswer refusal performed restAfter asks sends
+  pub unit-read : {own : Unit} → length words ≡ recordLength ports → own ≡ modelOf ports words .rest .own → Reading ports words (UnitAnswer.Told own)
+  unfolding lengthRefusal unitAnswer refusal performed restAfter asks sends
   unit-read full o =
-      let e : 0 ≡ unitRefusal 4 (length words) = rw (eq-eqb (length words) (recordLength 4) full) in
+      let e : 0 ≡ lengthRefusal ports (length words) = rw (eq-eqb (length words) (recordLength ports) full) in
       record {
-        call = call-done (sym e) refl (rw (each-none 4 (modelOf 4 words .rows)));
-        answer = rw (eq-eqb (length words) (recordLength 4) full, o);
+        call = call-done (sym e) refl (rw (each-none ports (modelOf ports words .rows)));
+        answer = rw (eq-eqb (length words) (recordLength ports) full, o);
       }

@@ -20,6 +20,7 @@ use Rattle.address_claims.specs.declared.Event.{Event}
 use Rattle.network_message.specs.Decoding.{decoded}
 use Rattle.unit.specs.declared.Claim.the-variants.{Unstarted, Claimed}
 use Rattle.unit.specs.Ports.{each, mask, total}
+use Rattle.unit.specs.Count.{portsOf}
 use Rattle.unit.specs.Model.{Rest, Model, rowAt, withOwn, withPairs, rowsFrom, modelOf}
 use Rattle.unit.specs.Own.{consumes, moved, framesSent}
 use Rattle.forwarding.specs.Forwarding.{sentIf, accepts, loses, losesOwn, silent, verdict}
@@ -27,7 +28,7 @@ use Rattle.claims.specs.Claims.{Acted, frameActed, started}
 pub use Rattle.claims.specs.Claims.{frameOf}
 use Rattle.message_answers.specs.declared.MessageAnswer.{MessageAnswer}
 use Rattle.message_answers.specs.Messages.{Replied, messageAnswer, performedBy, Untouched}
-use Rattle.refusals.specs.Refusals.{frameRefusal, takeRefusal, startRefusal, quietRefusal, unitRefusal, messageRefusal}
+use Rattle.refusals.specs.Refusals.{frameRefusal, takeRefusal, startRefusal, quietRefusal, lengthRefusal, messageRefusal}
 use Rattle.bridge.specs.declared.FrameAnswer.{FrameAnswer}
 use Rattle.bridge.specs.declared.TakeAnswer.{TakeAnswer}
 use Rattle.bridge.specs.declared.StartAnswer.{StartAnswer}
@@ -66,7 +67,7 @@ refusal ports lent rest (TakeOut port) = takeRefusal ports lent port
 refusal ports lent rest (Message port requester payload lentReply) = messaged ports lent lentReply rest port requester payload .number
 refusal ports lent rest Start = startRefusal ports lent (rest .own)
 refusal ports lent rest Quiet = quietRefusal ports lent (rest .own)
-refusal ports lent rest ReadUnit = unitRefusal ports lent
+refusal ports lent rest ReadUnit = lengthRefusal ports lent
 
 -- a frame that came in is acted on where it is a claim or a request
 abbrev pub frameDone : Rest → ℕ → Frame → Acted
@@ -174,16 +175,22 @@ startAnswer ports lent m =
     (record { refusal = 0; unsent = mask (λ q. losesOwn (started (m .rest) .sent) (rowAt m q)) ports; claim = started (m .rest) .rest .own .claim })
     (startRefused (startRefusal ports lent (m .rest .own)))
 
--- the unit, and how many ports it has
+-- the unit, its number of ports among the rest
 unfoldable pub unitAnswer : ℕ → ℕ → Model → UnitAnswer
 unitAnswer ports lent m =
-    cond (eqb (unitRefusal ports lent) 0) (UnitAnswer.Told (m .rest .own) ports) (UnitAnswer.Refused (unitRefusal ports lent))
+    cond (eqb (lengthRefusal ports lent) 0) (UnitAnswer.Told (m .rest .own)) (UnitAnswer.Refused (lengthRefusal ports lent))
+
+-- the number that refused it, 0 for none
+abbrev pub readNumber : UnitAnswer → ℕ
+readNumber (UnitAnswer.Refused number) = number
+readNumber (UnitAnswer.Told own) = 0
 
 -- ---- the contracts
 -- a call k on the record
 pub record Calling (ports : ℕ) (before after : List ℕ) (k : Call) : Type 0 where
   pub long : length after ≡ length before
   pub state : modelOf ports after ≡ next ports (length before) (modelOf ports before) k
+  pub count : portsOf after ≡ portsOf before
   -- every word, those too that no rule reads
   pub refused : (refusal ports (length before) (modelOf ports before .rest) k ≡ 0 → ⊥) → after ≡ before
 
@@ -192,15 +199,15 @@ pub record Framing (ports : ℕ) (before after : List ℕ) (port id : ℕ) (byte
   pub answer : r ≡ frameAnswer ports (length before) (modelOf ports before) port id bytes
 
 -- where the queue of a port begins in the record
-abbrev pub queueAt : ℕ → ℕ → ℕ
-queueAt ports port = rowsFrom ports + queueLength * (port - 1)
+abbrev pub queueAt : ℕ → ℕ
+queueAt port = rowsFrom + queueLength * (port - 1)
 
 -- "A take changes that port's queue only": every word before it and behind it is as it was
 pub record TakingOut (ports : ℕ) (before after : List ℕ) (port : ℕ) (r : TakeAnswer) : Type 0 where
   pub call : Calling ports before after (TakeOut port)
   pub answer : r ≡ takeAnswer ports (length before) (modelOf ports before) port
-  pub ahead : take (queueAt ports port) after ≡ take (queueAt ports port) before
-  pub behind : drop (queueAt ports port + queueLength) after ≡ drop (queueAt ports port + queueLength) before
+  pub ahead : take (queueAt port) after ≡ take (queueAt port) before
+  pub behind : drop (queueAt port + queueLength) after ≡ drop (queueAt port + queueLength) before
 
 pub record Messaging (ports : ℕ) (before after : List ℕ) (port requester : ℕ) (payload lent back : List ℕ) (r : MessageAnswer) : Type 0 where
   pub call : Calling ports before after (Message port requester payload (length lent))

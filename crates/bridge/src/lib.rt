@@ -1,4 +1,4 @@
-// The unit: a bridge of four ports on one record that the caller lends. No function requires anything of its caller: what is wrong is refused by a
+// The unit: a bridge of two to eight ports on one record that the caller lends. No function requires anything of its caller: what is wrong is refused by a
 // number, and a refusal changes nothing.
 use address_claims::Event;
 use forwarding::Share;
@@ -8,10 +8,11 @@ use queue::Taken;
 use unit::Claim;
 pub use unit::Unit;
 ghost use mathlib.Core.Path.{_≡_};
-ghost use Prim.Native.Nat.{_≤_, _<_};
+ghost use Prim.Native.Nat.{ℕ, _≤_, _<_};
 ghost use lib.ListN.{length};
 ghost use Rattle.identifier.specs.Identifier.{saOf};
-ghost use Rattle.unit.specs.Model.{modelOf, recordLength};
+ghost use Rattle.unit.specs.Count.{portsOf};
+ghost use Rattle.unit.specs.Model.{modelOf, ownLength, recordLength};
 ghost use Rattle.unit.specs.Own.{consumes};
 ghost use Rattle.claims.specs.Claims.{frameActed};
 ghost use Rattle.bridge.specs.Calls.{frameRefused, startRefused, Framing, TakingOut, Messaging, Starting, Quieting, Reading};
@@ -42,10 +43,10 @@ pub struct StartAnswer {
     pub claim: Claim,
 }
 
-// The unit as it is, and how many ports it has, or the number that refused the call.
+// The unit as it is, or the number that refused the call.
 pub enum UnitAnswer {
     Refused(u32),
-    Told { unit: Unit, ports: u32 },
+    Told(Unit),
 }
 
 // The claim event, and the ports where the unit's own frame was lost.
@@ -55,21 +56,21 @@ struct Response {
 }
 
 // A claim or request is acted on, and what the unit sends joins every queue.
-fn respond(words: &mut [u64], port: u64, consumed: bool, f: Frame) -> Response
-    requires { ⌜ (length (now words) ≡ recordLength 4) × (saOf (f .id) < 255) ⌝ }
-    ensures { λ r. ⌜ Responding 4 (now (words .entry)) (now (words .exit)) (frameActed (modelOf 4 (now (words .entry)) .rest) port consumed f) r ⌝ }
+fn respond(words: &mut [u64], ports: u32, port: u64, consumed: bool, f: Frame) -> Response
+    requires { ⌜ (ports ≤ 8) × (length (now words) ≡ recordLength ports) × (saOf (f .id) < 255) ⌝ }
+    ensures { λ r. ⌜ Responding ports (now (words .entry)) (now (words .exit)) (frameActed (modelOf ports (now (words .entry)) .rest) port consumed f) r ⌝ }
 {
     let a = claims::act(words, port, consumed, f);
     let event = a.event;
     let sent = a.sent;
-    let unsent = forwarding::announce(words, sent);
+    let unsent = forwarding::announce(words, ports as usize, sent);
     Response { event, unsent }
 }
 
 // Whether a frame is for the unit (rule 1). The unit is read only where the frame has a destination.
 fn is_for_unit(words: &[u64], id: u32) -> bool
-    requires { ⌜ length (now words) ≡ recordLength 4 ⌝ }
-    ensures { λ r. ⌜ r ≡ consumes (modelOf 4 (now (words .entry)) .rest .own) id ⌝ }
+    requires { ⌜ ownLength ≤ length (now words) ⌝ }
+    ensures { λ r. ⌜ ((ports : ℕ) → r ≡ consumes (modelOf ports (now (words .entry)) .rest .own) id) ⌝ }
 {
     if identifier::has_destination(id) {
         let unit = unit::read_unit(words);
@@ -79,9 +80,9 @@ fn is_for_unit(words: &[u64], id: u32) -> bool
 }
 
 // A frame for others is forwarded, one for the unit is not.
-fn share(words: &mut [u64], port: u32, consumed: bool, f: Frame) -> Share
-    requires { ⌜ (length (now words) ≡ recordLength 4) × (1 ≤ port) × (port ≤ 4) ⌝ }
-    ensures { λ r. ⌜ Sharing 4 (now (words .entry)) (now (words .exit)) port consumed f r ⌝ }
+fn share(words: &mut [u64], ports: u32, port: u32, consumed: bool, f: Frame) -> Share
+    requires { ⌜ (ports ≤ 8) × (length (now words) ≡ recordLength ports) × (1 ≤ port) × (port ≤ ports) ⌝ }
+    ensures { λ r. ⌜ Sharing ports (now (words .entry)) (now (words .exit)) port consumed f r ⌝ }
 {
     if consumed {
         return Share {
@@ -91,17 +92,17 @@ fn share(words: &mut [u64], port: u32, consumed: bool, f: Frame) -> Share
         };
     }
     let from = port as usize - 1;
-    forwarding::forward(words, from, identifier::pgn(f.id), f)
+    forwarding::forward(words, ports as usize, from, identifier::pgn(f.id), f)
 }
 
 // A frame that is not refused. It is acted on in one place, so that its fields stay in registers.
-fn pass(words: &mut [u64], port: u32, f: Frame) -> FrameAnswer
-    requires { ⌜ (length (now words) ≡ recordLength 4) × (1 ≤ port) × (port ≤ 4) × (saOf (f .id) < 255) ⌝ }
-    ensures { λ r. ⌜ Passing 4 (now (words .entry)) (now (words .exit)) port f r ⌝ }
+fn pass(words: &mut [u64], ports: u32, port: u32, f: Frame) -> FrameAnswer
+    requires { ⌜ (ports ≤ 8) × (length (now words) ≡ recordLength ports) × (1 ≤ port) × (port ≤ ports) × (saOf (f .id) < 255) ⌝ }
+    ensures { λ r. ⌜ Passing ports (now (words .entry)) (now (words .exit)) port f r ⌝ }
 {
     let consumed = is_for_unit(words, f.id);
-    let s = share(words, port, consumed, f);
-    let r = respond(words, port as u64, consumed, f);
+    let s = share(words, ports, port, consumed, f);
+    let r = respond(words, ports, port as u64, consumed, f);
     let event = r.event;
     FrameAnswer {
         refusal: 0,
@@ -131,10 +132,11 @@ fn refused(number: u32) -> FrameAnswer
 
 // A frame arrived at a port.
 pub fn frame(words: &mut [u64], port: u32, id: u32, bytes: &[u8]) -> FrameAnswer
-    ensures { λ r. ⌜ Framing 4 (now (words .entry)) (now (words .exit)) port id (now (bytes .entry)) r ⌝ }
+    ensures { λ r. ⌜ Framing (portsOf (now (words .entry))) (now (words .entry)) (now (words .exit)) port id (now (bytes .entry)) r ⌝ }
 {
+    let ports = unit::ports_of(words);
     let len = bytes.len();
-    let number = refusals::frame_refusal(words.len(), port, id, len);
+    let number = refusals::frame_refusal(ports, words.len(), port, id, len);
     if number != 0 {
         return refused(number);
     }
@@ -144,14 +146,15 @@ pub fn frame(words: &mut [u64], port: u32, id: u32, bytes: &[u8]) -> FrameAnswer
         len: len as u32,
         bytes: word,
     };
-    pass(words, port, f)
+    pass(words, ports, port, f)
 }
 
 // A port is ready to send its next frame.
 pub fn take(words: &mut [u64], port: u32) -> TakeAnswer
-    ensures { λ r. ⌜ TakingOut 4 (now (words .entry)) (now (words .exit)) port r ⌝ }
+    ensures { λ r. ⌜ TakingOut (portsOf (now (words .entry))) (now (words .entry)) (now (words .exit)) port r ⌝ }
 {
-    let number = refusals::take_refusal(words.len(), port);
+    let ports = unit::ports_of(words);
+    let number = refusals::take_refusal(ports, words.len(), port);
     if number != 0 {
         return TakeAnswer::Refused(number);
     }
@@ -173,9 +176,10 @@ fn start_refused(number: u32) -> StartAnswer
 
 // The unit claims its preferred address.
 pub fn start(words: &mut [u64]) -> StartAnswer
-    ensures { λ r. ⌜ Starting 4 (now (words .entry)) (now (words .exit)) r ⌝ }
+    ensures { λ r. ⌜ Starting (portsOf (now (words .entry))) (now (words .entry)) (now (words .exit)) r ⌝ }
 {
-    if words.len() != Unit::RECORD_LENGTH {
+    let ports = unit::ports_of(words);
+    if words.len() != Unit::record_length(ports as usize) {
         return start_refused(2);
     }
     let unit = unit::read_unit(words);
@@ -185,7 +189,7 @@ pub fn start(words: &mut [u64]) -> StartAnswer
     }
     let a = claims::start(words);
     let sent = a.sent;
-    let unsent = forwarding::announce(words, sent);
+    let unsent = forwarding::announce(words, ports as usize, sent);
     let after = unit::read_unit(words);
     let claim = after.claim;
     StartAnswer {
@@ -197,9 +201,10 @@ pub fn start(words: &mut [u64]) -> StartAnswer
 
 // The 250 ms after the unit's claim are over.
 pub fn quiet(words: &mut [u64]) -> u32
-    ensures { λ r. ⌜ Quieting 4 (now (words .entry)) (now (words .exit)) r ⌝ }
+    ensures { λ r. ⌜ Quieting (portsOf (now (words .entry))) (now (words .entry)) (now (words .exit)) r ⌝ }
 {
-    if words.len() != Unit::RECORD_LENGTH {
+    let ports = unit::ports_of(words);
+    if words.len() != Unit::record_length(ports as usize) {
         return 2;
     }
     let unit = unit::read_unit(words);
@@ -212,18 +217,15 @@ pub fn quiet(words: &mut [u64]) -> u32
     18
 }
 
-// The unit is read: its claim state, its addresses, its NAME, and how many ports it has.
+// The unit is read: its claim state, its addresses, its NAME, its number of ports.
 pub fn unit(words: &[u64]) -> UnitAnswer
-    ensures { λ r. ⌜ Reading 4 (now (words .entry)) r ⌝ }
+    ensures { λ r. ⌜ Reading (portsOf (now (words .entry))) (now (words .entry)) r ⌝ }
 {
-    if words.len() != Unit::RECORD_LENGTH {
+    let ports = unit::ports_of(words);
+    if words.len() != Unit::record_length(ports as usize) {
         return UnitAnswer::Refused(2);
     }
-    let unit = unit::read_unit(words);
-    UnitAnswer::Told {
-        unit,
-        ports: Unit::PORTS as u32,
-    }
+    UnitAnswer::Told(unit::read_unit(words))
 }
 
 // A network message to the unit, handed in whole, with a buffer for what is to be sent back.
@@ -234,9 +236,17 @@ pub fn message(
     payload: &[u8],
     reply: &mut [u8],
 ) -> MessageAnswer
-    ensures { λ r. ⌜ Messaging 4 (now (words .entry)) (now (words .exit)) port requester (now (payload .entry)) (now (reply .entry)) (now (reply .exit)) r ⌝ }
+    ensures { λ r. ⌜ Messaging (portsOf (now (words .entry))) (now (words .entry)) (now (words .exit)) port requester (now (payload .entry)) (now (reply .entry)) (now (reply .exit)) r ⌝ }
 {
-    let number = refusals::message_refusal(words, port, requester, payload.len(), reply.len());
+    let ports = unit::ports_of(words);
+    let number = refusals::message_refusal(
+        words,
+        ports,
+        port,
+        requester,
+        payload.len(),
+        reply.len(),
+    );
     if number != 0 {
         return MessageAnswer {
             refusal: number,
@@ -244,6 +254,6 @@ pub fn message(
             length: 0,
         };
     }
-    let command = network_message::decode(port, payload);
-    message_answers::perform(words, requester, payload, command, reply)
+    let command = network_message::decode(ports, port, payload);
+    message_answers::perform(words, ports as usize, requester, payload, command, reply)
 }

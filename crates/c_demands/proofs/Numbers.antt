@@ -10,15 +10,15 @@ use lib.ListN.{length, drop}
 use Rattle.checks.specs.Checks.{first}
 use Rattle.checks.specs.Ports.{noPort}
 use Rattle.network_message.specs.Decoding.{longest}
+use Rattle.unit.specs.Count.{portsOf}
 use Rattle.unit.specs.Model.{modelOf}
 use Rattle.unit.specs.PowerOn.{notLong}
 use Rattle.refusals.specs.Refusals.{quietRefusal}
 use Rattle.bridge.specs.Calls.{messaged, refusal}
 use Rattle.deorasaeng.specs.Interface.{lentRefusal, messageLength, frameNumber, takeNumber, startNumber, unitNumber, queueNumber, FrameCall, TakeCall, MessageCall, StartCall, UnitCall}
 use Rattle.deorasaeng.proofs.Numbers.{silent, replied-as}
-use Rattle.demand_1.specs.Demand1.{Exact, messageNumbers}
+use Rattle.demand_1.specs.Demand1.{Exact, messageNumbers, restOf}
 use Rattle.demand_1.proofs.Numbers.{exact, message-number}
-use Rattle.demand_2.specs.Demand2.{restOf}
 use Rattle.c_demands.specs.Exported.{arrived, handed, started, quieted, toldUnit, tookQueue, blockOf, withBlock}
 use Rattle.c_demands.specs.Exported.{took as tookOut}
 use Rattle.c_demands.specs.CDemands.{Exported, CFrame, CTake, CMessage, CStart, CQuiet, CUnit, CTakeQueue, Gave, Made, frame-made, take-made, message-made, start-made, quiet-made, unit-made, queue-made, numbers}
@@ -33,18 +33,18 @@ or-true : (a : Bool) → a || true ≡ true
 or-true true = refl
 or-true false = refl
 
-message-first : {w w′ payload reply back answer told : List ℕ} {port requester r : ℕ} → MessageCall 4 w w′ port requester payload reply back answer told r
+message-first : {w w′ payload reply back answer told : List ℕ} {port requester r : ℕ} → MessageCall (portsOf w) w w′ port requester payload reply back answer told r
     → r ≡ first (numbers w (CMessage port requester payload reply answer))
 unfolding lentRefusal
 message-first {w} {w′} {payload} {reply} {back} {answer} {told} {port} {requester} {r} M =
     elim (ℕ-discrete (length answer) messageLength) [
       | yes e ↦
           M .number
-          ∙ rw (replied-as (length w) (length answer) port (length reply) (modelOf 4 w .rest) requester payload e, eq-eqb (length answer) messageLength e, or-false (notLong 4 (length w) || ltb (length reply) longest))
-          (message-number (modelOf 4 w .rest) requester payload (length w) (length reply) port)
+          ∙ rw (replied-as (portsOf w) (length w) (length answer) port (length reply) (modelOf (portsOf w) w .rest) requester payload e, eq-eqb (length answer) messageLength e, or-false (notLong (portsOf w) (length w) || ltb (length reply) longest))
+          (message-number (portsOf w) (modelOf (portsOf w) w .rest) requester payload (length w) (length reply) port)
       | no h ↦
           M .number
-          ∙ rw (silent (length w) (length answer) port (length reply) (modelOf 4 w .rest) requester payload h, ne-eqb (length answer) messageLength h, or-true (notLong 4 (length w) || ltb (length reply) longest))
+          ∙ rw (silent (portsOf w) (length w) (length answer) port (length reply) (modelOf (portsOf w) w .rest) requester payload h, ne-eqb (length answer) messageLength h, or-true (notLong (portsOf w) (length w) || ltb (length reply) longest))
     ]
 
 pub exact-number : {w w′ : List ℕ} {c : Exported} {g : Gave} → Made w c g w′ → Exact (numbers w c) (g .number) × ((g .number ≡ 0 → ⊥) → w′ ≡ w)

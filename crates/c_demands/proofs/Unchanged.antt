@@ -23,7 +23,7 @@ use Rattle.unit.specs.Model.{Rest}
 use Rattle.unit.specs.PowerOn.{fresh}
 use Rattle.refusals.specs.Refusals.{frameRefusal, takeRefusal}
 use Rattle.refusals.proofs.Checks.{take-goes, frame-goes}
-use Rattle.demand_3.specs.Demand3.{Answer, ToTake, ports, words, next, answer, goes, forwards, announces, sends, bridge, bytesIn, modelAfter, Demand3}
+use Rattle.demand_3.specs.Demand3.{Answer, ToTake, words, next, answer, goes, forwards, announces, sends, bridge, bytesIn, modelAfter, Demand3}
 use Rattle.demand_3.specs.Demand3 as demand-3
 use Rattle.demand_3.proofs.AtPort.{Fine, lawful, powered-on}
 use Rattle.demand_3.proofs.Unchanged.{unchanged, named-so}
@@ -45,17 +45,17 @@ unfolding bytesOfFrame
 written-as f bytes l h b = rw (l, first-bytes (length bytes) 8 (f .bytes) h, b)
 
 -- ---- a frame that was sent is not refused, so it has at most eight bytes
-sent-goes : (rest : Rest) (k : Call) (q : ℕ) (f : Frame) → List·Memᴰ f (sends rest k q) → goes rest k ≡ true
+sent-goes : (ports : ℕ) (rest : Rest) (k : Call) (q : ℕ) (f : Frame) → List·Memᴰ f (sends ports rest k q) → goes ports rest k ≡ true
 unfolding forwards announces
-sent-goes rest k q f m = go (goes rest k) refl m
+sent-goes ports rest k q f m = go (goes ports rest k) refl m
   where
-    go : (b : Bool) → goes rest k ≡ b → List·Memᴰ f (cond b (demand-3.forwarded rest k q) [] ++ cond b (demand-3.announced rest k) []) → goes rest k ≡ true
+    go : (b : Bool) → goes ports rest k ≡ b → List·Memᴰ f (cond b (demand-3.forwarded ports rest k q) [] ++ cond b (demand-3.announced ports rest k) []) → goes ports rest k ≡ true
     go true e m = e
     go false e m = absurd (List·Memᴰ·not-nil m)
 
-short : (rest : Rest) (port id : ℕ) (bytes : List ℕ) → goes rest (FrameIn port id bytes) ≡ true → length bytes ≤ 8
+short : (ports : ℕ) (rest : Rest) (port id : ℕ) (bytes : List ℕ) → goes ports rest (FrameIn port id bytes) ≡ true → length bytes ≤ 8
 unfolding refusal
-short rest port id bytes e = frame-goes words port id (length bytes) (eqb-true (frameRefusal ports words port id (length bytes)) 0 e) .3
+short ports rest port id bytes e = frame-goes ports (words ports) port id (length bytes) (eqb-true (frameRefusal ports (words ports) port id (length bytes)) 0 e) .3
 
 -- ---- a place in the list of exported calls
 heads : {A : Type 0} {x y : A} {xs ys : List A} → x ∷ xs ≡ y ∷ ys → x ≡ y
@@ -112,9 +112,9 @@ at-more k′ x′ A = record {
   place = ap suc (A .place);
 }
 
-find : {cs : List Exported} {gs : List Given-back} {ks : List Call} {xs : List Answer} → Same cs gs ks xs
+find : {ports : ℕ} {cs : List Exported} {gs : List Given-back} {ks : List Call} {xs : List Answer} → Same ports cs gs ks xs
     → (before later : List Exported) (c : Exported) (gsBefore gsLater : List Given-back) (g : Given-back)
-    → cs ≡ before ++ c ∷ later → gs ≡ gsBefore ++ g ∷ gsLater → length gsBefore ≡ length before → (g ≡ refusedLent c → ⊥) → At ks xs before c g
+    → cs ≡ before ++ c ∷ later → gs ≡ gsBefore ++ g ∷ gsLater → length gsBefore ≡ length before → (g ≡ refusedLent ports c → ⊥) → At ks xs before c g
 find claim.none [] later c gsBefore gsLater g e e′ l n = let z : _≡_ {A = ℕ} 0 1 = cc in absurd (omega arith)
 find claim.none (b ∷ before) later c gsBefore gsLater g e e′ l n = let z : _≡_ {A = ℕ} 0 1 = cc in absurd (omega arith)
 find (claim.called {x = x} {ks = ks} {xs = xs} y t s) [] later c [] gsLater g e e′ l n =
@@ -138,7 +138,7 @@ find (claim.called {c = c′} {x = x} y t s) (b ∷ before) later c (h ∷ gsBef
       tells = A .tells;
       frames = frames-more c′ b (heads e) (A .frames);
     }
-find (claim.passed {c = c′} y t s) [] later c [] gsLater g e e′ l n = absurd (n (sym (heads e′) ∙ t ∙ ap refusedLent (heads e)))
+find {ports = ports} (claim.passed {c = c′} y t s) [] later c [] gsLater g e e′ l n = absurd (n (sym (heads e′) ∙ t ∙ ap (refusedLent ports) (heads e)))
 find (claim.passed y t s) [] later c (h ∷ gsBefore) gsLater g e e′ l n = absurd (omega arith)
 find (claim.passed y t s) (b ∷ before) later c [] gsLater g e e′ l n = absurd (omega arith)
 find (claim.passed y t s) (b ∷ before) later c (h ∷ gsBefore) gsLater g e e′ l n =
@@ -172,13 +172,13 @@ told-by by-port (of-refused-take number n e) = absurd (n (sym (ap (λ (g : Given
 told-by by-queue (of-queue (Given f) e) = let t = told-of f e in record { port = _; f = f; call = refl; is = refl; same-id = t .0; same-len = t .1; same-bytes = t .2 }
 told-by by-queue (of-queue Nothing e) = absurd (not-told e)
 
-not-refused : {c : Exported} {told written : List ℕ} → Takes c → gave 0 told written ≡ refusedLent c → ⊥
-not-refused (by-port {port = port}) e = nonzero (noPort 4 port) (ap (λ (g : Given-back). g .number) e)
+not-refused : (ports : ℕ) {c : Exported} {told written : List ℕ} → Takes c → gave 0 told written ≡ refusedLent ports c → ⊥
+not-refused ports (by-port {port = port}) e = nonzero (noPort ports port) (ap (λ (g : Given-back). g .number) e)
   where
     nonzero : (b : Bool) → _≡_ {A = ℕ} 0 (cond b 1 2) → ⊥
     nonzero true z = omega arith
     nonzero false z = omega arith
-not-refused by-queue e = let z : _≡_ {A = ℕ} 0 2 = ap (λ (g : Given-back). g .number) e in omega arith
+not-refused ports by-queue e = let z : _≡_ {A = ℕ} 0 2 = ap (λ (g : Given-back). g .number) e in omega arith
 
 given-same : (f g : Frame) → ToTake (Took (Given f)) ≡ ToTake (Took (Given g)) → f ≡ g
 given-same f g e = cc
@@ -203,10 +203,10 @@ handed-as : {name : ℕ} {before : List Exported} (f : Frame) (port id : ℕ) (b
     → f .len ≡ length bytes → bytesOf (length bytes) (f .bytes) ≡ bytes → AsHandedIn name before (f .id) (f .len) (bytesOfFrame f)
 handed-as f port id bytes answer is m few l b = claim.handed port bytes answer (rw is m) few l (written-as f bytes l few b)
 
-module _ (name preferred : ℕ) {before : List Exported} {js : List Call} (F : Frames js before) (bytes-in : Bytes before) where
-  came-from : (q : ℕ) → q < ports → (earlier : List (Event Frame)) (f : Frame) → Came bridge (fresh ports name preferred) q js earlier f
+module _ (ports name preferred : ℕ) {before : List Exported} {js : List Call} (F : Frames js before) (bytes-in : Bytes before) where
+  came-from : (q : ℕ) → q < ports → (earlier : List (Event Frame)) (f : Frame) → Came (bridge ports) (fresh ports name preferred) q js earlier f
       → AsHandedIn name before (f .id) (f .len) (bytesOfFrame f)
-  came-from q h earlier f C = go (unchanged name preferred (C .js) (C .k) q f (small-in (C .k) small) (C .sent))
+  came-from q h earlier f C = go (unchanged ports name preferred (C .js) (C .k) q f (small-in (C .k) small) (C .sent))
     where
       here : (port id : ℕ) (bytes : List ℕ) → C .k ≡ FrameIn port id bytes → (answer : List ℕ) × List·Memᴰ (CFrame port id bytes answer) before
       here port id bytes e = F port id bytes (rw (← e, C .calls) (mem-mid (C .js) (C .k) (C .later)))
@@ -214,36 +214,36 @@ module _ (name preferred : ℕ) {before : List Exported} {js : List Call} (F : F
       small : (port id : ℕ) (bytes : List ℕ) → C .k ≡ FrameIn port id bytes → (i : ℕ) → getD bytes i 0 < 256
       small port id bytes e i = let n = here port id bytes e in bytes-in port id bytes (n .0) (n .1) i
 
-      go : demand-3.AsHandedIn (modelAfter name preferred (C .js ++ (C .k ∷ [])) .rest .own) (C .k) f → AsHandedIn name before (f .id) (f .len) (bytesOfFrame f)
+      go : demand-3.AsHandedIn (modelAfter ports name preferred (C .js ++ (C .k ∷ [])) .rest .own) (C .k) f → AsHandedIn name before (f .id) (f .len) (bytesOfFrame f)
       go (demand-3.handed port id bytes e is l b) =
           let n = here port id bytes e in
-          let few = short (modelAfter name preferred (C .js) .rest) port id bytes (rw e at (sent-goes (modelAfter name preferred (C .js) .rest) (C .k) q f (C .sent))) in
+          let few = short ports (modelAfter ports name preferred (C .js) .rest) port id bytes (rw e at (sent-goes ports (modelAfter ports name preferred (C .js) .rest) (C .k) q f (C .sent))) in
           handed-as f port id bytes (n .0) is (n .1) few l b
       go (demand-3.ofUnit is l b) =
-          claim.ofUnit (modelAfter name preferred (C .js ++ (C .k ∷ [])) .rest .own .address) is l
-          (sym (whole-frame f (omega arith)) ∙ rw (b, named-so name preferred (C .js ++ (C .k ∷ []))))
+          claim.ofUnit (modelAfter ports name preferred (C .js ++ (C .k ∷ [])) .rest .own .address) is l
+          (sym (whole-frame f (omega arith)) ∙ rw (b, named-so ports name preferred (C .js ++ (C .k ∷ []))))
 
 -- ---- the whole
-module _ {name preferred : ℕ} {cs : List Exported} {gs : List Given-back} {ks : List Call} {xs : List Answer} {v : List ℕ} (S : Same cs gs ks xs) (D : Demand3 name preferred ks xs v) where
+module _ {ports name preferred : ℕ} {cs : List Exported} {gs : List Given-back} {ks : List Call} {xs : List Answer} {v : List ℕ} (S : Same ports cs gs ks xs) (D : Demand3 ports name preferred ks xs v) where
   given-frame : {js : List Call} {before : List Exported} {x : Answer} (f : Frame) (q : ℕ) → q < ports → Frames js before → Bytes before
       → Answered ks xs js (TakeOut (suc q)) x → x ≡ ToTake (Took (Given f)) → AsHandedIn name before (f .id) (f .len) (bytesOfFrame f)
   given-frame {js} {before} {x} f q h F B A is = go (D .obeys .gives q h js x A)
     where
-      book : Obeys bridge (fresh ports name preferred) js (answersOf next answer (fresh ports name preferred) js)
-      book = obeys bridge Fine lawful (fresh ports name preferred) (powered-on name preferred) js (answersOf next answer (fresh ports name preferred) js) refl
+      book : Obeys (bridge ports) (fresh ports name preferred) js (answersOf (next ports) (answer ports) (fresh ports name preferred) js)
+      book = obeys (bridge ports) (Fine ports) (lawful ports) (fresh ports name preferred) (powered-on ports name preferred) js (answersOf (next ports) (answer ports) (fresh ports name preferred) js) refl
 
-      go : Gave bridge (fresh ports name preferred) q js x → AsHandedIn name before (f .id) (f .len) (bytesOfFrame f)
+      go : Gave (bridge ports) (fresh ports name preferred) q js x → AsHandedIn name before (f .id) (f .len) (bytesOfFrame f)
       go (frameThatLeaves earlier since f′ L e) =
           let same : f′ ≡ f = given-same f′ f (sym e ∙ is) in
-          came-from name preferred F B q h earlier f (rw same at (book .came q h earlier f′ since (L .accepted)))
+          came-from ports name preferred F B q h earlier f (rw same at (book .came q h earlier f′ since (L .accepted)))
       go (nothingWaiting w e) = absurd (nothing-given f (sym e ∙ is))
 
   taken-frame : {js : List Call} {before : List Exported} (port : ℕ) (f : Frame) (k : Call) (x : Answer) → k ≡ TakeOut port → x ≡ ToTake (Took (Given f))
       → Answered ks xs js k x → Frames js before → Bytes before → AsHandedIn name before (f .id) (f .len) (bytesOfFrame f)
   unfolding refusal
   taken-frame {js} port f k x call is A F B =
-      let done : takeRefusal ports words port ≡ 0 = sym (rw (call, is) at (D .refuses js k x A)) in
-      let goes-in = take-goes words port done in
+      let done : takeRefusal ports (words ports) port ≡ 0 = sym (rw (call, is) at (D .refuses js k x A)) in
+      let goes-in = take-goes ports (words ports) port done in
       let from-1 : port ≡ suc (port - 1) = omega (arith, goes-in .1) in
       given-frame f (port - 1) (omega (arith, goes-in .1, goes-in .2)) F B (rw (call ∙ ap TakeOut from-1) at A) is
 
@@ -251,7 +251,7 @@ module _ {name preferred : ℕ} {cs : List Exported} {gs : List Given-back} {ks 
       → cs ≡ before ++ c ∷ later → gs ≡ gsBefore ++ gave 0 (1 ∷ id ∷ len ∷ []) written ∷ gsLater → length gsBefore ≡ length before → Takes c
       → AsHandedIn name before id len written
   unchanged-c before later c gsBefore gsLater id len written B e e′ l T =
-      let A = find S before later c gsBefore gsLater (gave 0 (1 ∷ id ∷ len ∷ []) written) e e′ l (not-refused T) in
+      let A = find S before later c gsBefore gsLater (gave 0 (1 ∷ id ∷ len ∷ []) written) e e′ l (not-refused ports T) in
       let t = told-by T (A .tells) in
       as-told (t .f) (t .same-id) (t .same-len) (t .same-bytes)
       (taken-frame (t .port) (t .f) (callOf c) (A .x) (t .call) (t .is) (A .at) (A .frames) (λ p i b a m. B p i b a (rw e (in-front before (c ∷ later) m))))

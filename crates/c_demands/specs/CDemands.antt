@@ -23,6 +23,8 @@ use Rattle.storage.specs.Bytes.{bytesOf}
 use Rattle.checks.specs.Checks.{Check, check}
 use Rattle.checks.specs.Ports.{noPort}
 use Rattle.identifier.specs.Identifier.{tooWide, wrongSource}
+use Rattle.unit.specs.Count.{countOf, portsOf}
+use Rattle.unit.specs.Model.{recordLength}
 use Rattle.unit.specs.PowerOn.{notLong}
 use Rattle.unit.specs.Own.{isUnstarted, isClaiming}
 use Rattle.queue.specs.declared.Queue.{Queue}
@@ -38,7 +40,8 @@ use Rattle.message_answers.specs.declared.MessageAnswer.{MessageAnswer}
 use Rattle.bridge.specs.Calls.{Call, FrameIn, TakeOut, Message, Start, Quiet, ReadUnit}
 use Rattle.flat_answers.specs.Answers.{frameWords, takeWords, bytesOfTaken, unitWords}
 use Rattle.deorasaeng.specs.Interface.{filled, startWords, over, QueueCall}
-use Rattle.deorasaeng.proofs.deorasaeng_power_on.Reads as power-on
+use Rattle.deorasaeng.proofs.deorasaeng_power_on_ports.Reads as power-on
+use Rattle.deorasaeng.proofs.deorasaeng_power_on.Reads as power-on-four
 use Rattle.deorasaeng.proofs.deorasaeng_frame.Reads as frame
 use Rattle.deorasaeng.proofs.deorasaeng_take.Reads as take-out
 use Rattle.deorasaeng.proofs.deorasaeng_message.Reads as message
@@ -46,11 +49,11 @@ use Rattle.deorasaeng.proofs.deorasaeng_start.Reads as start
 use Rattle.deorasaeng.proofs.deorasaeng_quiet.Reads as quiet
 use Rattle.deorasaeng.proofs.deorasaeng_unit.Reads as unit
 use Rattle.deorasaeng.proofs.deorasaeng_take_queue as queue-contract
-use Rattle.demand_1.specs.Demand1.{Exact, messageNumbers}
-use Rattle.demand_2.specs.Demand2.{restOf, SameTo}
-use Rattle.demand_3.specs.Demand3.{Answer, ToFrame, ToTake, ToMessage, ToStart, ToQuiet, ToUnit, words, Demand3}
+use Rattle.demand_1.specs.Demand1.{Exact, messageNumbers, restOf}
+use Rattle.demand_2.specs.Demand2.{SameTo}
+use Rattle.demand_3.specs.Demand3.{Answer, ToFrame, ToTake, ToMessage, ToStart, ToQuiet, ToUnit, Demand3}
 use Rattle.demand_3.specs.Demand3 as demand-3
-use Rattle.c_demands.specs.Exported.{Powered, Arrived, Handed, Started, Quieted, ToldUnit, TookQueue}
+use Rattle.c_demands.specs.Exported.{Powered, PoweredFour, Arrived, Handed, Started, Quieted, ToldUnit, TookQueue}
 use Rattle.c_demands.specs.Exported.{Took as TookOut}
 
 -- ---- 1. the exported calls
@@ -134,23 +137,23 @@ pub data Tells : Exported → Answer → Gave → Type 0 where
       → g ≡ gave (r .refusal) (r .pgn ∷ r .length ∷ []) (over written reply) → Tells (CMessage port requester payload reply answer) (ToMessage r written) g
   of-start : {answer : List ℕ} {g : Gave} (r : StartAnswer) → g ≡ gave (r .refusal) (filled (r .refusal) (startWords r) answer) [] → Tells (CStart answer) (ToStart r) g
   of-quiet : {g : Gave} (number : ℕ) → g ≡ gave number [] [] → Tells CQuiet (ToQuiet number) g
-  of-unit : {answer : List ℕ} {g : Gave} (own : Unit) (ports : ℕ) → g ≡ gave 0 (unitWords own ports) [] → Tells (CUnit answer) (ToUnit (Told own ports)) g
+  of-unit : {answer : List ℕ} {g : Gave} (own : Unit) → g ≡ gave 0 (unitWords own) [] → Tells (CUnit answer) (ToUnit (Told own)) g
   of-refused-unit : {answer : List ℕ} {g : Gave} (number : ℕ) → (number ≡ 0 → ⊥) → g ≡ gave number answer [] → Tells (CUnit answer) (ToUnit (UnitAnswer.Refused number)) g
   of-queue : {port : ℕ} {answer bytes : List ℕ} {g : Gave} (taken : Taken) → g ≡ gave 0 (takeWords taken) (bytesOfTaken taken bytes)
       → Tells (CTakeQueue port answer bytes) (ToTake (Took taken)) g
 
 -- lent another length: refused with 2, or with 1 where there is no such port, and nothing is touched
-abbrev pub portless : ℕ → ℕ
-portless port = cond (noPort 4 port) 1 2
+abbrev pub portless : ℕ → ℕ → ℕ
+portless ports port = cond (noPort ports port) 1 2
 
-abbrev pub refusedLent : Exported → Gave
-refusedLent (CFrame port id bytes answer) = gave (portless port) answer []
-refusedLent (CTake port answer bytes) = gave (portless port) answer bytes
-refusedLent (CMessage port requester payload reply answer) = gave (portless port) answer reply
-refusedLent (CStart answer) = gave 2 answer []
-refusedLent CQuiet = gave 2 [] []
-refusedLent (CUnit answer) = gave 2 answer []
-refusedLent (CTakeQueue port answer bytes) = gave 2 answer bytes
+abbrev pub refusedLent : ℕ → Exported → Gave
+refusedLent ports (CFrame port id bytes answer) = gave (portless ports port) answer []
+refusedLent ports (CTake port answer bytes) = gave (portless ports port) answer bytes
+refusedLent ports (CMessage port requester payload reply answer) = gave (portless ports port) answer reply
+refusedLent ports (CStart answer) = gave 2 answer []
+refusedLent ports CQuiet = gave 2 [] []
+refusedLent ports (CUnit answer) = gave 2 answer []
+refusedLent ports (CTakeQueue port answer bytes) = gave 2 answer bytes
 
 -- the exported call c on the record w is the bridge's call
 pub record IsCall (w : List ℕ) (c : Exported) (g : Gave) (w′ : List ℕ) : Type 0 where
@@ -160,15 +163,15 @@ pub record IsCall (w : List ℕ) (c : Exported) (g : Gave) (w′ : List ℕ) : T
 
 pub record IsNone (w : List ℕ) (c : Exported) (g : Gave) (w′ : List ℕ) : Type 0 where
   pub unchanged : w′ ≡ w
-  pub refused : g ≡ refusedLent c
+  pub refused : g ≡ refusedLent (portsOf w) c
 
--- the calls ks of the bridge, answered xs, are those that the exported calls cs are, which gave gs
-pub data Same : List Exported → List Gave → List Call → List Answer → Type 0 where
-  none : Same [] [] [] []
+-- the calls ks of the bridge, answered xs, are those that the exported calls cs are, which gave gs, on a unit of so many ports
+pub data Same (ports : ℕ) : List Exported → List Gave → List Call → List Answer → Type 0 where
+  none : Same ports [] [] [] []
   called : {c : Exported} {g : Gave} {x : Answer} {cs : List Exported} {gs : List Gave} {ks : List Call} {xs : List Answer}
-      → lends c ≡ true → Tells c x g → Same cs gs ks xs → Same (c ∷ cs) (g ∷ gs) (callOf c ∷ ks) (x ∷ xs)
+      → lends c ≡ true → Tells c x g → Same ports cs gs ks xs → Same ports (c ∷ cs) (g ∷ gs) (callOf c ∷ ks) (x ∷ xs)
   passed : {c : Exported} {g : Gave} {cs : List Exported} {gs : List Gave} {ks : List Call} {xs : List Answer}
-      → lends c ≡ false → g ≡ refusedLent c → Same cs gs ks xs → Same (c ∷ cs) (g ∷ gs) ks xs
+      → lends c ≡ false → g ≡ refusedLent ports c → Same ports cs gs ks xs → Same ports (c ∷ cs) (g ∷ gs) ks xs
 
 -- ---- 3. "leaves there once, unchanged": the bytes that a take writes
 -- a take of a frame, by either function
@@ -190,33 +193,33 @@ pub data AsHandedIn (name : ℕ) (before : List Exported) (id len : ℕ) (writte
 -- ---- 4. demand 1: the numbers of each function with their conditions, in the order in which they are given. Number 2 is for every lent length
 abbrev pub numbers : List ℕ → Exported → List Check
 numbers w (CFrame port id bytes answer) =
-    check (noPort 4 port) 1
-    ∷ check (notLong 4 (length w) || not (eqb (length answer) 7)) 2
+    check (noPort (portsOf w) port) 1
+    ∷ check (notLong (portsOf w) (length w) || not (eqb (length answer) 7)) 2
     ∷ check (tooWide id) 3
     ∷ check (ltb 8 (length bytes)) 4
     ∷ check (wrongSource id) 5
     ∷ []
-numbers w (CTake port answer bytes) = check (noPort 4 port) 1 ∷ check (notLong 4 (length w) || not (eqb (length answer) 3) || not (eqb (length bytes) 8)) 2 ∷ []
+numbers w (CTake port answer bytes) = check (noPort (portsOf w) port) 1 ∷ check (notLong (portsOf w) (length w) || not (eqb (length answer) 3) || not (eqb (length bytes) 8)) 2 ∷ []
 numbers w (CMessage port requester payload reply answer) =
-    check (noPort 4 port) 1
-    ∷ check (notLong 4 (length w) || ltb (length reply) 1785 || not (eqb (length answer) 2)) 2
-    ∷ drop 2 (messageNumbers (length w) (length reply) (restOf w) port requester payload)
+    check (noPort (portsOf w) port) 1
+    ∷ check (notLong (portsOf w) (length w) || ltb (length reply) 1785 || not (eqb (length answer) 2)) 2
+    ∷ drop 2 (messageNumbers (portsOf w) (length w) (length reply) (restOf w) port requester payload)
 numbers w (CStart answer) =
-    check (notLong 4 (length w) || not (eqb (length answer) 2)) 2
+    check (notLong (portsOf w) (length w) || not (eqb (length answer) 2)) 2
     ∷ check (not (isUnstarted (restOf w .own .claim))) 18
     ∷ check (ltb 253 (restOf w .own .preferred)) 8
     ∷ []
-numbers w CQuiet = check (notLong 4 (length w)) 2 ∷ check (not (isClaiming (restOf w .own .claim))) 18 ∷ []
-numbers w (CUnit answer) = check (notLong 4 (length w) || not (eqb (length answer) 5)) 2 ∷ []
+numbers w CQuiet = check (notLong (portsOf w) (length w)) 2 ∷ check (not (isClaiming (restOf w .own .claim))) 18 ∷ []
+numbers w (CUnit answer) = check (notLong (portsOf w) (length w) || not (eqb (length answer) 5)) 2 ∷ []
 numbers w (CTakeQueue port answer bytes) = check (not (eqb (length answer) 3) || not (eqb (length bytes) 8)) 2 ∷ []
 
 -- ---- 5. the claim
 -- The exported calls cs were made from power-on on, gave gs and left the record v.
-pub record Listed (name preferred : ℕ) (cs : List Exported) (gs : List Gave) (v : List ℕ) : Type 0 where
+pub record Listed (ports name preferred : ℕ) (cs : List Exported) (gs : List Gave) (v : List ℕ) : Type 0 where
   pub ks : List Call
   pub xs : List Answer
-  pub same : Same cs gs ks xs
-  pub demand-3 : Demand3 name preferred ks xs v
+  pub same : Same ports cs gs ks xs
+  pub demand-3 : Demand3 ports name preferred ks xs v
   pub unchanged : (before later : List Exported) (c : Exported) (gsBefore gsLater : List Gave) (id len : ℕ) (written : List ℕ) → Bytes cs
       → cs ≡ before ++ c ∷ later → gs ≡ gsBefore ++ gave 0 (1 ∷ id ∷ len ∷ []) written ∷ gsLater → length gsBefore ≡ length before → Takes c
       → AsHandedIn name before id len written
@@ -224,7 +227,8 @@ pub record Listed (name preferred : ℕ) (cs : List Exported) (gs : List Gave) (
 pub record CDemands : Type 0 where
   pub calls : EveryCall
   -- "Any frame, message, port number or buffer gets a defined answer": no function requires anything (that of `deorasaeng_take_queue` is `queue-clause`)
-  pub defined : ((κs : Lfts 1) (w : RefT (List ℕ)) (name preferred : ℕ) → power-on.Pre κs (w, (name, (preferred, tt))))
+  pub defined : ((κs : Lfts 1) (w : RefT (List ℕ)) (name preferred count : ℕ) → power-on.Pre κs (w, (name, (preferred, (count, tt)))))
+      × ((κs : Lfts 1) (w : RefT (List ℕ)) (name preferred : ℕ) → power-on-four.Pre κs (w, (name, (preferred, tt))))
       × ((κs : Lfts 3) (w b a : RefT (List ℕ)) (port id : ℕ) → frame.Pre κs (w, (port, (id, (b, (a, tt))))))
       × ((κs : Lfts 3) (w a b : RefT (List ℕ)) (port : ℕ) → take-out.Pre κs (w, (port, (a, (b, tt)))))
       × ((κs : Lfts 4) (w p b a : RefT (List ℕ)) (port requester : ℕ) → message.Pre κs (w, (port, (requester, (p, (b, (a, tt)))))))
@@ -234,17 +238,20 @@ pub record CDemands : Type 0 where
   -- "Bad input is refused by a number of document 01; a refusal changes no list, queue or table"
   pub exact : {w w′ : List ℕ} {c : Exported} {g : Gave} → Made w c g w′ → Exact (numbers w c) (g .number) × ((g .number ≡ 0 → ⊥) → w′ ≡ w)
   -- what is said of the bridge's calls, demands 1 and 2 and the claims in any order too, is said of the exported ones: this is what they are
-  pub is-call : {w w′ : List ℕ} {c : Exported} {g : Gave} → length w ≡ words → Made w c g w′ → lends c ≡ true → IsCall w c g w′
+  pub is-call : {w w′ : List ℕ} {c : Exported} {g : Gave} → length w ≡ recordLength (portsOf w) → Made w c g w′ → lends c ≡ true → IsCall w c g w′
   pub is-none : {w w′ : List ℕ} {c : Exported} {g : Gave} → Made w c g w′ → lends c ≡ false → IsNone w c g w′
   -- "reply and refusal are the same whatever the lists and address tables hold beyond p's own pairs and the addresses recorded on p"
   pub private : {w other payload reply answer w′ back told other′ back₂ told₂ : List ℕ} {p requester r r₂ : ℕ}
-      → 2 ≤ p → p ≤ 4 → length w ≡ length other → SameTo p (restOf w) (restOf other)
+      → 2 ≤ p → p ≤ portsOf w → portsOf w ≡ portsOf other → length w ≡ length other → SameTo p w other
       → Handed w p requester payload reply answer r w′ back told → Handed other p requester payload reply answer r₂ other′ back₂ told₂
       → (r ≡ r₂) × (back ≡ back₂) × (told ≡ told₂)
   -- "For every list of calls on one unit from one power-on to the next"
-  pub every : {w u : List ℕ} {name preferred r : ℕ} → Powered w name preferred r u → r ≡ 0
-      → (cs : List Exported) (gs : List Gave) (v : List ℕ) → Run Made u cs gs v → Listed name preferred cs gs v
-  pub none : {w u : List ℕ} {name preferred r : ℕ} → Powered w name preferred r u → (r ≡ 0 → ⊥) → (r ≡ 2) × (u ≡ w)
+  pub every : {w u : List ℕ} {name preferred count r : ℕ} → Powered w name preferred count r u → (r ≡ 2 → ⊥)
+      → (cs : List Exported) (gs : List Gave) (v : List ℕ) → Run Made u cs gs v → Listed (countOf count) name preferred cs gs v
+  pub none : {w u : List ℕ} {name preferred count r : ℕ} → Powered w name preferred count r u → r ≡ 2 → u ≡ w
+  -- `deorasaeng_power_on` is a power-on with four ports
+  pub four : {w u : List ℕ} {name preferred r : ℕ} → PoweredFour w name preferred r u
+      → ((r ≡ 2 → ⊥) → (cs : List Exported) (gs : List Gave) (v : List ℕ) → Run Made u cs gs v → Listed 4 name preferred cs gs v) × (r ≡ 2 → u ≡ w)
 
 -- What Exported.antt cites as the contract of `deorasaeng_take_queue` is the clause of the code.
 module _ {M : Type 1} (𝓤 : URA M) (H : Heap 𝓤) (A : Atoms 𝓤) (mem : Memory → SProp 𝓤) (run : Routine → Fun 𝓤) where

@@ -8,10 +8,12 @@ use lib.ListN.{take, drop}
 use contract.Lifetimes.{Lfts}
 use denote.Ref.{RefT}
 use Rattle.checks.specs.Ports.{isPort}
+use Rattle.unit.specs.Count.{portsOf}
 use Rattle.queue.specs.Queue.{blockLength}
 use Rattle.bridge.specs.Calls.{queueAt}
 use Rattle.deorasaeng.specs.Interface.{QueueCall}
-use Rattle.deorasaeng.proofs.deorasaeng_power_on.Reads as power-on
+use Rattle.deorasaeng.proofs.deorasaeng_power_on_ports.Reads as power-on
+use Rattle.deorasaeng.proofs.deorasaeng_power_on.Reads as power-on-four
 use Rattle.deorasaeng.proofs.deorasaeng_frame.Reads as frame
 use Rattle.deorasaeng.proofs.deorasaeng_take.Reads as take-out
 use Rattle.deorasaeng.proofs.deorasaeng_message.Reads as message
@@ -19,11 +21,17 @@ use Rattle.deorasaeng.proofs.deorasaeng_start.Reads as start
 use Rattle.deorasaeng.proofs.deorasaeng_quiet.Reads as quiet
 use Rattle.deorasaeng.proofs.deorasaeng_unit.Reads as unit
 
--- deorasaeng_power_on
-pub data Powered : (words : List ℕ) (name preferred r : ℕ) (after : List ℕ) → Type 0 where
-  powered : (κs : Lfts 1) (w w′ : RefT (List ℕ)) (name preferred r : ℕ)
-      → (power-on.Pre κs (w, (name, (preferred, tt))) → power-on.Post κs (w, (name, (preferred, tt))) r (w′, (name, (preferred, tt))))
-      → Powered (w .now) name preferred r (w′ .now)
+-- deorasaeng_power_on_ports
+pub data Powered : (words : List ℕ) (name preferred count r : ℕ) (after : List ℕ) → Type 0 where
+  powered : (κs : Lfts 1) (w w′ : RefT (List ℕ)) (name preferred count r : ℕ)
+      → (power-on.Pre κs (w, (name, (preferred, (count, tt)))) → power-on.Post κs (w, (name, (preferred, (count, tt)))) r (w′, (name, (preferred, (count, tt)))))
+      → Powered (w .now) name preferred count r (w′ .now)
+
+-- deorasaeng_power_on, with four ports
+pub data PoweredFour : (words : List ℕ) (name preferred r : ℕ) (after : List ℕ) → Type 0 where
+  poweredFour : (κs : Lfts 1) (w w′ : RefT (List ℕ)) (name preferred r : ℕ)
+      → (power-on-four.Pre κs (w, (name, (preferred, tt))) → power-on-four.Post κs (w, (name, (preferred, tt))) r (w′, (name, (preferred, tt))))
+      → PoweredFour (w .now) name preferred r (w′ .now)
 
 -- deorasaeng_frame
 pub data Arrived : (words : List ℕ) (port id : ℕ) (bytes answer : List ℕ) (r : ℕ) (after told : List ℕ) → Type 0 where
@@ -62,17 +70,17 @@ pub data ToldUnit : (words answer : List ℕ) (r : ℕ) (told : List ℕ) → Ty
       → (unit.Pre κs (w, (a, tt)) → unit.Post κs (w, (a, tt)) r (w′, (a′, tt)))
       → ToldUnit (w .now) (a .now) r (a′ .now)
 
--- deorasaeng_take_queue on the queue of a port, 1 to 4, where it lies in the record: that block was lent and came back, and no other word was. Its contract
+-- deorasaeng_take_queue on the queue of a port that there is, where it lies in the record: that block was lent and came back, and no other word was. Its contract
 -- is `QueueCall`, the clause of the code (`queue-clause` of CDemands.antt).
 abbrev pub blockOf : List ℕ → ℕ → List ℕ
-blockOf words port = take blockLength (drop (queueAt 4 port) words)
+blockOf words port = take blockLength (drop (queueAt port) words)
 
 abbrev pub withBlock : List ℕ → ℕ → List ℕ → List ℕ
-withBlock words port block = take (queueAt 4 port) words ++ (block ++ drop blockLength (drop (queueAt 4 port) words))
+withBlock words port block = take (queueAt port) words ++ (block ++ drop blockLength (drop (queueAt port) words))
 
 pub data TookQueue : (words : List ℕ) (port : ℕ) (answer bytes : List ℕ) (r : ℕ) (after told written : List ℕ) → Type 0 where
   tookQueue : (κs : Lfts 1) (w w′ : RefT (List ℕ)) (port : ℕ) (answer bytes : List ℕ) (r : ℕ) (block told written : List ℕ)
-      → isPort 4 port ≡ true
+      → isPort (portsOf (w .now)) port ≡ true
       → QueueCall (blockOf (w .now) port) block answer told bytes written r
       → w′ .now ≡ withBlock (w .now) port block
       → TookQueue (w .now) port answer bytes r (w′ .now) told written

@@ -2,14 +2,12 @@
 ghost use mathlib.Core.Path.{_≡_};
 ghost use Rattle.checks.specs.Ports.{isPort};
 
-const PORTS: u32 = 4;
-
-// Whether there is a port of that number.
-pub fn is_port(port: u32) -> bool
-    ensures { λ r. ⌜ r ≡ isPort 4 port ⌝ }
+// Whether a unit of that many ports has a port of that number.
+pub fn is_port(ports: u32, port: u32) -> bool
+    ensures { λ r. ⌜ r ≡ isPort ports port ⌝ }
 {
     if port < 1 {
         return false;
     }
-    port <= PORTS
+    port <= ports
 }

@@ -1,2 +1,3 @@
 pub mod Acts
 pub mod Frames
+pub mod Count

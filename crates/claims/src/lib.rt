@@ -6,10 +6,10 @@ use unit::Claim;
 use unit::NO_ADDRESS;
 use unit::Sent;
 ghost use mathlib.Core.Path.{_≡_};
-ghost use Prim.Native.Nat.{_<_};
+ghost use Prim.Native.Nat.{ℕ, _≤_, _<_};
 ghost use lib.ListN.{length, getD};
 ghost use Rattle.identifier.specs.Identifier.{saOf};
-ghost use Rattle.unit.specs.Model.{modelOf, recordLength};
+ghost use Rattle.unit.specs.Model.{modelOf, rowsFrom};
 ghost use Rattle.claims.specs.Claims.{isClaim, isRequest, isRequestToUnit, contested, claimActed, frameActed, heldUnder, started};
 ghost use Rattle.claims.specs.Steps.{Acting};
 
@@ -60,8 +60,8 @@ fn is_request_to_unit(f: Frame, consumed: bool) -> bool
 
 // Whether an address is held under a NAME lower than this.
 fn is_held_under(words: &[u64], address: usize, name: u64) -> bool
-    requires { ⌜ (length (now words) ≡ recordLength 4) × (address < 254) ⌝ }
-    ensures { λ r. ⌜ r ≡ heldUnder name (getD (modelOf 4 (now (words .entry)) .rest .table) address Place.Free) ⌝ }
+    requires { ⌜ (rowsFrom ≤ length (now words)) × (address < 254) ⌝ }
+    ensures { λ r. ⌜ ((ports : ℕ) → r ≡ heldUnder name (getD (modelOf ports (now (words .entry)) .rest .table) address Place.Free)) ⌝ }
 {
     match record::holder(words, address) {
         Place::Free => false,
@@ -74,8 +74,8 @@ fn is_held_under(words: &[u64], address: usize, name: u64) -> bool
 
 // A claim of the unit's address by another NAME: the unit defends it or is displaced.
 fn contest(words: &mut [u64], port: u64, address: usize, name: u64) -> Acted
-    requires { ⌜ (length (now words) ≡ recordLength 4) × (address < 254) ⌝ }
-    ensures { λ r. ⌜ Acting 4 (now (words .entry)) (now (words .exit)) (contested (modelOf 4 (now (words .entry)) .rest) port address name) r ⌝ }
+    requires { ⌜ (rowsFrom ≤ length (now words)) × (address < 254) ⌝ }
+    ensures { λ r. ⌜ ((ports : ℕ) → Acting ports (now (words .entry)) (now (words .exit)) (contested (modelOf ports (now (words .entry)) .rest) port address name) r) ⌝ }
 {
     let unit = unit::read_unit(words);
     if unit.name < name {
@@ -106,8 +106,8 @@ fn alone(event: Event) -> Acted
 
 // An address claim.
 fn act_on_claim(words: &mut [u64], port: u64, f: Frame) -> Acted
-    requires { ⌜ (length (now words) ≡ recordLength 4) × (saOf (f .id) < 255) ⌝ }
-    ensures { λ r. ⌜ Acting 4 (now (words .entry)) (now (words .exit)) (claimActed (modelOf 4 (now (words .entry)) .rest) port f) r ⌝ }
+    requires { ⌜ (rowsFrom ≤ length (now words)) × (saOf (f .id) < 255) ⌝ }
+    ensures { λ r. ⌜ ((ports : ℕ) → Acting ports (now (words .entry)) (now (words .exit)) (claimActed (modelOf ports (now (words .entry)) .rest) port f) r) ⌝ }
 {
     let unit = unit::read_unit(words);
     let name = f.bytes;
@@ -127,8 +127,8 @@ fn act_on_claim(words: &mut [u64], port: u64, f: Frame) -> Acted
 
 // A frame that was not refused, after the forwarding: a claim or a request is acted on.
 pub fn act(words: &mut [u64], port: u64, consumed: bool, f: Frame) -> Acted
-    requires { ⌜ (length (now words) ≡ recordLength 4) × (saOf (f .id) < 255) ⌝ }
-    ensures { λ r. ⌜ Acting 4 (now (words .entry)) (now (words .exit)) (frameActed (modelOf 4 (now (words .entry)) .rest) port consumed f) r ⌝ }
+    requires { ⌜ (rowsFrom ≤ length (now words)) × (saOf (f .id) < 255) ⌝ }
+    ensures { λ r. ⌜ ((ports : ℕ) → Acting ports (now (words .entry)) (now (words .exit)) (frameActed (modelOf ports (now (words .entry)) .rest) port consumed f) r) ⌝ }
 {
     if is_claim(f) {
         return act_on_claim(words, port, f);
@@ -145,8 +145,8 @@ pub fn act(words: &mut [u64], port: u64, consumed: bool, f: Frame) -> Acted
 
 // Start, in Unstarted with a good preferred address.
 pub fn start(words: &mut [u64]) -> Acted
-    requires { ⌜ (length (now words) ≡ recordLength 4) × (modelOf 4 (now words) .rest .own .preferred < 254) ⌝ }
-    ensures { λ r. ⌜ Acting 4 (now (words .entry)) (now (words .exit)) (started (modelOf 4 (now (words .entry)) .rest)) r ⌝ }
+    requires { ⌜ (rowsFrom ≤ length (now words)) × ((ports : ℕ) → modelOf ports (now words) .rest .own .preferred < 254) ⌝ }
+    ensures { λ r. ⌜ ((ports : ℕ) → Acting ports (now (words .entry)) (now (words .exit)) (started (modelOf ports (now (words .entry)) .rest)) r) ⌝ }
 {
     let unit = unit::read_unit(words);
     let preferred = unit.preferred;

@@ -12,6 +12,7 @@ use Rattle.replies.specs.Replies.{controlOf, acknowledgment, filled, listReply,
 use Rattle.addresses.specs.declared.Place.the-variants.{Free}
 use Rattle.unit.specs.declared.Claim.{Claim}
 use Rattle.unit.specs.declared.Claim.the-variants.{Claiming, Lost}
+use Rattle.unit.specs.Count.{isCount, countOf, portsOf, pairCount}
 use Rattle.unit.specs.Model.{Rest}
 use Rattle.claims.specs.Claims.{Acted, isClaim, isRequest, heldUnder, started}
 use Rattle.demand_1.specs.Literals.{Literals}
@@ -25,12 +26,16 @@ unfolding started
 start-becomes rest = became (heldUnder (rest .own .name) (getD (rest .table) (rest .own .preferred) Free)) _ _
 
 pub literals : Literals
-unfolding isPort isKnown hasWrongMode controlOf acknowledgment filled listReply addressReply isClaim isRequest packed pgnOf isPgn sentWithoutAddress wrongSource
+unfolding isPort isCount countOf portsOf pairCount isKnown hasWrongMode controlOf acknowledgment filled listReply addressReply isClaim isRequest packed pgnOf isPgn sentWithoutAddress wrongSource
 literals = record {
-  port = λ p. refl;
+  port = λ ports p. refl;
+  count = λ n. refl;
+  ports = λ words. refl;
+  at-power-on = λ n. refl;
   list = refl;
   queue = refl;
   record-words = λ lent. refl;
+  lengths = refl;
   priority = λ id. refl;
   extended = λ id. refl;
   page = λ id. refl;

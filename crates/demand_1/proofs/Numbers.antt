@@ -95,9 +95,9 @@ early false false false true e r pairs = refl
 early false false false false true r pairs = refl
 early false false false false false r pairs = refl
 
-module _ (rest : Rest) (requester : ℕ) (payload : List ℕ) where
+module _ (ports : ℕ) (rest : Rest) (requester : ℕ) (payload : List ℕ) where
   -- from the payload
-  late : (f g h i j : Bool) (k : Command) → performedBy 4 rest requester payload (cond (eqb (cond f 9 (cond g 10 (cond h 11 (cond i 12 (cond j 13 0))))) 0) k (Refused (cond f 9 (cond g 10 (cond h 11 (cond i 12 (cond j 13 0))))))) .number ≡ cond f 9 (cond g 10 (cond h 11 (cond i 12 (cond j 13 (performedBy 4 rest requester payload k .number)))))
+  late : (f g h i j : Bool) (k : Command) → performedBy ports rest requester payload (cond (eqb (cond f 9 (cond g 10 (cond h 11 (cond i 12 (cond j 13 0))))) 0) k (Refused (cond f 9 (cond g 10 (cond h 11 (cond i 12 (cond j 13 0))))))) .number ≡ cond f 9 (cond g 10 (cond h 11 (cond i 12 (cond j 13 (performedBy ports rest requester payload k .number)))))
   unfolding performedBy
   late true g h i j k = refl
   late false true h i j k = refl
@@ -110,16 +110,16 @@ module _ (rest : Rest) (requester : ℕ) (payload : List ℕ) where
   abbrev lists : ℕ
   lists =
       first
-      (check (eqb (function payload) 6 && aNamedPair rest payload (λ f. not (isCleared (f .mode)))) 14
-      ∷ check (listed (function payload) (2 ∷ 3 ∷ []) && aNamedPair rest payload (λ f. isCleared (f .mode))) 15
-      ∷ check (listed (function payload) (2 ∷ 6 ∷ []) && aNamedPair rest payload (λ f. wouldPass f (entries payload))) 16
-      ∷ check (eqb (function payload) 3 && aNamedPair rest payload (λ f. lacks f (entries payload))) 17
+      (check (eqb (function payload) 6 && aNamedPair ports rest payload (λ f. not (isCleared (f .mode)))) 14
+      ∷ check (listed (function payload) (2 ∷ 3 ∷ []) && aNamedPair ports rest payload (λ f. isCleared (f .mode))) 15
+      ∷ check (listed (function payload) (2 ∷ 6 ∷ []) && aNamedPair ports rest payload (λ f. wouldPass f (entries payload))) 16
+      ∷ check (eqb (function payload) 3 && aNamedPair ports rest payload (λ f. lacks f (entries payload))) 17
       ∷ [])
 
-  by-lists : isKnown (function payload) ≡ true → performedBy 4 rest requester payload (commandOf (function payload) (from payload) (to payload) payload) .number ≡ lists
+  by-lists : isKnown (function payload) ≡ true → performedBy ports rest requester payload (commandOf (function payload) (from payload) (to payload) payload) .number ≡ lists
   unfolding performedBy listed listRefusal listChecks holdsOf
   by-lists known =
-      by-function (λ k. performedBy 4 rest requester payload k .number ≡ lists) (function payload) (from payload) (to payload) payload known
+      by-function (λ k. performedBy ports rest requester payload k .number ≡ lists) (function payload) (from payload) (to payload) payload known
       (λ e. rw e)
       (λ e. rw e)
       (λ e. rw e)
@@ -131,14 +131,14 @@ module _ (rest : Rest) (requester : ℕ) (payload : List ℕ) where
   below-known true g h i j m n e = refl
   below-known false g h i j m n e = rw (e refl)
 
-  pub message-number : (lent lentReply port : ℕ) → messaged 4 lent lentReply rest port requester payload .number ≡ first (messageNumbers lent lentReply rest port requester payload)
+  pub message-number : (lent lentReply port : ℕ) → messaged ports lent lentReply rest port requester payload .number ≡ first (messageNumbers ports lent lentReply rest port requester payload)
   unfolding messaged messageRefusal decoded refusalOf
   message-number lent lentReply port =
       let f = not (isKnown (function payload)) in
-      let g = not (namesPorts 4 (function payload) (from payload) (to payload)) in
-      let h = not (mayName port (function payload) (from payload) (to payload)) in
+      let g = not (namesPorts ports (function payload) (from payload) (to payload)) in
+      let h = not (mayName ports port (function payload) (from payload) (to payload)) in
       let i = not (hasGoodBody (function payload) payload) in
       let j = hasWrongMode (function payload) payload in
       let k = commandOf (function payload) (from payload) (to payload) payload in
-      early (noPort 4 port) (notLong 4 lent || ltb lentReply longest) (not (isClaimed (rest .own .claim))) (not (leb 8 (length payload) && leb (length payload) longest)) (ltb 253 requester) (performedBy 4 rest requester payload (decoded 4 port payload)) (rest .pairs)
-      ∙ rw (late f g h i j k ∙ below-known f g h i j (performedBy 4 rest requester payload k .number) lists (λ e. by-lists (not-false (isKnown (function payload)) e)))
+      early (noPort ports port) (notLong ports lent || ltb lentReply longest) (not (isClaimed (rest .own .claim))) (not (leb 8 (length payload) && leb (length payload) longest)) (ltb 253 requester) (performedBy ports rest requester payload (decoded ports port payload)) (rest .pairs)
+      ∙ rw (late f g h i j k ∙ below-known f g h i j (performedBy ports rest requester payload k .number) lists (λ e. by-lists (not-false (isKnown (function payload)) e)))

@@ -4,7 +4,7 @@ use mathlib.Core.Path.{_≡_}
 use mathlib.Core.Logic.{_↔_}
 use mathlib.Core.Bool.{Bool, true, false, not, _&&_, _||_}
 use mathlib.Core.List.{List, [], _∷_, _++_}
-use Prim.Native.Nat.{ℕ}
+use Prim.Native.Nat.{ℕ, _-_}
 use contract.Lifetimes.{Lfts}
 use denote.Ref.{RefT}
 use lib.ListN.{length, drop}
@@ -21,15 +21,15 @@ use Rattle.bridge.specs.declared.TakeAnswer.{TakeAnswer}
 use Rattle.message_answers.specs.declared.MessageAnswer.{MessageAnswer}
 use Rattle.bridge.specs.declared.StartAnswer.{StartAnswer}
 use Rattle.bridge.specs.declared.UnitAnswer.{UnitAnswer}
-use Rattle.bridge.specs.declared.UnitAnswer.the-variants.{Told}
+use Rattle.unit.specs.Count.{isCount, countOf, portsOf}
 use Rattle.unit.specs.Model.{Rest, modelOf}
 use Rattle.checks.specs.Ports.{noPort}
-use Rattle.unit.specs.PowerOn.{notLong}
+use Rattle.unit.specs.PowerOn.{notLong, fresh}
 use Rattle.unit.specs.Own.{isUnstarted, isClaiming}
 use Rattle.unit.specs.Own.{isClaimed}
 use Rattle.list_commands.specs.Commands.{anyNamed}
-use Rattle.bridge.specs.Calls.{frameRefused, takeNumber, startRefused}
-use Rattle.unit.proofs.Unit.power_on.Reads as power-on
+use Rattle.bridge.specs.Calls.{frameRefused, takeNumber, readNumber, startRefused}
+use Rattle.unit.proofs.Unit.power_on_ports.Reads as power-on
 use Rattle.bridge.proofs.frame.Reads as frame
 use Rattle.bridge.proofs.take.Reads as take
 use Rattle.bridge.proofs.message.Reads as message
@@ -38,32 +38,34 @@ use Rattle.bridge.proofs.quiet.Reads as quiet
 use Rattle.bridge.proofs.unit.Reads as unit
 use Rattle.made.specs.Made as made
 
--- ---- the table "Numbers given back": the numbers of each call with their conditions, in the order in which they are given
-abbrev pub powerOnNumbers : ℕ → List Check
-powerOnNumbers lent = check (notLong 4 lent) 2 ∷ []
+-- ---- the table "Numbers given back": the numbers of each call with their conditions, in the order in which they are given; `ports` are the unit's, by the
+-- count in its record, `lent` the record's length
+-- power-on: with a count that is none the record is that of four ports
+abbrev pub powerOnNumbers : ℕ → ℕ → List Check
+powerOnNumbers count lent = check (notLong (countOf count) lent) 2 ∷ check (not (isCount count)) 27 ∷ []
 
-abbrev pub frameNumbers : ℕ → ℕ → ℕ → ℕ → List Check
-frameNumbers lent port id len =
-    check (noPort 4 port) 1
-    ∷ check (notLong 4 lent) 2
+abbrev pub frameNumbers : ℕ → ℕ → ℕ → ℕ → ℕ → List Check
+frameNumbers ports lent port id len =
+    check (noPort ports port) 1
+    ∷ check (notLong ports lent) 2
     ∷ check (tooWide id) 3
     ∷ check (ltb 8 len) 4
     ∷ check (wrongSource id) 5
     ∷ []
 
-abbrev pub takeNumbers : ℕ → ℕ → List Check
-takeNumbers lent port = check (noPort 4 port) 1 ∷ check (notLong 4 lent) 2 ∷ []
+abbrev pub takeNumbers : ℕ → ℕ → ℕ → List Check
+takeNumbers ports lent port = check (noPort ports port) 1 ∷ check (notLong ports lent) 2 ∷ []
 
 -- "at Start 18 comes before 8"
-abbrev pub startNumbers : ℕ → Rest → List Check
-startNumbers lent rest =
-    check (notLong 4 lent) 2 ∷ check (not (isUnstarted (rest .own .claim))) 18 ∷ check (ltb 253 (rest .own .preferred)) 8 ∷ []
+abbrev pub startNumbers : ℕ → ℕ → Rest → List Check
+startNumbers ports lent rest =
+    check (notLong ports lent) 2 ∷ check (not (isUnstarted (rest .own .claim))) 18 ∷ check (ltb 253 (rest .own .preferred)) 8 ∷ []
 
-abbrev pub quietNumbers : ℕ → Rest → List Check
-quietNumbers lent rest = check (notLong 4 lent) 2 ∷ check (not (isClaiming (rest .own .claim))) 18 ∷ []
+abbrev pub quietNumbers : ℕ → ℕ → Rest → List Check
+quietNumbers ports lent rest = check (notLong ports lent) 2 ∷ check (not (isClaiming (rest .own .claim))) 18 ∷ []
 
-abbrev pub unitNumbers : ℕ → List Check
-unitNumbers lent = check (notLong 4 lent) 2 ∷ []
+abbrev pub unitNumbers : ℕ → ℕ → List Check
+unitNumbers ports lent = check (notLong ports lent) 2 ∷ []
 
 -- what a payload says, bad or not: its function, From and To, its entries
 abbrev pub function : List ℕ → ℕ
@@ -79,25 +81,25 @@ abbrev pub entries : List ℕ → List ℕ
 entries payload = entriesOf (between (entriesStart (function payload)) (entriesEnd (entriesStart (function payload)) payload) payload)
 
 -- whether a test holds of a pair that it names
-abbrev pub aNamedPair : Rest → List ℕ → (Filter → Bool) → Bool
-aNamedPair rest payload test = anyNamed 4 3 test (from payload) (to payload) (rest .pairs)
+abbrev pub aNamedPair : ℕ → Rest → List ℕ → (Filter → Bool) → Bool
+aNamedPair ports rest payload test = anyNamed ports (ports - 1) test (from payload) (to payload) (rest .pairs)
 
-abbrev pub messageNumbers : ℕ → ℕ → Rest → ℕ → ℕ → List ℕ → List Check
-messageNumbers lent lentReply rest port requester payload =
-    check (noPort 4 port) 1
-    ∷ check (notLong 4 lent || ltb lentReply longest) 2
+abbrev pub messageNumbers : ℕ → ℕ → ℕ → Rest → ℕ → ℕ → List ℕ → List Check
+messageNumbers ports lent lentReply rest port requester payload =
+    check (noPort ports port) 1
+    ∷ check (notLong ports lent || ltb lentReply longest) 2
     ∷ check (not (isClaimed (rest .own .claim))) 6
     ∷ check (not (leb 8 (length payload) && leb (length payload) longest)) 7
     ∷ check (ltb 253 requester) 8
     ∷ check (not (isKnown (function payload))) 9
-    ∷ check (not (namesPorts 4 (function payload) (from payload) (to payload))) 10
-    ∷ check (not (mayName port (function payload) (from payload) (to payload))) 11
+    ∷ check (not (namesPorts ports (function payload) (from payload) (to payload))) 10
+    ∷ check (not (mayName ports port (function payload) (from payload) (to payload))) 11
     ∷ check (not (hasGoodBody (function payload) payload)) 12
     ∷ check (hasWrongMode (function payload) payload) 13
-    ∷ check (eqb (function payload) 6 && aNamedPair rest payload (λ f. not (isCleared (f .mode)))) 14
-    ∷ check (listed (function payload) (2 ∷ 3 ∷ []) && aNamedPair rest payload (λ f. isCleared (f .mode))) 15
-    ∷ check (listed (function payload) (2 ∷ 6 ∷ []) && aNamedPair rest payload (λ f. wouldPass f (entries payload))) 16
-    ∷ check (eqb (function payload) 3 && aNamedPair rest payload (λ f. lacks f (entries payload))) 17
+    ∷ check (eqb (function payload) 6 && aNamedPair ports rest payload (λ f. not (isCleared (f .mode)))) 14
+    ∷ check (listed (function payload) (2 ∷ 3 ∷ []) && aNamedPair ports rest payload (λ f. isCleared (f .mode))) 15
+    ∷ check (listed (function payload) (2 ∷ 6 ∷ []) && aNamedPair ports rest payload (λ f. wouldPass f (entries payload))) 16
+    ∷ check (eqb (function payload) 3 && aNamedPair ports rest payload (λ f. lacks f (entries payload))) 17
     ∷ []
 
 -- ---- "each is given exactly then": where it applies and nothing that stands before it in the table does
@@ -119,39 +121,44 @@ pub record Exact (table : List Check) (r : ℕ) : Type 0 where
 abbrev pub Unchanged : ℕ → List ℕ → List ℕ → Type 0
 Unchanged r words after = (r ≡ 0 → ⊥) → after ≡ words
 
+-- "27, port count not 2 to 8, is new at power-on, which then hands back the unit as with four ports; that counts as a power-on, and demand 1's rule .. that a
+-- refusal changes nothing is not about it": 2 changes not a word, 27 leaves a fresh unit of four ports
+pub record ByPowerOn (words after : List ℕ) (name preferred r : ℕ) : Type 0 where
+  pub kept : r ≡ 2 → after ≡ words
+  pub four : r ≡ 27 → (length after ≡ 1181) × (portsOf after ≡ 4) × (modelOf 4 after ≡ fresh 4 name preferred)
+
 -- "and writes the acknowledgment or nothing": eight bytes for the numbers that write one, nothing for the others, and the answer says which
 pub record Writes (lent back payload : List ℕ) (requester : ℕ) (r : MessageAnswer) : Type 0 where
   pub nothing : (r .refusal ≡ 0 → ⊥) → acknowledges (r .refusal) ≡ false → (back ≡ lent) × (r .pgn ≡ 0) × (r .length ≡ 0)
   pub acknowledged : acknowledges (r .refusal) ≡ true
       → (back ≡ acknowledgment (controlOf (r .refusal)) (functionOf payload) requester ++ drop 8 lent) × (r .pgn ≡ 59392) × (r .length ≡ 8)
 
--- the number in the answer of the call that reads the unit
-abbrev pub unitNumber : UnitAnswer → ℕ
-unitNumber (UnitAnswer.Refused n) = n
-unitNumber (Told own ports) = 0
+-- what a record means besides its rows
+abbrev pub restOf : List ℕ → Rest
+restOf words = modelOf (portsOf words) words .rest
 
 -- ---- the whole
 pub record Demand1 : Type 0 where
   -- "Any frame, message, port number or buffer gets a defined answer": no call requires anything.
-  pub defined : ((κs : Lfts 1) (w : RefT (List ℕ)) (name preferred : ℕ) → power-on.Pre κs (w, (name, (preferred, tt))))
+  pub defined : ((κs : Lfts 1) (w : RefT (List ℕ)) (name preferred count : ℕ) → power-on.Pre κs (w, (name, (preferred, (count, tt)))))
       × ((κs : Lfts 2) (w b : RefT (List ℕ)) (port id : ℕ) → frame.Pre κs (w, (port, (id, (b, tt)))))
       × ((κs : Lfts 1) (w : RefT (List ℕ)) (port : ℕ) → take.Pre κs (w, (port, tt)))
       × ((κs : Lfts 3) (w p b : RefT (List ℕ)) (port requester : ℕ) → message.Pre κs (w, (port, (requester, (p, (b, tt))))))
       × ((κs : Lfts 1) (w : RefT (List ℕ)) → start.Pre κs (w, tt))
       × ((κs : Lfts 1) (w : RefT (List ℕ)) → quiet.Pre κs (w, tt))
       × ((κs : Lfts 1) (w : RefT (List ℕ)) → unit.Pre κs (w, tt))
-  pub power-on : {words after : List ℕ} {name preferred r : ℕ} → made.Powered words name preferred r after
-      → Exact (powerOnNumbers (length words)) r × Unchanged r words after
+  pub power-on : {words after : List ℕ} {name preferred count r : ℕ} → made.Powered words name preferred count r after
+      → Exact (powerOnNumbers count (length words)) r × ByPowerOn words after name preferred r
   -- "A refused frame has no ports, no event, is not consumed and compares 0"
   pub frame : {words bytes after : List ℕ} {port id : ℕ} {r : FrameAnswer} → made.Arrived words port id bytes r after
-      → Exact (frameNumbers (length words) port id (length bytes)) (r .refusal) × Unchanged (r .refusal) words after
+      → Exact (frameNumbers (portsOf words) (length words) port id (length bytes)) (r .refusal) × Unchanged (r .refusal) words after
       × ((r .refusal ≡ 0 → ⊥) → r ≡ frameRefused (r .refusal))
   pub take : {words after : List ℕ} {port : ℕ} {r : TakeAnswer} → made.Took words port r after
-      → Exact (takeNumbers (length words) port) (takeNumber r) × Unchanged (takeNumber r) words after
+      → Exact (takeNumbers (portsOf words) (length words) port) (takeNumber r) × Unchanged (takeNumber r) words after
   pub message : {words payload lent after back : List ℕ} {port requester : ℕ} {r : MessageAnswer} → made.Handed words port requester payload lent r after back
-      → Exact (messageNumbers (length words) (length lent) (modelOf 4 words .rest) port requester payload) (r .refusal)
+      → Exact (messageNumbers (portsOf words) (length words) (length lent) (restOf words) port requester payload) (r .refusal)
       × Unchanged (r .refusal) words after × Writes lent back payload requester r
   pub start : {words after : List ℕ} {r : StartAnswer} → made.Started words r after
-      → Exact (startNumbers (length words) (modelOf 4 words .rest)) (r .refusal) × Unchanged (r .refusal) words after × ((r .refusal ≡ 0 → ⊥) → r ≡ startRefused (r .refusal))
-  pub quiet : {words after : List ℕ} {r : ℕ} → made.Quieted words r after → Exact (quietNumbers (length words) (modelOf 4 words .rest)) r × Unchanged r words after
-  pub unit : {words : List ℕ} {r : UnitAnswer} → made.Told words r → Exact (unitNumbers (length words)) (unitNumber r)
+      → Exact (startNumbers (portsOf words) (length words) (restOf words)) (r .refusal) × Unchanged (r .refusal) words after × ((r .refusal ≡ 0 → ⊥) → r ≡ startRefused (r .refusal))
+  pub quiet : {words after : List ℕ} {r : ℕ} → made.Quieted words r after → Exact (quietNumbers (portsOf words) (length words) (restOf words)) r × Unchanged r words after
+  pub unit : {words : List ℕ} {r : UnitAnswer} → made.Told words r → Exact (unitNumbers (portsOf words) (length words)) (readNumber r)

@@ -25,17 +25,24 @@ use Rattle.network_message.specs.Decoding.{functionOf, pairOf, fromOf, toOf, is
 use Rattle.replies.specs.Replies.{controlOf, acknowledgment, listReply, addressReply}
 use Rattle.unit.specs.declared.Claim.the-variants.{Unstarted, Claiming, Claimed, Lost}
 use Rattle.unit.specs.declared.Unit.{Unit}
+use Rattle.unit.specs.Count.{isCount, countOf, portsOf}
 use Rattle.unit.specs.Model.{Rest, recordLength}
 use Rattle.unit.specs.PowerOn.{notLong}
 use Rattle.unit.specs.Own.{claimFrame, cannotClaimFrame, claimWord}
 use Rattle.claims.specs.Claims.{isClaim, isRequest, heldUnder, started}
 
 pub record Literals : Type 0 where
-  -- "Ports 1 to 4", "a list of at most 32 PGNs", "one queue of at most 32 frames"; the published length of the record
-  pub port : (p : ℕ) → isPort 4 p ≡ leb 1 p && leb p 4
+  -- "a number of ports from 2 to 8, chosen at power-on" and held in the record's fifth word; four where it is none
+  pub port : (ports p : ℕ) → isPort ports p ≡ leb 1 p && leb p ports
+  pub count : (n : ℕ) → isCount n ≡ leb 2 n && leb n 8
+  pub ports : (words : List ℕ) → portsOf words ≡ cond (leb 2 (getD words 4 0) && leb (getD words 4 0) 8) (getD words 4 0) 4
+  pub at-power-on : (n : ℕ) → countOf n ≡ cond (leb 2 n && leb n 8) n 4
+  -- "a list of at most 32 PGNs", "one queue of at most 32 frames"; the published length of the record, with four ports and with 2 to 8
   pub list : listSize ≡ 32
   pub queue : size ≡ 32
-  pub record-words : (lent : ℕ) → notLong 4 lent ≡ not (eqb lent 1180)
+  pub record-words : (lent : ℕ) → notLong 4 lent ≡ not (eqb lent 1181)
+  pub lengths : recordLength 2 ∷ recordLength 3 ∷ recordLength 4 ∷ recordLength 5 ∷ recordLength 6 ∷ recordLength 7 ∷ recordLength 8 ∷ []
+      ≡ 711 ∷ 912 ∷ 1181 ∷ 1518 ∷ 1923 ∷ 2396 ∷ 2937 ∷ []
   -- "Bits 28 to 26 are the priority, 25 the extended data page, 24 the data page, 23 to 16 PF, 15 to 8 PS, 7 to 0 the source address"
   pub priority : (id : ℕ) → priorityOf id ≡ id / 2 ^ 26 % 8
   pub extended : (id : ℕ) → extendedDataPageOf id ≡ id / 2 ^ 25 % 2

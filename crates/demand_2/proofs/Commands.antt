@@ -1,10 +1,9 @@
 -- What a message does to a pair: as it was, where the payload does not name it; changed, where it does and the command may be done. By the kind of the
 -- command. Assumes nothing.
-use mathlib.Core.Path.{_≡_, refl, sym, ap, _∙_}
+use mathlib.Core.Path.{_≡_, refl, sym, _∙_}
 use mathlib.Core.Bool.{Bool, true, false, cond, not, _&&_, _||_, true≢false}
-use mathlib.Core.List.{List, [], _∷_}
+use mathlib.Core.List.{List}
 use Prim.Native.Nat.{ℕ, _-_, _≤_}
-use native.Mathlib.Omega.{arith}
 use borrow.Author.Tests.{eqb-true, eq-eqb}
 use lib.ListN.{length, getD}
 use lib.Dec.{eqb}
@@ -19,8 +18,9 @@ use Rattle.checks.specs.Ports.{isPort}
 use Rattle.network_message.proofs.Decoding.{decoded-good}
 use Rattle.filter_commands.specs.declared.pairs.Change.{Change}
 use Rattle.filter_commands.specs.declared.pairs.Change.the-variants.{Adds, Deletes, Clears, Creates}
+use Rattle.unit.specs.Count.{pairCount}
 use Rattle.unit.specs.Model.{Rest, pairAt}
-use Rattle.message_answers.specs.Messages.{Replied, performedBy, Untouched}
+use Rattle.message_answers.specs.Messages.{performedBy, Untouched}
 use Rattle.filter_commands.specs.Pairs.{changeOf}
 use Rattle.list_commands.specs.Commands.{Beside, changeNamed, listRefusal, commanded}
 use Rattle.refusals.specs.Refusals.{messageRefusal}
@@ -31,46 +31,46 @@ use Rattle.demand_2.proofs.Pairs.{names-is, target, target-pair, target
 
 -- ---- what a decoded command changes is what the payload's bytes name
 -- whether a command may change the pair from a to b
-abbrev changes : Command → ℕ → ℕ → Bool
-changes (Refused number) a b = false
-changes (Request from to) a b = false
-changes (Add from to start end) a b = eqb a from && reaches 4 from to b
-changes (Delete from to start end) a b = eqb a from && reaches 4 from to b
-changes (Clear from to) a b = eqb a from && reaches 4 from to b
-changes (Create from to passing start end) a b = eqb a from && reaches 4 from to b
-changes (AddressList port) a b = false
+abbrev changes : ℕ → Command → ℕ → ℕ → Bool
+changes ports (Refused number) a b = false
+changes ports (Request from to) a b = false
+changes ports (Add from to start end) a b = eqb a from && reaches ports from to b
+changes ports (Delete from to start end) a b = eqb a from && reaches ports from to b
+changes ports (Clear from to) a b = eqb a from && reaches ports from to b
+changes ports (Create from to passing start end) a b = eqb a from && reaches ports from to b
+changes ports (AddressList port) a b = false
 
-not-reached : (a b from to : ℕ) → (eqb a from && (eqb to 15 || eqb b to)) ≡ false → (eqb a from && reaches 4 from to b) ≡ false
+not-reached : (ports a b from to : ℕ) → (eqb a from && (eqb to 15 || eqb b to)) ≡ false → (eqb a from && reaches ports from to b) ≡ false
 unfolding reaches
-not-reached a b from to = go (eqb a from) (eqb to 15)
+not-reached ports a b from to = go (eqb a from) (eqb to 15)
   where
-    go : (x y : Bool) → (x && (y || eqb b to)) ≡ false → (x && cond y (isPort 4 b && not (eqb b from)) (eqb b to)) ≡ false
+    go : (x y : Bool) → (x && (y || eqb b to)) ≡ false → (x && cond y (isPort ports b && not (eqb b from)) (eqb b to)) ≡ false
     go false y h = refl
     go true true h = absurd (true≢false h)
     go true false h = h
 
-unnamed : (a b port : ℕ) (payload : List ℕ) → namesPair payload a b ≡ false → changes (decoded 4 port payload) a b ≡ false
+unnamed : (ports a b port : ℕ) (payload : List ℕ) → namesPair payload a b ≡ false → changes ports (decoded ports port payload) a b ≡ false
 unfolding decoded listed
-unnamed a b port payload h =
-    answered-by 4 port (functionOf payload) (fromOf (pairOf payload)) (toOf (pairOf payload)) payload (λ c. changes c a b ≡ false) (λ n _. refl)
-    (λ P. by-function (λ c. changes c a b ≡ false) (functionOf payload) (fromOf (pairOf payload)) (toOf (pairOf payload)) payload (P .known)
+unnamed ports a b port payload h =
+    answered-by ports port (functionOf payload) (fromOf (pairOf payload)) (toOf (pairOf payload)) payload (λ c. changes ports c a b ≡ false) (λ n _. refl)
+    (λ P. by-function (λ c. changes ports c a b ≡ false) (functionOf payload) (fromOf (pairOf payload)) (toOf (pairOf payload)) payload (P .known)
     (λ e. refl)
-    (λ e. not-reached a b (fromOf (pairOf payload)) (toOf (pairOf payload)) (rw e at h))
-    (λ e. not-reached a b (fromOf (pairOf payload)) (toOf (pairOf payload)) (rw e at h))
-    (λ e. not-reached a b (fromOf (pairOf payload)) (toOf (pairOf payload)) (rw e at h))
-    (λ _ e. not-reached a b (fromOf (pairOf payload)) (toOf (pairOf payload)) (rw e at h))
+    (λ e. not-reached ports a b (fromOf (pairOf payload)) (toOf (pairOf payload)) (rw e at h))
+    (λ e. not-reached ports a b (fromOf (pairOf payload)) (toOf (pairOf payload)) (rw e at h))
+    (λ e. not-reached ports a b (fromOf (pairOf payload)) (toOf (pairOf payload)) (rw e at h))
+    (λ _ e. not-reached ports a b (fromOf (pairOf payload)) (toOf (pairOf payload)) (rw e at h))
     (λ e. refl))
 
 -- and a word outside the blocks of those pairs is one that the command leaves as it was
-module _ (payload : List ℕ) (n : ℕ) where
-  beside : (from to : ℕ) → Ports 4 from to → ((a b : ℕ) → IsPair a b → (eqb a from && reaches 4 from to b) ≡ true → Outside a b n) → Beside 4 from to n
+module _ (ports : ℕ) (payload : List ℕ) (n : ℕ) where
+  beside : (from to : ℕ) → Ports ports from to → ((a b : ℕ) → IsPair ports a b → (eqb a from && reaches ports from to b) ≡ true → Outside ports a b n) → Beside ports from to n
   beside from to ps H k l e =
-      let b = target from k (ps .least) (ps .most) l in
-      let P = target-pair from k (ps .least) (ps .most) l in
-      let reached : reaches 4 from to b ≡ true = sym (names-is from b P to) ∙ rw (target-rank from k (ps .least) (ps .most) l) e in
-      rw (target-at from k (ps .least) (ps .most) l) at (H from b P (rw (eq-eqb from from refl) reached))
+      let b = target ports from k (ps .least) (ps .most) l in
+      let P = target-pair ports from k (ps .least) (ps .most) l in
+      let reached : reaches ports from to b ≡ true = sym (names-is ports from b P to) ∙ rw (target-rank ports from k (ps .least) (ps .most) l) e in
+      rw (target-at ports from k (ps .least) (ps .most) l) at (H from b P (rw (eq-eqb from from refl) reached))
 
-  untouched-by : (c : Command) → Good 4 payload c → ((a b : ℕ) → IsPair a b → changes c a b ≡ true → Outside a b n) → Untouched 4 c n
+  untouched-by : (c : Command) → Good ports payload c → ((a b : ℕ) → IsPair ports a b → changes ports c a b ≡ true → Outside ports a b n) → Untouched ports c n
   untouched-by (Refused number) g H = tt
   untouched-by (Request from to) g H = tt
   untouched-by (Add from to start end) g H = beside from to (g .0) H
@@ -79,39 +79,39 @@ module _ (payload : List ℕ) (n : ℕ) where
   untouched-by (Create from to passing start end) g H = beside from to (g .0) H
   untouched-by (AddressList port) g H = tt
 
-  pub untouched : (port : ℕ) → 8 ≤ length payload → ((a b : ℕ) → IsPair a b → namesPair payload a b ≡ true → Outside a b n) → Untouched 4 (decoded 4 port payload) n
-  untouched port long H = untouched-by (decoded 4 port payload) (decoded-good 4 port payload long) (λ a b P e. H a b P (go a b e (namesPair payload a b) refl))
+  pub untouched : (port : ℕ) → 8 ≤ length payload → ((a b : ℕ) → IsPair ports a b → namesPair payload a b ≡ true → Outside ports a b n) → Untouched ports (decoded ports port payload) n
+  untouched port long H = untouched-by (decoded ports port payload) (decoded-good ports port payload long) (λ a b P e. H a b P (go a b e (namesPair payload a b) refl))
     where
-      go : (a b : ℕ) → changes (decoded 4 port payload) a b ≡ true → (t : Bool) → namesPair payload a b ≡ t → namesPair payload a b ≡ true
+      go : (a b : ℕ) → changes ports (decoded ports port payload) a b ≡ true → (t : Bool) → namesPair payload a b ≡ t → namesPair payload a b ≡ true
       go a b e true h = h
-      go a b e false h = absurd (true≢false (sym e ∙ unnamed a b port payload h))
+      go a b e false h = absurd (true≢false (sym e ∙ unnamed ports a b port payload h))
 
 -- a command on the pairs
-module _ (change : Change) (xs : List ℕ) (from to : ℕ) (pairs : List Filter) (long : length pairs ≡ 12) (low : 1 ≤ from) (high : from ≤ 4) (a b : ℕ) (P : IsPair a b) where
+module _ (ports : ℕ) (change : Change) (xs : List ℕ) (from to : ℕ) (pairs : List Filter) (long : length pairs ≡ pairCount ports) (low : 1 ≤ from) (high : from ≤ ports) (a b : ℕ) (P : IsPair ports a b) where
   abbrev at : List Filter → Filter
-  at ps = getD ps (pairAt 4 (a - 1) (b - 1)) clear
+  at ps = getD ps (pairAt ports (a - 1) (b - 1)) clear
 
-  pub commanded-other : (eqb a from && reaches 4 from to b) ≡ false → at (commanded 4 change xs from to pairs) ≡ at pairs
+  pub commanded-other : (eqb a from && reaches ports from to b) ≡ false → at (commanded ports change xs from to pairs) ≡ at pairs
   unfolding commanded
-  commanded-other e = go (eqb (listRefusal 4 change xs from to pairs) 0)
+  commanded-other e = go (eqb (listRefusal ports change xs from to pairs) 0)
     where
-      go : (t : Bool) → at (cond t (changeNamed 4 3 (changeOf change xs) from to pairs) pairs) ≡ at pairs
-      go true = changed-pair from to (changeOf change xs) pairs long low high a b P ∙ rw e
+      go : (t : Bool) → at (cond t (changeNamed ports (ports - 1) (changeOf change xs) from to pairs) pairs) ≡ at pairs
+      go true = changed-pair ports from to (changeOf change xs) pairs long low high a b P ∙ rw e
       go false = refl
 
-  pub commanded-named : (eqb a from && reaches 4 from to b) ≡ true → listRefusal 4 change xs from to pairs ≡ 0 → at (commanded 4 change xs from to pairs) ≡ changeOf change xs (at pairs)
+  pub commanded-named : (eqb a from && reaches ports from to b) ≡ true → listRefusal ports change xs from to pairs ≡ 0 → at (commanded ports change xs from to pairs) ≡ changeOf change xs (at pairs)
   unfolding commanded
-  commanded-named e z = rw z (changed-pair from to (changeOf change xs) pairs long low high a b P ∙ rw e)
+  commanded-named e z = rw z (changed-pair ports from to (changeOf change xs) pairs long low high a b P ∙ rw e)
 
 -- what a payload asks
-module _ (rest : Rest) (long : length (rest .pairs) ≡ 12) (a b : ℕ) (P : IsPair a b) where
+module _ (ports : ℕ) (rest : Rest) (long : length (rest .pairs) ≡ pairCount ports) (a b : ℕ) (P : IsPair ports a b) where
   abbrev here : List Filter → Filter
-  here ps = getD ps (pairAt 4 (a - 1) (b - 1)) clear
+  here ps = getD ps (pairAt ports (a - 1) (b - 1)) clear
 
-  changed-other : (change : Change) (xs : List ℕ) (from to : ℕ) → Ports 4 from to → (eqb a from && reaches 4 from to b) ≡ false → here (commanded 4 change xs from to (rest .pairs)) ≡ here (rest .pairs)
-  changed-other change xs from to ps e = commanded-other change xs from to (rest .pairs) long (ps .least) (ps .most) a b P e
+  changed-other : (change : Change) (xs : List ℕ) (from to : ℕ) → Ports ports from to → (eqb a from && reaches ports from to b) ≡ false → here (commanded ports change xs from to (rest .pairs)) ≡ here (rest .pairs)
+  changed-other change xs from to ps e = commanded-other ports change xs from to (rest .pairs) long (ps .least) (ps .most) a b P e
 
-  performed-other : (requester : ℕ) (payload : List ℕ) (c : Command) → Good 4 payload c → changes c a b ≡ false → here (performedBy 4 rest requester payload c .pairs) ≡ here (rest .pairs)
+  performed-other : (requester : ℕ) (payload : List ℕ) (c : Command) → Good ports payload c → changes ports c a b ≡ false → here (performedBy ports rest requester payload c .pairs) ≡ here (rest .pairs)
   unfolding performedBy
   performed-other requester payload (Refused number) g e = refl
   performed-other requester payload (Request from to) g e = refl
@@ -121,17 +121,17 @@ module _ (rest : Rest) (long : length (rest .pairs) ≡ 12) (a b : ℕ) (P : IsP
   performed-other requester payload (Create from to passing start end) g e = changed-other (Creates passing) (entriesOf (between start end payload)) from to (g .0) e
   performed-other requester payload (AddressList port) g e = refl
 
-  pub messaged-other : (lent lentReply port requester : ℕ) (payload : List ℕ) → namesPair payload a b ≡ false → here (messaged 4 lent lentReply rest port requester payload .pairs) ≡ here (rest .pairs)
+  pub messaged-other : (lent lentReply port requester : ℕ) (payload : List ℕ) → namesPair payload a b ≡ false → here (messaged ports lent lentReply rest port requester payload .pairs) ≡ here (rest .pairs)
   unfolding messaged
   messaged-other lent lentReply port requester payload e = go (eqb n 0) refl
     where
       n : ℕ
-      n = messageRefusal 4 lent lentReply rest port requester (length payload)
+      n = messageRefusal ports lent lentReply rest port requester (length payload)
 
-      go : (t : Bool) → eqb n 0 ≡ t → here (messaged 4 lent lentReply rest port requester payload .pairs) ≡ here (rest .pairs)
+      go : (t : Bool) → eqb n 0 ≡ t → here (messaged ports lent lentReply rest port requester payload .pairs) ≡ here (rest .pairs)
       go true z =
           rw z
-          (performed-other requester payload (decoded 4 port payload)
-          (decoded-good 4 port payload (message-goes lent lentReply rest port requester (length payload) (eqb-true n 0 z) .2))
-          (unnamed a b port payload e))
+          (performed-other requester payload (decoded ports port payload)
+          (decoded-good ports port payload (message-goes ports lent lentReply rest port requester (length payload) (eqb-true n 0 z) .2))
+          (unnamed ports a b port payload e))
       go false z = rw z

@@ -1,12 +1,12 @@
 -- Demand 2 from the contracts of `frame` and `message` and the laws of the model. Assumes nothing.
 use mathlib.Core.Path.{_≡_, refl, sym, ap, _∙_}
-use mathlib.Core.Logic.{_⊎_, inl, inr}
-use mathlib.Core.Bool.{Bool, true, false, cond}
+use mathlib.Core.Logic.{inl, inr}
+use mathlib.Core.Bool.{Bool, true, false}
 use mathlib.Core.List.{List, [], _∷_, _++_}
 use Prim.Native.Nat.{ℕ, _+_, _-_, _*_, _^_, _<_, _≤_}
 use native.Mathlib.Nat.{zero-div}
 use native.Mathlib.Omega.{arith}
-use borrow.Author.Tests.{eqb-true, eqb-false, eq-eqb}
+use borrow.Author.Tests.{eqb-true, eqb-false}
 use lib.ListN.{length, take, drop, getD}
 use lib.Seq.{take-at}
 use lib.Dec.{eqb}
@@ -17,26 +17,29 @@ use Rattle.network_message.specs.Decoding.{functionOf, pairOf, fromOf, toOf}
 use Rattle.replies.specs.Replies.{listReply}
 use Rattle.bridge.specs.declared.FrameAnswer.{FrameAnswer}
 use Rattle.message_answers.specs.declared.MessageAnswer.{MessageAnswer}
-use Rattle.unit.specs.Ports.{each, bitAt}
-use Rattle.unit.specs.Model.{Model, Rest, Seen, rowAt, pairAt, withPairs, modelOf}
-use Rattle.bridge.specs.Calls.{offered, frameOf}
+use Rattle.unit.specs.Ports.{bitAt}
+use Rattle.unit.specs.Count.{portsOf}
+use Rattle.unit.specs.Model.{Model, Seen, rowAt, pairAt, modelOf}
+use Rattle.bridge.specs.Calls.{frameOf}
 use Rattle.forwarding.specs.Forwarding.{silent}
 use Rattle.refusals.specs.Refusals.{frameRefusal, messageRefusal}
 use Rattle.message_answers.specs.Messages.{Replied}
 use Rattle.bridge.specs.Calls.{messaged}
 use Rattle.unit.specs.Own.{framesSent}
-use Rattle.bridge.specs.Calls.{Call, FrameIn, Message, refusal, restAfter, asks, sends, performed, next, frameDone, framePassed, frameRefused, frameAnswer, Framing, Messaging}
+use Rattle.bridge.specs.Calls.{FrameIn, Message, refusal, restAfter, asks, sends, performed, next, frameDone, framePassed, frameRefused, frameAnswer, Framing, Messaging}
 use Rattle.message_answers.specs.Messages.{messageAnswer}
 use Rattle.refusals.proofs.Checks.{frame-goes, message-goes}
 use Rattle.unit.proofs.Ports.{each-at, each-none}
-use Rattle.record.proofs.Regions.{rows-four}
-use Rattle.list_commands.proofs.PairLoop.{pairs-twelve}
+use Rattle.unit.proofs.Count.{ports-bounds}
+use Rattle.record.proofs.Regions.{rows-long}
+use Rattle.list_commands.proofs.PairLoop.{pairs-long}
 use Rattle.bridge.proofs.Laws.{not-offered-back, not-sent-back, not-accepted-back, lost-at}
-use Rattle.demand_2.specs.Demand2.{restOf, pairOn, IsPair, NotBack, namesPair, Outside, OnlyNamed, SameTo, listOf, MayCreate, Demand2}
+use Rattle.demand_2.specs.Demand2.{unitIn, restOf, pairOn, IsPair, NotBack, namesPair, Outside, OnlyNamed, SameTo, listOf, MayCreate, Demand2}
 use Rattle.made.proofs.Made.{framing, messaging}
+use Rattle.demand_2.proofs.Pairs.{unit-in, pair-in}
 use Rattle.demand_2.proofs.Commands.{untouched, messaged-other}
 use Rattle.demand_2.proofs.Privacy.{messaged-told}
-use Rattle.demand_2.proofs.RoundTrip.{request-reported, sent-back}
+use Rattle.demand_2.proofs.RoundTrip.{request-reported, tool-port, sent-back}
 use Rattle.demand_2.proofs.Kept.{Standing, stands}
 
 -- ---- no frame goes back
@@ -44,83 +47,84 @@ no-bit : (q : ℕ) → bitAt 0 q ≡ false
 unfolding bitAt
 no-bit q = rw (zero-div (2 ^ q))
 
-module _ {words bytes after : List ℕ} {port id : ℕ} {r : FrameAnswer} (F : Framing 4 words after port id bytes r) where
+module _ {words bytes after : List ℕ} {port id : ℕ} {r : FrameAnswer} (F : Framing (portsOf words) words after port id bytes r) where
   frame-back : NotBack words port id bytes r after
   unfolding refusal next frameAnswer performed asks sends
-  frame-back = go (eqb (frameRefusal 4 (length words) port id (length bytes)) 0) refl
+  frame-back = go (eqb (frameRefusal (portsOf words) (length words) port id (length bytes)) 0) refl
     where
       m : Model
-      m = modelOf 4 words
+      m = unitIn words
 
-      done : frameRefusal 4 (length words) port id (length bytes) ≡ 0 → r ≡ framePassed 4 m port (frameOf id bytes) → modelOf 4 after ≡ performed 4 (length words) m (FrameIn port id bytes) → NotBack words port id bytes r after
+      done : frameRefusal (portsOf words) (length words) port id (length bytes) ≡ 0 → r ≡ framePassed (portsOf words) m port (frameOf id bytes) → modelOf (portsOf words) after ≡ performed (portsOf words) (length words) m (FrameIn port id bytes) → NotBack words port id bytes r after
       done z a s =
-          let g = frame-goes (length words) port id (length bytes) z in
-          let q : port - 1 < 4 = omega (arith, g .1, g .2) in
+          let g = frame-goes (portsOf words) (length words) port id (length bytes) z in
+          let q : port - 1 < portsOf words = omega (arith, g .1, g .2) in
           record {
-            row = inr (ap (λ w. rowAt w (port - 1)) s ∙ row-then q);
-            accepted = rw a (not-accepted-back 4 m port (frameOf id bytes) q);
-            lost = rw a (lost-at 4 m port (frameOf id bytes) (port - 1) q ∙ rw (not-offered-back 4 (m .rest) (port - 1) id));
+            row = inr (ap (λ w. rowAt w (port - 1)) (unit-in after (F .call .count) ∙ s) ∙ row-then q);
+            accepted = rw a (not-accepted-back (portsOf words) m port (frameOf id bytes) q);
+            lost = rw a (lost-at (portsOf words) m port (frameOf id bytes) (port - 1) q ∙ rw (not-offered-back (portsOf words) (m .rest) (port - 1) id));
           }
         where
-          row-then : port - 1 < 4 → rowAt (performed 4 (length words) m (FrameIn port id bytes)) (port - 1) ≡ joinAll size (rowAt m (port - 1)) (framesSent (frameDone (m .rest) port (frameOf id bytes) .sent))
+          row-then : port - 1 < portsOf words → rowAt (performed (portsOf words) (length words) m (FrameIn port id bytes)) (port - 1) ≡ joinAll size (rowAt m (port - 1)) (framesSent (frameDone (m .rest) port (frameOf id bytes) .sent))
           row-then q =
-              each-at (λ p row. rowNext priority size (asks (FrameIn port id bytes)) p row (sends 4 (m .rest) (FrameIn port id bytes) p)) 4 (m .rows) (port - 1) [] q (omega (arith, rows-four words))
-              ∙ rw (not-sent-back 4 (m .rest) port (frameOf id bytes))
+              each-at (λ p row. rowNext priority size (asks (FrameIn port id bytes)) p row (sends (portsOf words) (m .rest) (FrameIn port id bytes) p)) (portsOf words) (m .rows) (port - 1) [] q (omega (arith, rows-long (portsOf words) words))
+              ∙ rw (not-sent-back (portsOf words) (m .rest) port (frameOf id bytes))
 
-      go : (t : Bool) → eqb (frameRefusal 4 (length words) port id (length bytes)) 0 ≡ t → NotBack words port id bytes r after
+      go : (t : Bool) → eqb (frameRefusal (portsOf words) (length words) port id (length bytes)) 0 ≡ t → NotBack words port id bytes r after
       go true e = done (eqb-true _ 0 e) (rw e at (F .answer)) (rw e at (F .call .state))
       go false e =
-          let a : r ≡ frameRefused (frameRefusal 4 (length words) port id (length bytes)) = rw e at (F .answer) in
+          let a : r ≡ frameRefused (frameRefusal (portsOf words) (length words) port id (length bytes)) = rw e at (F .answer) in
           record {
-            row = inl (ap (λ w. rowAt w (port - 1)) (rw e at (F .call .state)));
+            row = inl (ap (λ w. rowAt w (port - 1)) (unit-in after (F .call .count) ∙ (rw e at (F .call .state))));
             accepted = rw a (no-bit (port - 1));
             lost = rw a (no-bit (port - 1));
           }
 
 -- ---- what a message changes
-module _ {words payload lent after back : List ℕ} {port requester : ℕ} {r : MessageAnswer} (M : Messaging 4 words after port requester payload lent back r) where
+module _ {words payload lent after back : List ℕ} {port requester : ℕ} {r : MessageAnswer} (M : Messaging (portsOf words) words after port requester payload lent back r) where
   abbrev outcome : Replied
-  outcome = messaged 4 (length words) (length lent) (modelOf 4 words .rest) port requester payload
+  outcome = messaged (portsOf words) (length words) (length lent) (restOf words) port requester payload
 
   -- a message that 1 to 8 refuse changes no word at all
-  message-words : (n : ℕ) → ((a b : ℕ) → IsPair a b → namesPair payload a b ≡ true → Outside a b n) → getD after n 0 ≡ getD words n 0
+  message-words : (n : ℕ) → ((a b : ℕ) → IsPair (portsOf words) a b → namesPair payload a b ≡ true → Outside (portsOf words) a b n) → getD after n 0 ≡ getD words n 0
   unfolding refusal messaged
   message-words n H = go (eqb number 0) refl
     where
       number : ℕ
-      number = messageRefusal 4 (length words) (length lent) (restOf words) port requester (length payload)
+      number = messageRefusal (portsOf words) (length words) (length lent) (restOf words) port requester (length payload)
 
       silent : eqb number 0 ≡ false → outcome .number ≡ number
       silent z = rw z
 
       go : (t : Bool) → eqb number 0 ≡ t → getD after n 0 ≡ getD words n 0
-      go true z = M .others n (untouched payload n port (message-goes (length words) (length lent) (restOf words) port requester (length payload) (eqb-true number 0 z) .2) H)
+      go true z = M .others n (untouched (portsOf words) payload n port (message-goes (portsOf words) (length words) (length lent) (restOf words) port requester (length payload) (eqb-true number 0 z) .2) H)
       go false z = ap (λ (w : List ℕ). getD w n 0) (M .call .refused (λ e. eqb-false number 0 z (sym (silent z) ∙ e)))
 
   message-named : OnlyNamed words port payload after
   unfolding refusal next performed restAfter asks sends
   message-named = go (eqb (outcome .number) 0) refl
     where
-      still : modelOf 4 after ≡ modelOf 4 words → OnlyNamed words port payload after
+      still : modelOf (portsOf words) after ≡ unitIn words → OnlyNamed words port payload after
       still s = record {
-        pairs = λ a b P e. ap (λ (w : Model). pairOn (w .rest) a b) s;
+        pairs = λ a b P e. pair-in after (M .call .count) a b ∙ ap (λ (w : Model). getD (w .rest .pairs) (pairAt (portsOf words) (a - 1) (b - 1)) clear) s;
         others = message-words;
         long = M .call .long;
-        own = ap (λ (w : Model). w .rest .own) s;
-        table = ap (λ (w : Model). w .rest .table) s;
-        rows = ap (λ (w : Model). w .rows) s;
+        own = ap (λ (w : Model). w .rest .own) (unit-in after (M .call .count) ∙ s);
+        table = ap (λ (w : Model). w .rest .table) (unit-in after (M .call .count) ∙ s);
+        rows = ap (λ (w : Model). w .rows) (unit-in after (M .call .count) ∙ s);
       }
 
-      changed : modelOf 4 after ≡ performed 4 (length words) (modelOf 4 words) (Message port requester payload (length lent)) → OnlyNamed words port payload after
+      changed : modelOf (portsOf words) after ≡ performed (portsOf words) (length words) (unitIn words) (Message port requester payload (length lent)) → OnlyNamed words port payload after
       changed s = record {
         pairs = λ a b P e.
-            ap (λ (w : Model). pairOn (w .rest) a b) s
-            ∙ messaged-other (restOf words) (pairs-twelve words) a b P (length words) (length lent) port requester payload e;
+            pair-in after (M .call .count) a b
+            ∙ ap (λ (w : Model). getD (w .rest .pairs) (pairAt (portsOf words) (a - 1) (b - 1)) clear) s
+            ∙ messaged-other (portsOf words) (restOf words) (pairs-long (portsOf words) words) a b P (length words) (length lent) port requester payload e;
         others = message-words;
         long = M .call .long;
-        own = ap (λ (w : Model). w .rest .own) s;
-        table = ap (λ (w : Model). w .rest .table) s;
-        rows = ap (λ (w : Model). w .rows) s ∙ each-none 4 (modelOf 4 words .rows);
+        own = ap (λ (w : Model). w .rest .own) (unit-in after (M .call .count) ∙ s);
+        table = ap (λ (w : Model). w .rest .table) (unit-in after (M .call .count) ∙ s);
+        rows = ap (λ (w : Model). w .rows) (unit-in after (M .call .count) ∙ s) ∙ each-none (portsOf words) (unitIn words .rows);
       }
 
       go : (t : Bool) → eqb (outcome .number) 0 ≡ t → OnlyNamed words port payload after
@@ -129,43 +133,43 @@ module _ {words payload lent after back : List ℕ} {port requester : ℕ} {r : 
 
 -- ---- what a tool is told
 module _ {words other payload lent after back after₂ back₂ : List ℕ} {p requester : ℕ} {r r₂ : MessageAnswer}
-    (least : 2 ≤ p) (most : p ≤ 4) (long : length words ≡ length other) (S : SameTo p (restOf words) (restOf other))
-    (M : Messaging 4 words after p requester payload lent back r) (N : Messaging 4 other after₂ p requester payload lent back₂ r₂) where
+    (least : 2 ≤ p) (most : p ≤ portsOf words) (same : portsOf words ≡ portsOf other) (long : length words ≡ length other) (S : SameTo p words other)
+    (M : Messaging (portsOf words) words after p requester payload lent back r) (N : Messaging (portsOf words) other after₂ p requester payload lent back₂ r₂) where
   same-told : (r ≡ r₂) × (back ≡ back₂)
   same-told =
-      let t = messaged-told p (restOf words) (restOf other) S requester payload least most (length words) (length lent) in
-      (M .answer ∙ rw (t .0, t .1, t .2 (modelOf 4 words .seen), long) (sym (N .answer)), M .written ∙ rw (t .2 (modelOf 4 words .seen), long) (sym (N .written)))
+      let t = messaged-told p words other same S requester payload least most (length words) (length lent) in
+      (M .answer ∙ rw (t .0, t .1, t .2 (unitIn words .seen), long) (sym (N .answer)), M .written ∙ rw (t .2 (unitIn words .seen), long) (sym (N .written)))
 
 -- ---- the round trip
 module _ {words payload lent after back other lent₂ after₂ back₂ : List ℕ} {port requester port₂ requester₂ a b : ℕ} {r r₂ : MessageAnswer}
-    (S : Standing words) (M : Messaging 4 words after port requester payload lent back r) (request : functionOf payload ≡ 0) (answered : r .refusal ≡ 0)
+    (S : Standing words) (M : Messaging (portsOf words) words after port requester payload lent back r) (request : functionOf payload ≡ 0) (answered : r .refusal ≡ 0)
     (some : 1 ≤ length (listOf words payload .entries))
-    (T : Standing other) (P : IsPair a b) (empty : pairOn (restOf other) a b ≡ clear) (may : MayCreate other port₂ requester₂ a b lent₂)
-    (N : Messaging 4 other after₂ port₂ requester₂ (6 ∷ (16 * a + b) ∷ drop 2 (take (r .length) back)) lent₂ back₂ r₂) where
+    (T : Standing other) (P : IsPair (portsOf other) a b) (empty : pairOn other a b ≡ clear) (may : MayCreate other port₂ requester₂ a b lent₂)
+    (N : Messaging (portsOf other) other after₂ port₂ requester₂ (6 ∷ (16 * a + b) ∷ drop 2 (take (r .length) back)) lent₂ back₂ r₂) where
   abbrev first-outcome : Replied
-  first-outcome = messaged 4 (length words) (length lent) (restOf words) port requester payload
+  first-outcome = messaged (portsOf words) (length words) (length lent) (restOf words) port requester payload
 
   answered-by : (o : Replied) (seen : Seen) → r ≡ messageAnswer o seen → back ≡ o .written seen ++ drop (length (o .written seen)) lent → take (r .length) back ≡ o .written seen
   answered-by o seen a b = rw (a, b) (take-at (o .written seen) (drop (length (o .written seen)) lent) (length (o .written seen)) refl)
 
-  restored-pair : (r₂ .refusal ≡ 0) × (pairOn (restOf after₂) a b ≡ listOf words payload)
+  restored-pair : (r₂ .refusal ≡ 0) × (pairOn after₂ a b ≡ listOf words payload)
   unfolding refusal next performed restAfter
   restored-pair =
       let z : first-outcome .number ≡ 0 = sym (ap (λ (a : MessageAnswer). a .refusal) (M .answer)) ∙ answered in
-      let R = request-reported (restOf words) requester payload (length words) (length lent) port request z in
+      let R = request-reported (portsOf words) (restOf words) requester payload (length words) (length lent) port request z in
       let f = listOf words payload in
-      let G = S .good (pairAt 4 (fromOf (pairOf payload) - 1) (toOf (pairOf payload) - 1)) in
-      let e : take (r .length) back ≡ listReply (pairOf payload) f = answered-by first-outcome (modelOf 4 words .seen) (M .answer) (M .written) ∙ R .written (modelOf 4 words .seen) in
-      let B = sent-back (restOf other) (pairs-twelve other) f (G .sound) (G .pgns) some (pairOf payload) a b P empty (length other) (length lent₂) port₂ requester₂ (T .long) (may .room) (may .port-is) (may .claimed) (may .address) (may .right) in
+      let G = S .good (pairAt (portsOf words) (fromOf (pairOf payload) - 1) (toOf (pairOf payload) - 1)) in
+      let e : take (r .length) back ≡ listReply (pairOf payload) f = answered-by first-outcome (unitIn words .seen) (M .answer) (M .written) ∙ R (unitIn words .seen) in
+      let B = sent-back (portsOf other) (ports-bounds other .1) (restOf other) (pairs-long (portsOf other) other) f (G .sound) (G .pgns) some (pairOf payload) a b P empty (length other) (length lent₂) port₂ requester₂ (T .long) (may .room) (tool-port (ports-bounds other .0) P (may .right)) (may .claimed) (may .address) (may .right) in
       finish (6 ∷ (16 * a + b) ∷ drop 2 (listReply (pairOf payload) f)) (rw e at N) (B .0) (B .1)
     where
-      finish : (payload₂ : List ℕ) → Messaging 4 other after₂ port₂ requester₂ payload₂ lent₂ back₂ r₂
-          → messaged 4 (length other) (length lent₂) (restOf other) port₂ requester₂ payload₂ .number ≡ 0
-          → getD (messaged 4 (length other) (length lent₂) (restOf other) port₂ requester₂ payload₂ .pairs) (pairAt 4 (a - 1) (b - 1)) clear ≡ listOf words payload
-          → (r₂ .refusal ≡ 0) × (pairOn (restOf after₂) a b ≡ listOf words payload)
+      finish : (payload₂ : List ℕ) → Messaging (portsOf other) other after₂ port₂ requester₂ payload₂ lent₂ back₂ r₂
+          → messaged (portsOf other) (length other) (length lent₂) (restOf other) port₂ requester₂ payload₂ .number ≡ 0
+          → getD (messaged (portsOf other) (length other) (length lent₂) (restOf other) port₂ requester₂ payload₂ .pairs) (pairAt (portsOf other) (a - 1) (b - 1)) clear ≡ listOf words payload
+          → (r₂ .refusal ≡ 0) × (pairOn after₂ a b ≡ listOf words payload)
       finish payload₂ N′ z p = (
         ap (λ (a : MessageAnswer). a .refusal) (N′ .answer) ∙ z,
-        ap (λ (w : Model). pairOn (w .rest) a b) (rw z at (N′ .call .state)) ∙ p,
+        pair-in after₂ (N′ .call .count) a b ∙ ap (λ (w : Model). getD (w .rest .pairs) (pairAt (portsOf other) (a - 1) (b - 1)) clear) (rw z at (N′ .call .state)) ∙ p,
       )
 
 -- ---- the whole
@@ -173,7 +177,7 @@ pub demand-2 : Demand2
 demand-2 = record {
   not-back = λ h. frame-back (framing h);
   only-named = λ h. message-named (messaging h);
-  private = λ least most long S h g. same-told least most long S (messaging h) (messaging g);
+  private = λ least most same long S h g. same-told least most same long S (messaging h) (rw (← same) at (messaging g));
   again = λ R h request answered some T P empty may g.
       restored-pair (stands R) (messaging h) request answered some (stands T) P empty may (messaging g);
 }

@@ -1,62 +1,78 @@
 -- Where the pair from a port to another stands among the pairs, and that a command changes the pairs that it names and no other. Assumes nothing.
 use mathlib.Core.Path.{_≡_, refl, sym, ap, _∙_}
-use mathlib.Core.Bool.{Bool, true, false, cond, not, _&&_, _||_, or-true}
-use mathlib.Core.List.{List, [], _∷_, _++_}
-use Prim.Native.Nat.{ℕ, zero, suc, _+_, _-_, _*_, _≤_, _<_}
-use native.Mathlib.Decide.{ℕ-discrete, decLt}
+use mathlib.Core.Bool.{Bool, true, false, cond, not, _&&_, _||_}
+use mathlib.Core.List.{List, _++_}
+use Prim.Native.Nat.{ℕ, suc, _+_, _-_, _*_, _≤_, _<_}
+use native.Mathlib.Decide.{decLt}
+use native.Mathlib.Nat.{mul-suc, mul-le-mul-left}
 use native.Mathlib.Omega.{arith}
-use borrow.Author.Tests.{eq-eqb, ne-eqb, lt-ltb, le-ltb, eqb-true, eqb-false, ltb-true, ltb-false, le-leb, leb-true}
+use borrow.Author.Tests.{eq-eqb, ne-eqb, lt-ltb, le-ltb, eqb-true, eqb-false, ltb-true, ltb-false, le-leb}
 use lib.ListN.{length, getD, take, drop, length-drop, List·getD-append}
 use lib.Seq.{length-take-le, getD-append-add, getD-take, getD-drop}
-use lib.Dec.{eqb, ltb, leb}
+use lib.Dec.{eqb, ltb}
 use Rattle.filter.specs.Filter.{Filter, clear}
-use Rattle.checks.proofs.Tests.{both}
+use Rattle.checks.proofs.Ports.{port-bounds}
 use Rattle.checks.specs.Ports.{isPort}
 use Rattle.network_message.specs.Decoding.{allPorts}
-use Rattle.network_message.specs.Commands.{reaches}
-use Rattle.filter_commands.specs.declared.pairs.Change.{Change}
+use Rattle.network_message.specs.Commands.{reaches, Ports}
+use Rattle.message_answers.proofs.Replies.{one-port}
 use Rattle.unit.specs.Ports.{each}
-use Rattle.unit.specs.Model.{pairAt}
-use Rattle.list_commands.specs.Commands.{targetOf, firstPair, names, changeAt, changeNamed, listRefusal, commanded}
-use Rattle.filter_commands.specs.Pairs.{changeOf}
+use Rattle.unit.specs.Count.{portsOf, pairCount}
+use Rattle.unit.specs.Model.{pairAt, modelOf}
+use Rattle.list_commands.specs.Commands.{targetOf, firstPair, names, changeAt, changeNamed}
+use Rattle.unit.proofs.Count.{row-below, pair-below}
 use Rattle.unit.proofs.Ports.{each-at, each-later}
-use Rattle.demand_2.specs.Demand2.{IsPair}
+use Rattle.demand_2.specs.Demand2.{unitIn, pairOn, IsPair}
 
-pub port-in : (a : ℕ) → isPort 4 a ≡ true → (1 ≤ a) × (a ≤ 4)
+-- ---- a record read with a number of ports that is its own
+module _ (words : List ℕ) {ports : ℕ} (same : portsOf words ≡ ports) where
+  pub unit-in : unitIn words ≡ modelOf ports words
+  unit-in = ap (λ n. modelOf n words) same
+
+  pub pair-in : (a b : ℕ) → pairOn words a b ≡ getD (modelOf ports words .rest .pairs) (pairAt ports (a - 1) (b - 1)) clear
+  pair-in a b = ap (λ n. getD (modelOf n words .rest .pairs) (pairAt n (a - 1) (b - 1)) clear) same
+
+-- ---- pairs
+-- a pair that a command names alone
+pub pair-is : {ports from to : ℕ} → ports ≤ 8 → Ports ports from to → to ≤ ports → IsPair ports from to
 unfolding isPort
-port-in a e = let p = both (leb 1 a) (leb a 4) e in (leb-true 1 a (p .0), leb-true a 4 (p .1))
+pair-is {ports} {from} {to} few ps one = record {
+  from = rw (le-leb 1 from (ps .least), le-leb from ports (ps .most));
+  to = rw (le-leb 1 to (one-port few ps one), le-leb to ports one);
+  apart = ps .apart;
+}
 
 -- which of the pairs from port a leads to port b
 abbrev pub rank : ℕ → ℕ → ℕ
 rank a b = cond (ltb (b - 1) (a - 1)) (b - 1) (b - 1 - 1)
 
-module _ (a b : ℕ) (P : IsPair a b) where
-  pub at-is : pairAt 4 (a - 1) (b - 1) ≡ firstPair 4 a + rank a b
+module _ (ports a b : ℕ) (P : IsPair ports a b) where
+  pub at-is : pairAt ports (a - 1) (b - 1) ≡ firstPair ports a + rank a b
   at-is = refl
 
-  pub rank-small : rank a b < 3
+  pub rank-small : rank a b < ports - 1
   rank-small = go (ltb (b - 1) (a - 1)) refl
     where
-      go : (t : Bool) → ltb (b - 1) (a - 1) ≡ t → cond t (b - 1) (b - 1 - 1) < 3
-      go true e = omega (arith, ltb-true (b - 1) (a - 1) e, port-in a (P .from), port-in b (P .to))
-      go false e = omega (arith, port-in b (P .to))
+      go : (t : Bool) → ltb (b - 1) (a - 1) ≡ t → cond t (b - 1) (b - 1 - 1) < ports - 1
+      go true e = omega (arith, ltb-true (b - 1) (a - 1) e, port-bounds ports a (P .from), port-bounds ports b (P .to))
+      go false e = omega (arith, ltb-false (b - 1) (a - 1) e, port-bounds ports a (P .from), port-bounds ports b (P .to), P .apart)
 
   -- and that it does
   pub rank-target : suc (targetOf (a - 1) (rank a b)) ≡ b
   rank-target = go (ltb (b - 1) (a - 1)) refl
     where
       go : (t : Bool) → ltb (b - 1) (a - 1) ≡ t → suc (targetOf (a - 1) (cond t (b - 1) (b - 1 - 1))) ≡ b
-      go true e = rw e (omega (arith, port-in b (P .to)))
+      go true e = rw e (omega (arith, port-bounds ports b (P .to)))
       go false e =
-          let l : a - 1 ≤ b - 1 - 1 = omega (arith, ltb-false (b - 1) (a - 1) e, port-in a (P .from), port-in b (P .to), P .apart) in
-          rw (le-ltb (b - 1 - 1) (a - 1) l) (omega (arith, port-in b (P .to), port-in a (P .from)))
+          let l : a - 1 ≤ b - 1 - 1 = omega (arith, ltb-false (b - 1) (a - 1) e, port-bounds ports a (P .from), port-bounds ports b (P .to), P .apart) in
+          rw (le-ltb (b - 1 - 1) (a - 1) l) (omega (arith, port-bounds ports b (P .to), port-bounds ports a (P .from)))
 
   -- it is named among them exactly if the rules name it
-  pub names-is : (to : ℕ) → names a to (rank a b) ≡ reaches 4 a to b
+  pub names-is : (to : ℕ) → names a to (rank a b) ≡ reaches ports a to b
   unfolding names reaches
   names-is to = rw rank-target (go (eqb to allPorts) refl)
     where
-      go : (t : Bool) → eqb to allPorts ≡ t → t || eqb to b ≡ cond t (isPort 4 b && not (eqb b a)) (eqb b to)
+      go : (t : Bool) → eqb to allPorts ≡ t → t || eqb to b ≡ cond t (isPort ports b && not (eqb b a)) (eqb b to)
       go true e = rw (P .to, ne-eqb b a (λ h. P .apart (sym h)))
       go false e = turned (eqb to b) refl
         where
@@ -64,80 +80,96 @@ module _ (a b : ℕ) (P : IsPair a b) where
           turned true h = rw (eq-eqb b to (sym (eqb-true to b h)))
           turned false h = rw (ne-eqb b to (λ z. eqb-false to b h (sym z)))
 
+-- places among the pairs that are equal are from the same port
+row-is : (ports : ℕ) {a b j k : ℕ} → j < ports - 1 → k < ports - 1 → 1 ≤ a → 1 ≤ b → firstPair ports a + j ≡ firstPair ports b + k → a ≡ b
+row-is ports {a} {b} {j} {k} l m one other e =
+    elim (decLt a b) [
+      | yes h ↦ absurd (omega (arith, later a b one h))
+      | no h ↦ elim (decLt b a) [
+        | yes g ↦ absurd (omega (arith, later b a other g))
+        | no g ↦ omega arith
+      ]
+    ]
+  where
+    later : (x y : ℕ) → 1 ≤ x → x < y → (ports - 1) * (x - 1) + (ports - 1) ≤ (ports - 1) * (y - 1)
+    later x y least h =
+        let row : (ports - 1) * suc (x - 1) ≤ (ports - 1) * (y - 1) = mul-le-mul-left (ports - 1) (omega arith) in
+        omega (arith, row, mul-suc (ports - 1) (x - 1))
+
 -- ---- a change of the pairs that are named
-module _ (from to : ℕ) (change : Filter → Filter) (pairs : List Filter) (long : length pairs ≡ 12) (low : 1 ≤ from) (high : from ≤ 4) where
-  head-long : length (take (firstPair 4 from) pairs) ≡ firstPair 4 from
-  head-long = length-take-le (firstPair 4 from) pairs (omega arith)
+module _ (ports from to : ℕ) (change : Filter → Filter) (pairs : List Filter) (long : length pairs ≡ pairCount ports) (low : 1 ≤ from) (high : from ≤ ports) where
+  head-long : length (take (firstPair ports from) pairs) ≡ firstPair ports from
+  head-long = length-take-le (firstPair ports from) pairs (rw long (row-below {p = from - 1} (omega arith)))
 
   abbrev behind : List Filter
-  behind = each (changeAt change from to) 3 (drop (firstPair 4 from) pairs)
+  behind = each (changeAt change from to) (ports - 1) (drop (firstPair ports from) pairs)
 
   -- the kth from that port
-  pub changed-at : (k : ℕ) → k < 3 → getD (changeNamed 4 3 change from to pairs) (firstPair 4 from + k) clear ≡ changeAt change from to k (getD pairs (firstPair 4 from + k) clear)
+  pub changed-at : (k : ℕ) → k < ports - 1 → getD (changeNamed ports (ports - 1) change from to pairs) (firstPair ports from + k) clear ≡ changeAt change from to k (getD pairs (firstPair ports from + k) clear)
   unfolding changeNamed
   changed-at k l =
-      by-length (firstPair 4 from) head-long
-      ∙ each-at (changeAt change from to) 3 (drop (firstPair 4 from) pairs) k clear l (simp length-drop (omega arith))
-      ∙ rw (getD-drop (firstPair 4 from) pairs k clear)
+      by-length (firstPair ports from) head-long
+      ∙ each-at (changeAt change from to) (ports - 1) (drop (firstPair ports from) pairs) k clear l (simp length-drop (omega (arith, pair-below {ports = ports} {p = from - 1} {k = k} (omega arith) l)))
+      ∙ rw (getD-drop (firstPair ports from) pairs k clear)
     where
-      by-length : (s : ℕ) → length (take (firstPair 4 from) pairs) ≡ s → getD (take (firstPair 4 from) pairs ++ behind) (s + k) clear ≡ getD behind k clear
-      by-length s e = rw (← e) (getD-append-add (take (firstPair 4 from) pairs) behind k clear)
+      by-length : (s : ℕ) → length (take (firstPair ports from) pairs) ≡ s → getD (take (firstPair ports from) pairs ++ behind) (s + k) clear ≡ getD behind k clear
+      by-length s e = rw (← e) (getD-append-add (take (firstPair ports from) pairs) behind k clear)
 
   -- one from a lower port, or from a higher one
-  below-still : (i : ℕ) → i < firstPair 4 from → getD (changeNamed 4 3 change from to pairs) i clear ≡ getD pairs i clear
+  below-still : (i : ℕ) → i < firstPair ports from → getD (changeNamed ports (ports - 1) change from to pairs) i clear ≡ getD pairs i clear
   unfolding changeNamed
   below-still i l =
-      List·getD-append (take (firstPair 4 from) pairs) behind clear i (omega (arith, head-long))
-      ∙ getD-take (firstPair 4 from) pairs i clear l
+      List·getD-append (take (firstPair ports from) pairs) behind clear i (omega (arith, head-long))
+      ∙ getD-take (firstPair ports from) pairs i clear l
 
-  above-still : (k : ℕ) → 3 ≤ k → getD (changeNamed 4 3 change from to pairs) (firstPair 4 from + k) clear ≡ getD pairs (firstPair 4 from + k) clear
+  above-still : (k : ℕ) → ports - 1 ≤ k → getD (changeNamed ports (ports - 1) change from to pairs) (firstPair ports from + k) clear ≡ getD pairs (firstPair ports from + k) clear
   unfolding changeNamed
   above-still k l =
-      by-length (firstPair 4 from) head-long
-      ∙ each-later (changeAt change from to) 3 (drop (firstPair 4 from) pairs) k clear l
-      ∙ getD-drop (firstPair 4 from) pairs k clear
+      by-length (firstPair ports from) head-long
+      ∙ each-later (changeAt change from to) (ports - 1) (drop (firstPair ports from) pairs) k clear l
+      ∙ getD-drop (firstPair ports from) pairs k clear
     where
-      by-length : (s : ℕ) → length (take (firstPair 4 from) pairs) ≡ s → getD (take (firstPair 4 from) pairs ++ behind) (s + k) clear ≡ getD behind k clear
-      by-length s e = rw (← e) (getD-append-add (take (firstPair 4 from) pairs) behind k clear)
+      by-length : (s : ℕ) → length (take (firstPair ports from) pairs) ≡ s → getD (take (firstPair ports from) pairs ++ behind) (s + k) clear ≡ getD behind k clear
+      by-length s e = rw (← e) (getD-append-add (take (firstPair ports from) pairs) behind k clear)
 
-  pub else-still : (i : ℕ) → ((k : ℕ) → k < 3 → i ≡ firstPair 4 from + k → ⊥) → getD (changeNamed 4 3 change from to pairs) i clear ≡ getD pairs i clear
+  pub else-still : (i : ℕ) → ((k : ℕ) → k < ports - 1 → i ≡ firstPair ports from + k → ⊥) → getD (changeNamed ports (ports - 1) change from to pairs) i clear ≡ getD pairs i clear
   else-still i h =
-      elim (decLt i (firstPair 4 from)) [
+      elim (decLt i (firstPair ports from)) [
         | yes l ↦ below-still i l
         | no l ↦
-            let e : i ≡ firstPair 4 from + (i - firstPair 4 from) = omega arith in
-            let far : 3 ≤ i - firstPair 4 from = elim (decLt (i - firstPair 4 from) 3) [
-              | yes s ↦ absurd (h (i - firstPair 4 from) s e)
+            let e : i ≡ firstPair ports from + (i - firstPair ports from) = omega arith in
+            let far : ports - 1 ≤ i - firstPair ports from = elim (decLt (i - firstPair ports from) (ports - 1)) [
+              | yes s ↦ absurd (h (i - firstPair ports from) s e)
               | no s ↦ omega arith
             ] in
-            there (i - firstPair 4 from) e far
+            there (i - firstPair ports from) e far
       ]
     where
-      there : (k : ℕ) → i ≡ firstPair 4 from + k → 3 ≤ k → getD (changeNamed 4 3 change from to pairs) i clear ≡ getD pairs i clear
+      there : (k : ℕ) → i ≡ firstPair ports from + k → ports - 1 ≤ k → getD (changeNamed ports (ports - 1) change from to pairs) i clear ≡ getD pairs i clear
       there k e far = rw e (above-still k far)
 
   -- the pair from a to b
-  pub changed-pair : (a b : ℕ) (P : IsPair a b) → getD (changeNamed 4 3 change from to pairs) (pairAt 4 (a - 1) (b - 1)) clear ≡ cond (eqb a from && reaches 4 from to b) (change (getD pairs (pairAt 4 (a - 1) (b - 1)) clear)) (getD pairs (pairAt 4 (a - 1) (b - 1)) clear)
+  pub changed-pair : (a b : ℕ) (P : IsPair ports a b) → getD (changeNamed ports (ports - 1) change from to pairs) (pairAt ports (a - 1) (b - 1)) clear ≡ cond (eqb a from && reaches ports from to b) (change (getD pairs (pairAt ports (a - 1) (b - 1)) clear)) (getD pairs (pairAt ports (a - 1) (b - 1)) clear)
   changed-pair a b P = go (eqb a from) refl
     where
-      here : a ≡ from → getD (changeNamed 4 3 change from to pairs) (pairAt 4 (a - 1) (b - 1)) clear ≡ cond (reaches 4 from to b) (change (getD pairs (pairAt 4 (a - 1) (b - 1)) clear)) (getD pairs (pairAt 4 (a - 1) (b - 1)) clear)
-      here e = rw e (changed-at (rank from b) (rank-small from b (rw e at P)) ∙ rw (names-is from b (rw e at P) to))
+      here : a ≡ from → getD (changeNamed ports (ports - 1) change from to pairs) (pairAt ports (a - 1) (b - 1)) clear ≡ cond (reaches ports from to b) (change (getD pairs (pairAt ports (a - 1) (b - 1)) clear)) (getD pairs (pairAt ports (a - 1) (b - 1)) clear)
+      here e = rw e (changed-at (rank from b) (rank-small ports from b (rw e at P)) ∙ rw (names-is ports from b (rw e at P) to))
 
-      go : (t : Bool) → eqb a from ≡ t → getD (changeNamed 4 3 change from to pairs) (pairAt 4 (a - 1) (b - 1)) clear ≡ cond (t && reaches 4 from to b) (change (getD pairs (pairAt 4 (a - 1) (b - 1)) clear)) (getD pairs (pairAt 4 (a - 1) (b - 1)) clear)
+      go : (t : Bool) → eqb a from ≡ t → getD (changeNamed ports (ports - 1) change from to pairs) (pairAt ports (a - 1) (b - 1)) clear ≡ cond (t && reaches ports from to b) (change (getD pairs (pairAt ports (a - 1) (b - 1)) clear)) (getD pairs (pairAt ports (a - 1) (b - 1)) clear)
       go true e = here (eqb-true a from e)
       go false e =
-          else-still (pairAt 4 (a - 1) (b - 1))
-          (λ k l h. eqb-false a from e (omega (arith, h, rank-small a b P, port-in a (P .from))))
+          else-still (pairAt ports (a - 1) (b - 1))
+          (λ k l h. eqb-false a from e (row-is ports (rank-small ports a b P) l (port-bounds ports a (P .from) .0) low h))
 
 -- ---- every pair from a port leads to a port
-module _ (from k : ℕ) (low : 1 ≤ from) (high : from ≤ 4) (l : k < 3) where
+module _ (ports from k : ℕ) (low : 1 ≤ from) (high : from ≤ ports) (l : k < ports - 1) where
   abbrev pub target : ℕ
   target = suc (targetOf (from - 1) k)
 
-  target-in : (1 ≤ target) × (target ≤ 4) × (from ≡ target → ⊥) × (rank from target ≡ k)
+  target-in : (1 ≤ target) × (target ≤ ports) × (from ≡ target → ⊥) × (rank from target ≡ k)
   target-in = go (ltb k (from - 1)) refl
     where
-      go : (t : Bool) → ltb k (from - 1) ≡ t → (1 ≤ suc (cond t k (suc k))) × (suc (cond t k (suc k)) ≤ 4) × (from ≡ suc (cond t k (suc k)) → ⊥) × (cond (ltb (suc (cond t k (suc k)) - 1) (from - 1)) (suc (cond t k (suc k)) - 1) (suc (cond t k (suc k)) - 1 - 1) ≡ k)
+      go : (t : Bool) → ltb k (from - 1) ≡ t → (1 ≤ suc (cond t k (suc k))) × (suc (cond t k (suc k)) ≤ ports) × (from ≡ suc (cond t k (suc k)) → ⊥) × (cond (ltb (suc (cond t k (suc k)) - 1) (from - 1)) (suc (cond t k (suc k)) - 1) (suc (cond t k (suc k)) - 1 - 1) ≡ k)
       go true e =
           let s = ltb-true k (from - 1) e in
           (omega arith, omega arith, (λ h. omega arith), rw (lt-ltb (suc k - 1) (from - 1) (omega arith)) (omega arith))
@@ -145,16 +177,16 @@ module _ (from k : ℕ) (low : 1 ≤ from) (high : from ≤ 4) (l : k < 3) where
           let s = ltb-false k (from - 1) e in
           (omega arith, omega arith, (λ h. omega arith), rw (le-ltb (suc (suc k) - 1) (from - 1) (omega arith)) (omega arith))
 
-  pub target-pair : IsPair from target
+  pub target-pair : IsPair ports from target
   unfolding isPort
   target-pair = record {
-    from = rw (le-leb 1 from low, le-leb from 4 high);
-    to = rw (le-leb 1 target (target-in .0), le-leb target 4 (target-in .1));
+    from = rw (le-leb 1 from low, le-leb from ports high);
+    to = rw (le-leb 1 target (target-in .0), le-leb target ports (target-in .1));
     apart = target-in .2;
   }
 
   pub target-rank : rank from target ≡ k
   target-rank = target-in .3
 
-  pub target-at : pairAt 4 (from - 1) (target - 1) ≡ firstPair 4 from + k
-  target-at = ap (λ n. firstPair 4 from + n) (target-in .3)
+  pub target-at : pairAt ports (from - 1) (target - 1) ≡ firstPair ports from + k
+  target-at = ap (λ n. firstPair ports from + n) (target-in .3)

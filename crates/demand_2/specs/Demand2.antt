@@ -19,33 +19,37 @@ use Rattle.bridge.specs.declared.FrameAnswer.{FrameAnswer}
 use Rattle.message_answers.specs.declared.MessageAnswer.{MessageAnswer}
 use Rattle.unit.specs.declared.Claim.the-variants.{Claimed}
 use Rattle.unit.specs.Ports.{bitAt}
-use Rattle.unit.specs.Model.{Rest, rowAt, pairAt, pairsFrom, modelOf}
+use Rattle.unit.specs.Count.{portsOf}
+use Rattle.unit.specs.Model.{Model, Rest, rowAt, pairAt, pairsFrom, modelOf}
 use Rattle.bridge.specs.Calls.{frameOf}
 use Rattle.unit.specs.Own.{framesSent}
 use Rattle.bridge.specs.Calls.{Call, frameDone}
 use Rattle.made.specs.Made.{Powered, Arrived, Handed}
 use Rattle.demand_3.specs.Demand3.{Made, Answer}
 
--- what a record means besides its rows
+-- what a record means, with the number of ports that it holds
+abbrev pub unitIn : List ℕ → Model
+unitIn words = modelOf (portsOf words) words
+
 abbrev pub restOf : List ℕ → Rest
-restOf words = modelOf 4 words .rest
+restOf words = unitIn words .rest
 
 -- the filter of the pair from port a to port b
-abbrev pub pairOn : Rest → ℕ → ℕ → Filter
-pairOn rest a b = getD (rest .pairs) (pairAt 4 (a - 1) (b - 1)) clear
+abbrev pub pairOn : List ℕ → ℕ → ℕ → Filter
+pairOn words a b = getD (restOf words .pairs) (pairAt (portsOf words) (a - 1) (b - 1)) clear
 
--- two ports that make a pair
-pub record IsPair (a b : ℕ) : Type 0 where
-  pub from : isPort 4 a ≡ true
-  pub to : isPort 4 b ≡ true
+-- two ports that make a pair, in a unit of that many
+pub record IsPair (ports a b : ℕ) : Type 0 where
+  pub from : isPort ports a ≡ true
+  pub to : isPort ports b ≡ true
   pub apart : a ≡ b → ⊥
 
 -- ---- "No frame is sent back to its arrival port."
 -- The row there is as it was, but for the unit's own frame, which asks no pair; and the arrival port is never named as accepted or lost.
 pub record NotBack (words : List ℕ) (port id : ℕ) (bytes : List ℕ) (r : FrameAnswer) (after : List ℕ) : Type 0 where
-  pub row : (rowAt (modelOf 4 after) (port - 1) ≡ rowAt (modelOf 4 words) (port - 1))
-      ⊎ (rowAt (modelOf 4 after) (port - 1)
-      ≡ joinAll size (rowAt (modelOf 4 words) (port - 1)) (framesSent (frameDone (restOf words) port (frameOf id bytes) .sent)))
+  pub row : (rowAt (unitIn after) (port - 1) ≡ rowAt (unitIn words) (port - 1))
+      ⊎ (rowAt (unitIn after) (port - 1)
+      ≡ joinAll size (rowAt (unitIn words) (port - 1)) (framesSent (frameDone (restOf words) port (frameOf id bytes) .sent)))
   pub accepted : bitAt (r .accepted) (port - 1) ≡ false
   pub lost : bitAt (r .lost) (port - 1) ≡ false
 
@@ -57,41 +61,41 @@ namesPair payload a b =
     listed (getD payload 0 0) (2 ∷ 3 ∷ 4 ∷ 6 ∷ []) && (eqb a (getD payload 1 0 / 16) && (eqb (getD payload 1 0 % 16) 15 || eqb b (getD payload 1 0 % 16)))
 
 -- word n of the record lies outside the block of the pair from a to b
-abbrev pub Outside : ℕ → ℕ → ℕ → Type 0
-Outside a b n =
-    (n < pairsFrom + filterLength * pairAt 4 (a - 1) (b - 1)) ⊎ (pairsFrom + filterLength * pairAt 4 (a - 1) (b - 1) + filterLength ≤ n)
+abbrev pub Outside : ℕ → ℕ → ℕ → ℕ → Type 0
+Outside ports a b n =
+    (n < pairsFrom ports + filterLength * pairAt ports (a - 1) (b - 1)) ⊎ (pairsFrom ports + filterLength * pairAt ports (a - 1) (b - 1) + filterLength ≤ n)
 
 pub record OnlyNamed (words : List ℕ) (port : ℕ) (payload after : List ℕ) : Type 0 where
-  pub pairs : (a b : ℕ) → IsPair a b → namesPair payload a b ≡ false → pairOn (restOf after) a b ≡ pairOn (restOf words) a b
+  pub pairs : (a b : ℕ) → IsPair (portsOf words) a b → namesPair payload a b ≡ false → pairOn after a b ≡ pairOn words a b
   -- word for word: every word outside the blocks of the pairs that are named is as it was, those too that no rule reads
-  pub others : (n : ℕ) → ((a b : ℕ) → IsPair a b → namesPair payload a b ≡ true → Outside a b n) → getD after n 0 ≡ getD words n 0
+  pub others : (n : ℕ) → ((a b : ℕ) → IsPair (portsOf words) a b → namesPair payload a b ≡ true → Outside (portsOf words) a b n) → getD after n 0 ≡ getD words n 0
   pub long : length after ≡ length words
   -- nor does it change anything else
   pub own : restOf after .own ≡ restOf words .own
   pub table : restOf after .table ≡ restOf words .table
-  pub rows : modelOf 4 after .rows ≡ modelOf 4 words .rows
+  pub rows : unitIn after .rows ≡ unitIn words .rows
 
 -- ---- "For a tool on port p of 2 to 4, with the unit's claim state and address given, reply and refusal are the same whatever the lists and address tables
--- hold beyond p's own pairs and the addresses recorded on p."
-pub record SameTo (p : ℕ) (x y : Rest) : Type 0 where
-  pub claim : x .own .claim ≡ y .own .claim
-  pub address : x .own .address ≡ y .own .address
-  pub pairs : (a b : ℕ) → IsPair a b → (a ≡ p) ⊎ (b ≡ p) → pairOn x a b ≡ pairOn y a b
+-- hold beyond p's own pairs and the addresses recorded on p." With another number of ports p is of 2 to that number.
+pub record SameTo (p : ℕ) (x y : List ℕ) : Type 0 where
+  pub claim : restOf x .own .claim ≡ restOf y .own .claim
+  pub address : restOf x .own .address ≡ restOf y .own .address
+  pub pairs : (a b : ℕ) → IsPair (portsOf x) a b → (a ≡ p) ⊎ (b ≡ p) → pairOn x a b ≡ pairOn y a b
   -- an address is held on p under a NAME in the one exactly if in the other
-  pub table : (a name : ℕ) → a < 254 → (getD (x .table) a Free ≡ Held p name) ↔ (getD (y .table) a Free ≡ Held p name)
+  pub table : (a name : ℕ) → a < 254 → (getD (restOf x .table) a Free ≡ Held p name) ↔ (getD (restOf y .table) a Free ≡ Held p name)
 
 -- ---- "A reported list with entries, sent back as Create to a cleared pair, gives that list again."
--- a record that a power-on and then any list of calls led to, made by the real functions, of which the contracts alone are known
+-- a record that a power-on, with any count of ports, and then any list of calls led to, made by the real functions, of which the contracts alone are known
 pub data Reached : List ℕ → Type 0 where
-  reached : {w u v : List ℕ} {name preferred : ℕ} {ks : List Call} {xs : List Answer} → Powered w name preferred 0 u → Run Made u ks xs v → Reached v
+  reached : {w u v : List ℕ} {name preferred count r : ℕ} {ks : List Call} {xs : List Answer}
+      → Powered w name preferred count r u → (r ≡ 2 → ⊥) → Run Made u ks xs v → Reached v
 
 -- the list of the pair that a payload names, which is the one that a Request reports
 abbrev pub listOf : List ℕ → List ℕ → Filter
-listOf words payload = pairOn (restOf words) (getD payload 1 0 / 16) (getD payload 1 0 % 16)
+listOf words payload = pairOn words (getD payload 1 0 / 16) (getD payload 1 0 % 16)
 
--- A tool that may send a Create for the pair from a to b to this unit: 1, 2, 6, 8 and 11 don't apply.
+-- A tool that may send a Create for the pair from a to b to this unit: 1, 2, 6, 8 and 11 don't apply. (Its port is 1, a or b, so the unit has it.)
 pub record MayCreate (words : List ℕ) (port requester a b : ℕ) (lent : List ℕ) : Type 0 where
-  pub port-is : isPort 4 port ≡ true
   pub room : 1785 ≤ length lent
   pub claimed : restOf words .own .claim ≡ Claimed
   pub address : requester < 254
@@ -104,14 +108,14 @@ pub record Demand2 : Type 0 where
       → OnlyNamed words port payload after
   -- two records that a tool on port p cannot tell apart, the same message, the same buffer
   pub private : {words other payload lent after back after₂ back₂ : List ℕ} {p requester : ℕ} {r r₂ : MessageAnswer}
-      → 2 ≤ p → p ≤ 4 → length words ≡ length other → SameTo p (restOf words) (restOf other)
+      → 2 ≤ p → p ≤ portsOf words → portsOf words ≡ portsOf other → length words ≡ length other → SameTo p words other
       → Handed words p requester payload lent r after back → Handed other p requester payload lent r₂ after₂ back₂
       → (r ≡ r₂) × (back ≡ back₂)
-  -- A unit, after any list of calls, answered a Request with a list that has entries. What it wrote is sent back to a unit, this or another, after any list
-  -- of calls, as Create for a pair, that one or another, which is cleared there: 6, the pair byte, and the mode and the PGNs as they were reported. It is
-  -- done, and the pair has that list and that mode.
+  -- A unit, after any list of calls, answered a Request with a list that has entries. What it wrote is sent back to a unit, this or another, of as many ports
+  -- or not, after any list of calls, as Create for a pair, that one or another, which is cleared there: 6, the pair byte, and the mode and the PGNs as they
+  -- were reported. It is done, and the pair has that list and that mode.
   pub again : {words payload lent after back other lent₂ after₂ back₂ : List ℕ} {port requester port₂ requester₂ a b : ℕ} {r r₂ : MessageAnswer}
       → Reached words → Handed words port requester payload lent r after back → getD payload 0 0 ≡ 0 → r .refusal ≡ 0 → 1 ≤ length (listOf words payload .entries)
-      → Reached other → IsPair a b → pairOn (restOf other) a b ≡ clear → MayCreate other port₂ requester₂ a b lent₂
+      → Reached other → IsPair (portsOf other) a b → pairOn other a b ≡ clear → MayCreate other port₂ requester₂ a b lent₂
       → Handed other port₂ requester₂ (6 ∷ (16 * a + b) ∷ drop 2 (take (r .length) back)) lent₂ r₂ after₂ back₂
-      → (r₂ .refusal ≡ 0) × (pairOn (restOf after₂) a b ≡ listOf words payload)
+      → (r₂ .refusal ≡ 0) × (pairOn after₂ a b ≡ listOf words payload)

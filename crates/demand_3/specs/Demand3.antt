@@ -28,8 +28,8 @@ use Rattle.bridge.specs.declared.TakeAnswer.the-variants.{Took}
 use Rattle.message_answers.specs.declared.MessageAnswer.{MessageAnswer}
 use Rattle.bridge.specs.declared.StartAnswer.{StartAnswer}
 use Rattle.bridge.specs.declared.UnitAnswer.{UnitAnswer}
-use Rattle.bridge.specs.declared.UnitAnswer.the-variants.{Told}
 use Rattle.unit.specs.declared.Unit.{Unit}
+use Rattle.unit.specs.Count.{countOf}
 use Rattle.unit.specs.Ports.{bitAt}
 use Rattle.unit.specs.Model.{Rest, Model, rowAt, recordLength, modelOf}
 use Rattle.refusals.specs.Refusals.{quietRefusal}
@@ -38,7 +38,7 @@ use Rattle.forwarding.specs.Forwarding.{sentIf}
 use Rattle.bridge.specs.Calls.{messaged}
 use Rattle.unit.specs.Own.{framesSent}
 use Rattle.claims.specs.Claims.{started}
-use Rattle.bridge.specs.Calls.{Call, FrameIn, TakeOut, Message, Start, Quiet, ReadUnit, refusal, restAfter, frameDone, frameAnswer, takeAnswer, takeNumber, startAnswer, unitAnswer}
+use Rattle.bridge.specs.Calls.{Call, FrameIn, TakeOut, Message, Start, Quiet, ReadUnit, refusal, restAfter, frameDone, frameAnswer, takeAnswer, takeNumber, startAnswer, unitAnswer, readNumber}
 use Rattle.message_answers.specs.Messages.{messageAnswer}
 use Rattle.unit.specs.PowerOn.{fresh}
 use Rattle.bridge.specs.Calls.{next as nextOf, asks as asksOf}
@@ -76,83 +76,82 @@ pub record EveryCall : Type 0 where
   pub tells : {w : List ℕ} {r : UnitAnswer} → made.Told w r → Made w ReadUnit (ToUnit r) w
 
 -- ---- 2. the book
-abbrev pub ports : ℕ
-ports = 4
+-- All of it is over the number of ports, chosen at power-on.
+module _ (ports : ℕ) where
+  -- the words of a record
+  abbrev pub words : ℕ
+  words = recordLength ports
 
--- the words of a record
-abbrev pub words : ℕ
-words = recordLength ports
+  -- What a call does to the book, by its arguments alone. A call that `refusal` gives a number changes nothing (`nextOf`).
+  abbrev pub next : Model → Call → Model
+  next m k = nextOf ports words m k
 
--- What a call does to the book, by its arguments alone. A call that `refusal` gives a number changes nothing (`nextOf`).
-abbrev pub next : Model → Call → Model
-next m k = nextOf ports words m k
+  -- What it answers.
+  unfoldable pub answer : Model → Call → Answer
+  answer m (FrameIn port id bytes) = ToFrame (frameAnswer ports words m port id bytes)
+  answer m (TakeOut port) = ToTake (takeAnswer ports words m port)
+  answer m (Message port requester payload lentReply) =
+      ToMessage (messageAnswer (messaged ports words lentReply (m .rest) port requester payload) (m .seen))
+      (messaged ports words lentReply (m .rest) port requester payload .written (m .seen))
+  answer m Start = ToStart (startAnswer ports words m)
+  answer m Quiet = ToQuiet (quietRefusal ports words (m .rest .own))
+  answer m ReadUnit = ToUnit (unitAnswer ports words m)
 
--- What it answers.
-unfoldable pub answer : Model → Call → Answer
-answer m (FrameIn port id bytes) = ToFrame (frameAnswer ports words m port id bytes)
-answer m (TakeOut port) = ToTake (takeAnswer ports words m port)
-answer m (Message port requester payload lentReply) =
-    ToMessage (messageAnswer (messaged ports words lentReply (m .rest) port requester payload) (m .seen))
-    (messaged ports words lentReply (m .rest) port requester payload .written (m .seen))
-answer m Start = ToStart (startAnswer ports words m)
-answer m Quiet = ToQuiet (quietRefusal ports words (m .rest .own))
-answer m ReadUnit = ToUnit (unitAnswer ports words m)
+  -- ---- 3. what a call sends and asks
+  -- What the book keeps besides the rows has all the say; a refused call asks nothing, sends nothing and changes nothing.
+  abbrev pub goes : Rest → Call → Bool
+  goes rest k = eqb (refusal ports words rest k) 0
 
--- ---- 3. what a call sends and asks
--- What the book keeps besides the rows has all the say; a refused call asks nothing, sends nothing and changes nothing.
-abbrev pub goes : Rest → Call → Bool
-goes rest k = eqb (refusal ports words rest k) 0
+  unfoldable pub restNext : Rest → Call → Rest
+  restNext rest k = cond (goes rest k) (restAfter ports words rest k) rest
 
-unfoldable pub restNext : Rest → Call → Rest
-restNext rest k = cond (goes rest k) (restAfter ports words rest k) rest
+  -- "Takes on that port alone are counted, refused ones not": the port of a take that isn't refused.
+  unfoldable pub asks : Rest → Call → Option ℕ
+  asks rest k = cond (goes rest k) (asksOf k) none
 
--- "Takes on that port alone are counted, refused ones not": the port of a take that isn't refused.
-unfoldable pub asks : Rest → Call → Option ℕ
-asks rest k = cond (goes rest k) (asksOf k) none
+  -- Rules 1 and 2: the frame, as it was handed in, that is sent to port q.
+  abbrev pub forwarded : Rest → Call → ℕ → List Frame
+  forwarded rest (FrameIn port id bytes) q = sentIf (offered ports rest (port - 1) id q) (frameOf id bytes)
+  forwarded rest (TakeOut port) q = []
+  forwarded rest (Message port requester payload lentReply) q = []
+  forwarded rest Start q = []
+  forwarded rest Quiet q = []
+  forwarded rest ReadUnit q = []
 
--- Rules 1 and 2: the frame, as it was handed in, that is sent to port q.
-abbrev pub forwarded : Rest → Call → ℕ → List Frame
-forwarded rest (FrameIn port id bytes) q = sentIf (offered ports rest (port - 1) id q) (frameOf id bytes)
-forwarded rest (TakeOut port) q = []
-forwarded rest (Message port requester payload lentReply) q = []
-forwarded rest Start q = []
-forwarded rest Quiet q = []
-forwarded rest ReadUnit q = []
+  unfoldable pub forwards : Rest → Call → ℕ → List Frame
+  forwards rest k q = cond (goes rest k) (forwarded rest k q) []
 
-unfoldable pub forwards : Rest → Call → ℕ → List Frame
-forwards rest k q = cond (goes rest k) (forwarded rest k q) []
+  -- "The unit's own too": the frame that the unit sends to every port, because of a claim or a request, or at Start.
+  abbrev pub announced : Rest → Call → List Frame
+  announced rest (FrameIn port id bytes) = framesSent (frameDone rest port (frameOf id bytes) .sent)
+  announced rest (TakeOut port) = []
+  announced rest (Message port requester payload lentReply) = []
+  announced rest Start = framesSent (started rest .sent)
+  announced rest Quiet = []
+  announced rest ReadUnit = []
 
--- "The unit's own too": the frame that the unit sends to every port, because of a claim or a request, or at Start.
-abbrev pub announced : Rest → Call → List Frame
-announced rest (FrameIn port id bytes) = framesSent (frameDone rest port (frameOf id bytes) .sent)
-announced rest (TakeOut port) = []
-announced rest (Message port requester payload lentReply) = []
-announced rest Start = framesSent (started rest .sent)
-announced rest Quiet = []
-announced rest ReadUnit = []
+  unfoldable pub announces : Rest → Call → List Frame
+  announces rest k = cond (goes rest k) (announced rest k) []
 
-unfoldable pub announces : Rest → Call → List Frame
-announces rest k = cond (goes rest k) (announced rest k) []
+  abbrev pub sends : Rest → Call → ℕ → List Frame
+  sends rest k q = forwards rest k q ++ announces rest k
 
-abbrev pub sends : Rest → Call → ℕ → List Frame
-sends rest k q = forwards rest k q ++ announces rest k
-
--- The bridge as a product: its book, and a take with what it gave.
-abbrev pub bridge : Product Frame Rest Model Call Answer
-bridge = record {
-  priority = priority;
-  size = size;
-  ports = ports;
-  rest = λ m. m .rest;
-  row = rowAt;
-  next = next;
-  answer = answer;
-  restNext = restNext;
-  asks = asks;
-  sends = sends;
-  takeOn = λ q. TakeOut (suc q);
-  took = λ o. ToTake (Took (takenOf o));
-}
+  -- The bridge as a product: its book, and a take with what it gave.
+  abbrev pub bridge : Product Frame Rest Model Call Answer
+  bridge = record {
+    priority = priority;
+    size = size;
+    ports = ports;
+    rest = λ m. m .rest;
+    row = rowAt;
+    next = next;
+    answer = answer;
+    restNext = restNext;
+    asks = asks;
+    sends = sends;
+    takeOn = λ q. TakeOut (suc q);
+    took = λ o. ToTake (Took (takenOf o));
+  }
 
 -- ---- 4. the claim
 -- The number in an answer, 0 where the call isn't refused.
@@ -162,8 +161,7 @@ numberIn (ToTake r) = takeNumber r
 numberIn (ToMessage r reply) = r .refusal
 numberIn (ToStart r) = r .refusal
 numberIn (ToQuiet number) = number
-numberIn (ToUnit (UnitAnswer.Refused number)) = number
-numberIn (ToUnit (Told own ports)) = 0
+numberIn (ToUnit r) = readNumber r
 
 -- The ports that an answer names, as bits: bit q for port q.
 abbrev pub acceptedPorts : Answer → ℕ
@@ -194,16 +192,17 @@ ownLostPorts (ToUnit r) = 0
 abbrev pub Sent : List Frame → Type 0
 Sent fs = fs ≡ [] → ⊥
 
--- 01: "Accepted ports, lost ports and the ports where the unit's own frame was lost are those rule 3 names in the book." The call k found the book m
--- and was answered x; q is any number.
-pub record Rule3 (m : Model) (k : Call) (x : Answer) (q : ℕ) : Type 0 where
-  -- accepted exactly if q is a port, a frame was sent there and fewer than 32 waited
-  pub accepted : (bitAt (acceptedPorts x) q ≡ true) ↔ ((q < ports) × (Sent (forwards (m .rest) k q) × (length (rowAt m q) < size)))
-  -- lost exactly if q is a port, a frame was sent there and 32 waited
-  pub lost : (bitAt (lostPorts x) q ≡ true) ↔ ((q < ports) × (Sent (forwards (m .rest) k q) × (size ≤ length (rowAt m q))))
-  -- the unit's own lost exactly if q is a port, the unit sent one and 32 waited once the forwarded frame had joined
-  pub ownLost : (bitAt (ownLostPorts x) q ≡ true)
-      ↔ ((q < ports) × (Sent (announces (m .rest) k) × (size ≤ length (joinAll size (rowAt m q) (forwards (m .rest) k q)))))
+module _ (ports : ℕ) where
+  -- 01: "Accepted ports, lost ports and the ports where the unit's own frame was lost are those rule 3 names in the book." The call k found the book m
+  -- and was answered x; q is any number.
+  pub record Rule3 (m : Model) (k : Call) (x : Answer) (q : ℕ) : Type 0 where
+    -- accepted exactly if q is a port, a frame was sent there and fewer than 32 waited
+    pub accepted : (bitAt (acceptedPorts x) q ≡ true) ↔ ((q < ports) × (Sent (forwards ports (m .rest) k q) × (length (rowAt m q) < size)))
+    -- lost exactly if q is a port, a frame was sent there and 32 waited
+    pub lost : (bitAt (lostPorts x) q ≡ true) ↔ ((q < ports) × (Sent (forwards ports (m .rest) k q) × (size ≤ length (rowAt m q))))
+    -- the unit's own lost exactly if q is a port, the unit sent one and 32 waited once the forwarded frame had joined
+    pub ownLost : (bitAt (ownLostPorts x) q ≡ true)
+        ↔ ((q < ports) × (Sent (announces ports (m .rest) k) × (size ≤ length (joinAll size (rowAt m q) (forwards ports (m .rest) k q)))))
 
 -- 01: "Unchanged means identifier, length and bytes as handed in, or for the unit's own frame as the rules give them": 18EEFF00 (hex) plus its address, or
 -- 18EEFFFE, length 8, its NAME. `own` is the unit as the call k leaves it.
@@ -221,34 +220,38 @@ bytesIn Start = []
 bytesIn Quiet = []
 bytesIn ReadUnit = []
 
-module _ (name preferred : ℕ) where
+module _ (ports name preferred : ℕ) where
   -- 01: "Power-on, with any NAME and preferred address, makes it fresh." "The book is fed the calls' arguments alone, no answer and nothing of the
   -- unit's record."
   abbrev pub modelAfter : List Call → Model
-  modelAfter ks = afterCalls next (fresh ports name preferred) ks
+  modelAfter ks = afterCalls (next ports) (fresh ports name preferred) ks
 
   -- The calls ks were made from power-on on, were answered xs and left the record v.
   pub record Demand3 (ks : List Call) (xs : List Answer) (v : List ℕ) : Type 0 where
     -- Every answer, and what the record means, is the book's.
-    pub answers : xs ≡ answersOf next answer (fresh ports name preferred) ks
+    pub answers : xs ≡ answersOf (next ports) (answer ports) (fresh ports name preferred) ks
     pub state : modelOf ports v ≡ modelAfter ks
     -- 01: "A call refused under ‘Numbers given back’, read on the book, changes nothing, and the unit refuses just these."
-    pub refuses : (js : List Call) (k : Call) (x : Answer) → Answered ks xs js k x → numberIn x ≡ refusal ports words (modelAfter js .rest) k
-    pub unmoved : (js : List Call) (k : Call) → (refusal ports words (modelAfter js .rest) k ≡ 0 → ⊥) → modelAfter (js ++ (k ∷ [])) ≡ modelAfter js
+    pub refuses : (js : List Call) (k : Call) (x : Answer) → Answered ks xs js k x → numberIn x ≡ refusal ports (words ports) (modelAfter js .rest) k
+    pub unmoved : (js : List Call) (k : Call) → (refusal ports (words ports) (modelAfter js .rest) k ≡ 0 → ⊥) → modelAfter (js ++ (k ∷ [])) ≡ modelAfter js
     -- "The ports that answers name as accepted or lost are those of document 01's book."
-    pub named : (js : List Call) (k : Call) (x : Answer) → Answered ks xs js k x → (q : ℕ) → Rule3 (modelAfter js) k x q
+    pub named : (js : List Call) (k : Call) (x : Answer) → Answered ks xs js k x → (q : ℕ) → Rule3 ports (modelAfter js) k x q
     -- When and where every accepted frame leaves, and what every take gives. What is accepted is what a call sent.
-    pub obeys : Obeys bridge (fresh ports name preferred) ks xs
+    pub obeys : Obeys (bridge ports) (fresh ports name preferred) ks xs
     -- And what a call sends is what was handed in to it, or the unit's own frame, with the NAME of power-on.
-    pub unchanged : (js : List Call) (k : Call) (q : ℕ) (f : Frame) → ((i : ℕ) → getD (bytesIn k) i 0 < 256) → List·Memᴰ f (sends (modelAfter js .rest) k q)
+    pub unchanged : (js : List Call) (k : Call) (q : ℕ) (f : Frame) → ((i : ℕ) → getD (bytesIn k) i 0 < 256) → List·Memᴰ f (sends ports (modelAfter js .rest) k q)
         → AsHandedIn (modelAfter (js ++ (k ∷ [])) .rest .own) k f
     pub named-so : (js : List Call) → modelAfter js .rest .own .name ≡ name
 
--- The whole claim: power-on was called on the words w, whatever they held, with any NAME and any preferred address, was answered r and left u.
-pub record EveryList (w u : List ℕ) (name preferred r : ℕ) : Type 0 where
+-- The whole claim: power-on was called on the words w, whatever they held, with any NAME, any preferred address and any count of ports, was answered r and
+-- left u.
+pub record EveryList (w u : List ℕ) (name preferred count r : ℕ) : Type 0 where
   pub calls : EveryCall
   -- "For every list of calls on one unit from one power-on to the next (frames, takes, messages, Start and Quiet, refused ones too)", each given the record
   -- as the last call left it (`Run`).
-  pub every : r ≡ 0 → (ks : List Call) (xs : List Answer) (v : List ℕ) → Run Made u ks xs v → Demand3 name preferred ks xs v
-  -- 01: "A power-on refused with 2 counts as none": it has no other number, and leaves every word as it was.
-  pub none : (r ≡ 0 → ⊥) → (r ≡ 2) × (u ≡ w)
+  pub every : (r ≡ 2 → ⊥) → (ks : List Call) (xs : List Answer) (v : List ℕ) → Run Made u ks xs v → Demand3 (countOf count) name preferred ks xs v
+  -- 02, ticket 10: "a number of ports from 2 to 8, chosen at power-on"; 27 "then hands back the unit as with four ports; that counts as a power-on"
+  pub chosen : r ≡ 0 → (countOf count ≡ count) × (2 ≤ count) × (count ≤ 8)
+  pub four : r ≡ 27 → countOf count ≡ 4
+  -- 01: "A power-on refused with 2 counts as none": it leaves every word as it was.
+  pub none : r ≡ 2 → u ≡ w

@@ -19,7 +19,7 @@ use Rattle.bridge.specs.declared.UnitAnswer.{UnitAnswer}
 use Rattle.bridge.specs.declared.UnitAnswer.the-variants.{Told}
 use Rattle.unit.specs.declared.Unit.{Unit}
 use Rattle.unit.specs.Model.{Model, modelOf}
-use Rattle.refusals.specs.Refusals.{frameRefusal, takeRefusal, startRefusal, unitRefusal}
+use Rattle.refusals.specs.Refusals.{frameRefusal, takeRefusal, startRefusal, lengthRefusal}
 use Rattle.bridge.specs.Calls.{Call, next, refusal, framePassed, frameAnswer, takeAnswer, gave, startAnswer, unitAnswer, Calling, Framing, TakingOut, Messaging, Starting, Reading}
 use Rattle.deorasaeng.specs.Interface.{lentRefusal, Served, messageLength, startLength, startWords, takeNumber, FrameCall, TakeCall, MessageCall, StartCall, UnitCall, QueueCall, queueNumber}
 use Rattle.flat_answers.specs.Answers.{frameLength, takeLength, bytesLength, unitLength, frameWords, takeWords, bytesOfTaken, unitWords, Telling, TellingUnit}
@@ -27,14 +27,14 @@ use Rattle.deorasaeng.proofs.Numbers.{not-0, frame-lent, frame-number, 
 
 -- ---- the record
 -- refused before the record is touched
-pub untouched : {words : List ℕ} {k : Call} {r : ℕ} → (r ≡ 0 → ⊥) → Served 4 words words k r
-untouched {r = r} h = record { long = refl; state = rw (ne-eqb r 0 h); refused = λ _. refl }
+pub untouched : {ports : ℕ} {words : List ℕ} {k : Call} {r : ℕ} → (r ≡ 0 → ⊥) → Served ports words words k r
+untouched {r = r} h = record { long = refl; state = rw (ne-eqb r 0 h); count = refl; refused = λ _. refl }
 
 -- the bridge's call
-pub served : {before after : List ℕ} {k : Call} {r : ℕ} → r ≡ refusal 4 (length before) (modelOf 4 before .rest) k → Calling 4 before after k → Served 4 before after k r
-served {before} {after} {k} {r} e C = record { long = C .long; state = state; refused = λ h. C .refused (λ z. h (e ∙ z)) }
+pub served : {ports : ℕ} {before after : List ℕ} {k : Call} {r : ℕ} → r ≡ refusal ports (length before) (modelOf ports before .rest) k → Calling ports before after k → Served ports before after k r
+served {ports} {before} {after} {k} {r} e C = record { long = C .long; state = state; count = C .count; refused = λ h. C .refused (λ z. h (e ∙ z)) }
   where
-    state : modelOf 4 after ≡ cond (eqb r 0) (next 4 (length before) (modelOf 4 before) k) (modelOf 4 before)
+    state : modelOf ports after ≡ cond (eqb r 0) (next ports (length before) (modelOf ports before) k) (modelOf ports before)
     state =
         elim (ℕ-discrete r 0) [
           | yes z ↦ rw (eq-eqb r 0 z) (C .state)
@@ -42,81 +42,81 @@ served {before} {after} {k} {r} e C = record { long = C .long; state = state; re
         ]
 
 -- ---- the numbers in the core's answers
-pub frame-refusal : (lent : ℕ) (m : Model) (port id : ℕ) (bytes : List ℕ) → frameAnswer 4 lent m port id bytes .refusal ≡ frameRefusal 4 lent port id (length bytes)
+pub frame-refusal : (ports lent : ℕ) (m : Model) (port id : ℕ) (bytes : List ℕ) → frameAnswer ports lent m port id bytes .refusal ≡ frameRefusal ports lent port id (length bytes)
 unfolding frameAnswer framePassed
-frame-refusal lent m port id bytes =
-    elim (ℕ-discrete (frameRefusal 4 lent port id (length bytes)) 0) [
-      | yes z ↦ rw (eq-eqb (frameRefusal 4 lent port id (length bytes)) 0 z) (sym z)
-      | no h ↦ rw (ne-eqb (frameRefusal 4 lent port id (length bytes)) 0 h)
+frame-refusal ports lent m port id bytes =
+    elim (ℕ-discrete (frameRefusal ports lent port id (length bytes)) 0) [
+      | yes z ↦ rw (eq-eqb (frameRefusal ports lent port id (length bytes)) 0 z) (sym z)
+      | no h ↦ rw (ne-eqb (frameRefusal ports lent port id (length bytes)) 0 h)
     ]
 
-take-refused : (lent : ℕ) (m : Model) (port number : ℕ) → Refused number ≡ takeAnswer 4 lent m port → (number ≡ takeRefusal 4 lent port) × (number ≡ 0 → ⊥)
+take-refused : (ports lent : ℕ) (m : Model) (port number : ℕ) → Refused number ≡ takeAnswer ports lent m port → (number ≡ takeRefusal ports lent port) × (number ≡ 0 → ⊥)
 unfolding takeAnswer
-take-refused lent m port number e =
-    elim (ℕ-discrete (takeRefusal 4 lent port) 0) [
-      | yes z ↦ let d = rw (eq-eqb (takeRefusal 4 lent port) 0 z) at e in absurd (let x : _≡_ {A = ℕ} 0 1 = cc in omega arith)
-      | no h ↦ let d = rw (ne-eqb (takeRefusal 4 lent port) 0 h) at e in let same : number ≡ takeRefusal 4 lent port = cc in (same, λ z. h (sym same ∙ z))
+take-refused ports lent m port number e =
+    elim (ℕ-discrete (takeRefusal ports lent port) 0) [
+      | yes z ↦ let d = rw (eq-eqb (takeRefusal ports lent port) 0 z) at e in absurd (let x : _≡_ {A = ℕ} 0 1 = cc in omega arith)
+      | no h ↦ let d = rw (ne-eqb (takeRefusal ports lent port) 0 h) at e in let same : number ≡ takeRefusal ports lent port = cc in (same, λ z. h (sym same ∙ z))
     ]
 
-take-done : (lent : ℕ) (m : Model) (port : ℕ) (taken : Taken) → Took taken ≡ takeAnswer 4 lent m port → takeRefusal 4 lent port ≡ 0
+take-done : (ports lent : ℕ) (m : Model) (port : ℕ) (taken : Taken) → Took taken ≡ takeAnswer ports lent m port → takeRefusal ports lent port ≡ 0
 unfolding takeAnswer
-take-done lent m port taken e =
-    elim (ℕ-discrete (takeRefusal 4 lent port) 0) [
+take-done ports lent m port taken e =
+    elim (ℕ-discrete (takeRefusal ports lent port) 0) [
       | yes z ↦ z
-      | no h ↦ let d = rw (ne-eqb (takeRefusal 4 lent port) 0 h) at e in absurd (let x : _≡_ {A = ℕ} 0 1 = cc in omega arith)
+      | no h ↦ let d = rw (ne-eqb (takeRefusal ports lent port) 0 h) at e in absurd (let x : _≡_ {A = ℕ} 0 1 = cc in omega arith)
     ]
 
-pub start-refusal : (lent : ℕ) (m : Model) → startAnswer 4 lent m .refusal ≡ startRefusal 4 lent (m .rest .own)
+pub start-refusal : (ports lent : ℕ) (m : Model) → startAnswer ports lent m .refusal ≡ startRefusal ports lent (m .rest .own)
 unfolding startAnswer
-start-refusal lent m =
-    elim (ℕ-discrete (startRefusal 4 lent (m .rest .own)) 0) [
-      | yes z ↦ rw (eq-eqb (startRefusal 4 lent (m .rest .own)) 0 z) (sym z)
-      | no h ↦ rw (ne-eqb (startRefusal 4 lent (m .rest .own)) 0 h)
+start-refusal ports lent m =
+    elim (ℕ-discrete (startRefusal ports lent (m .rest .own)) 0) [
+      | yes z ↦ rw (eq-eqb (startRefusal ports lent (m .rest .own)) 0 z) (sym z)
+      | no h ↦ rw (ne-eqb (startRefusal ports lent (m .rest .own)) 0 h)
     ]
 
 -- ---- deorasaeng_frame
-module _ {before : List ℕ} {port id : ℕ} {bytes answer : List ℕ} {r : ℕ} where
-  pub frame-wrong : r ≡ lentRefusal 4 port → (length answer ≡ frameLength → ⊥) → FrameCall 4 before before port id bytes answer answer r
+module _ {ports : ℕ} {before : List ℕ} {port id : ℕ} {bytes answer : List ℕ} {r : ℕ} where
+  pub frame-wrong : r ≡ lentRefusal ports port → (length answer ≡ frameLength → ⊥) → FrameCall ports before before port id bytes answer answer r
   frame-wrong e h =
-      let n : r ≡ 0 → ⊥ = λ z. not-0 port (sym e ∙ z) in
-      record { number = e ∙ frame-lent (length before) (length answer) port id (length bytes) h; served = untouched n; tells = rw (ne-eqb r 0 n) }
+      let n : r ≡ 0 → ⊥ = λ z. not-0 ports port (sym e ∙ z) in
+      record { number = e ∙ frame-lent ports (length before) (length answer) port id (length bytes) h; served = untouched n; tells = rw (ne-eqb r 0 n) }
 
-module _ {before after : List ℕ} {port id : ℕ} {bytes answer : List ℕ} {a : FrameAnswer} (F : Framing 4 before after port id bytes a) (e : length answer ≡ frameLength) where
-  frame-called : {told : List ℕ} {r : ℕ} → r ≡ a .refusal → told ≡ cond (eqb r 0) (frameWords a) answer → FrameCall 4 before after port id bytes answer told r
+module _ {ports : ℕ} {before after : List ℕ} {port id : ℕ} {bytes answer : List ℕ} {a : FrameAnswer} (F : Framing ports before after port id bytes a) (e : length answer ≡ frameLength) where
+  frame-called : {told : List ℕ} {r : ℕ} → r ≡ a .refusal → told ≡ cond (eqb r 0) (frameWords a) answer → FrameCall ports before after port id bytes answer told r
   unfolding refusal
   frame-called {r = r} z t =
-      let n : r ≡ frameRefusal 4 (length before) port id (length bytes) = z ∙ rw (F .answer) (frame-refusal (length before) (modelOf 4 before) port id bytes) in
+      let n : r ≡ frameRefusal ports (length before) port id (length bytes) = z ∙ rw (F .answer) (frame-refusal ports (length before) (modelOf ports before) port id bytes) in
       record {
-        number = n ∙ sym (frame-number (length before) (length answer) port id (length bytes) e);
+        number = n ∙ sym (frame-number ports (length before) (length answer) port id (length bytes) e);
         served = served n (F .call);
         tells = rw (← (F .answer)) t;
       }
 
-  pub frame-refused : (a .refusal ≡ 0 → ⊥) → FrameCall 4 before after port id bytes answer answer (a .refusal)
+  pub frame-refused : (a .refusal ≡ 0 → ⊥) → FrameCall ports before after port id bytes answer answer (a .refusal)
   frame-refused h = frame-called refl (rw (ne-eqb (a .refusal) 0 h))
 
-  pub frame-done : {told : List ℕ} → a .refusal ≡ 0 → told ≡ frameWords a → FrameCall 4 before after port id bytes answer told 0
+  pub frame-done : {told : List ℕ} → a .refusal ≡ 0 → told ≡ frameWords a → FrameCall ports before after port id bytes answer told 0
   frame-done z t = frame-called (sym z) t
 
 -- ---- deorasaeng_take
-module _ {before : List ℕ} {port : ℕ} {answer bytes : List ℕ} {r : ℕ} where
-  take-untouched : r ≡ lentRefusal 4 port → r ≡ takeNumber 4 (length before) (length answer) (length bytes) port → TakeCall 4 before before port answer answer bytes bytes r
+module _ {ports : ℕ} {before : List ℕ} {port : ℕ} {answer bytes : List ℕ} {r : ℕ} where
+  take-untouched : r ≡ lentRefusal ports port → r ≡ takeNumber ports (length before) (length answer) (length bytes) port → TakeCall ports before before port answer answer bytes bytes r
   take-untouched e n =
-      let h : r ≡ 0 → ⊥ = λ z. not-0 port (sym e ∙ z) in
+      let h : r ≡ 0 → ⊥ = λ z. not-0 ports port (sym e ∙ z) in
       record { number = n; served = untouched h; ahead = refl; behind = refl; tells = rw (ne-eqb r 0 h); writes = rw (ne-eqb r 0 h) }
 
-  pub take-wrong : r ≡ lentRefusal 4 port → (length answer ≡ takeLength → ⊥) → TakeCall 4 before before port answer answer bytes bytes r
-  take-wrong e h = take-untouched e (e ∙ take-lent (length before) (length answer) port (length bytes) h)
+  pub take-wrong : r ≡ lentRefusal ports port → (length answer ≡ takeLength → ⊥) → TakeCall ports before before port answer answer bytes bytes r
+  take-wrong e h = take-untouched e (e ∙ take-lent ports (length before) (length answer) port (length bytes) h)
 
-  pub take-wrong-bytes : r ≡ lentRefusal 4 port → (length bytes ≡ bytesLength → ⊥) → TakeCall 4 before before port answer answer bytes bytes r
-  take-wrong-bytes e h = take-untouched e (e ∙ take-lent-bytes (length before) (length answer) port (length bytes) h)
+  pub take-wrong-bytes : r ≡ lentRefusal ports port → (length bytes ≡ bytesLength → ⊥) → TakeCall ports before before port answer answer bytes bytes r
+  take-wrong-bytes e h = take-untouched e (e ∙ take-lent-bytes ports (length before) (length answer) port (length bytes) h)
 
-module _ {before after : List ℕ} {port : ℕ} {answer bytes : List ℕ} {t : TakeAnswer} (T : TakingOut 4 before after port t) (e : length answer ≡ takeLength) (e′ : length bytes ≡ bytesLength) where
-  take-called : {told written : List ℕ} {r : ℕ} → r ≡ takeRefusal 4 (length before) port → told ≡ cond (eqb r 0) (takeWords (gave t)) answer → written ≡ cond (eqb r 0) (bytesOfTaken (gave t) bytes) bytes
-      → TakeCall 4 before after port answer told bytes written r
+module _ {ports : ℕ} {before after : List ℕ} {port : ℕ} {answer bytes : List ℕ} {t : TakeAnswer} (T : TakingOut ports before after port t) (e : length answer ≡ takeLength) (e′ : length bytes ≡ bytesLength) where
+  take-called : {told written : List ℕ} {r : ℕ} → r ≡ takeRefusal ports (length before) port → told ≡ cond (eqb r 0) (takeWords (gave t)) answer → written ≡ cond (eqb r 0) (bytesOfTaken (gave t) bytes) bytes
+      → TakeCall ports before after port answer told bytes written r
   unfolding refusal
   take-called n t w = record {
-    number = n ∙ sym (take-number (length before) (length answer) port (length bytes) e e′);
+    number = n ∙ sym (take-number ports (length before) (length answer) port (length bytes) e e′);
     served = served n (T .call);
     ahead = T .ahead;
     behind = T .behind;
@@ -124,28 +124,28 @@ module _ {before after : List ℕ} {port : ℕ} {answer bytes : List ℕ} {t : T
     writes = rw (← (T .answer)) w;
   }
 
-  pub take-left : {number : ℕ} → t ≡ Refused number → TakeCall 4 before after port answer answer bytes bytes number
+  pub take-left : {number : ℕ} → t ≡ Refused number → TakeCall ports before after port answer answer bytes bytes number
   take-left {number} is =
-      let R = take-refused (length before) (modelOf 4 before) port number (sym is ∙ T .answer) in
+      let R = take-refused ports (length before) (modelOf ports before) port number (sym is ∙ T .answer) in
       take-called (R .0) (rw (ne-eqb number 0 (R .1))) (rw (ne-eqb number 0 (R .1)))
 
-  pub take-told : {taken : Taken} {told written : List ℕ} {r : ℕ} → t ≡ Took taken → Telling told bytes written taken r → TakeCall 4 before after port answer told bytes written r
+  pub take-told : {taken : Taken} {told written : List ℕ} {r : ℕ} → t ≡ Took taken → Telling told bytes written taken r → TakeCall ports before after port answer told bytes written r
   take-told {taken} {r = r} is G =
-      take-called (G .number ∙ sym (take-done (length before) (modelOf 4 before) port taken (sym is ∙ T .answer))) (rw (eq-eqb r 0 (G .number), is) (G .tells)) (rw (eq-eqb r 0 (G .number), is) (G .writes))
+      take-called (G .number ∙ sym (take-done ports (length before) (modelOf ports before) port taken (sym is ∙ T .answer))) (rw (eq-eqb r 0 (G .number), is) (G .tells)) (rw (eq-eqb r 0 (G .number), is) (G .writes))
 
 -- ---- deorasaeng_message
-module _ {before : List ℕ} {port requester : ℕ} {payload reply answer : List ℕ} where
-  pub message-wrong : {r : ℕ} → r ≡ lentRefusal 4 port → (length answer ≡ messageLength → ⊥) → MessageCall 4 before before port requester payload reply reply answer answer r
+module _ {ports : ℕ} {before : List ℕ} {port requester : ℕ} {payload reply answer : List ℕ} where
+  pub message-wrong : {r : ℕ} → r ≡ lentRefusal ports port → (length answer ≡ messageLength → ⊥) → MessageCall ports before before port requester payload reply reply answer answer r
   message-wrong {r} e h =
-      let n : r ≡ 0 → ⊥ = λ z. not-0 port (sym e ∙ z) in
-      let S = silent (length before) (length answer) port (length reply) (modelOf 4 before .rest) requester payload h in
+      let n : r ≡ 0 → ⊥ = λ z. not-0 ports port (sym e ∙ z) in
+      let S = silent ports (length before) (length answer) port (length reply) (modelOf ports before .rest) requester payload h in
       record { number = rw S e; served = untouched n; writes = rw S; tells = rw (ne-eqb (length answer) messageLength h); called = λ z. absurd (h z) }
 
-  pub message-done : {after back told : List ℕ} {a : MessageAnswer} → Messaging 4 before after port requester payload reply back a → length answer ≡ messageLength
-      → told ≡ a .pgn ∷ a .length ∷ [] → MessageCall 4 before after port requester payload reply back answer told (a .refusal)
+  pub message-done : {after back told : List ℕ} {a : MessageAnswer} → Messaging ports before after port requester payload reply back a → length answer ≡ messageLength
+      → told ≡ a .pgn ∷ a .length ∷ [] → MessageCall ports before after port requester payload reply back answer told (a .refusal)
   unfolding refusal
   message-done {a = a} M e t =
-      let S = replied-as (length before) (length answer) port (length reply) (modelOf 4 before .rest) requester payload e in
+      let S = replied-as ports (length before) (length answer) port (length reply) (modelOf ports before .rest) requester payload e in
       record {
         number = rw (S, M .answer);
         served = served (rw (M .answer)) (M .call);
@@ -155,66 +155,66 @@ module _ {before : List ℕ} {port requester : ℕ} {payload reply answer : List
       }
 
 -- ---- deorasaeng_start
-module _ {before answer : List ℕ} where
-  pub start-wrong : (length answer ≡ startLength → ⊥) → StartCall 4 before before answer answer 2
-  start-wrong h = record { number = start-lent (length before) (length answer) (modelOf 4 before .rest .own) h; served = untouched (λ z. omega arith); tells = refl }
+module _ {ports : ℕ} {before answer : List ℕ} where
+  pub start-wrong : (length answer ≡ startLength → ⊥) → StartCall ports before before answer answer 2
+  start-wrong h = record { number = start-lent ports (length before) (length answer) (modelOf ports before .rest .own) h; served = untouched (λ z. omega arith); tells = refl }
 
-  module _ {after : List ℕ} {a : StartAnswer} (S : Starting 4 before after a) (e : length answer ≡ startLength) where
-    start-called : {told : List ℕ} {r : ℕ} → r ≡ a .refusal → told ≡ cond (eqb r 0) (startWords a) answer → StartCall 4 before after answer told r
+  module _ {after : List ℕ} {a : StartAnswer} (S : Starting ports before after a) (e : length answer ≡ startLength) where
+    start-called : {told : List ℕ} {r : ℕ} → r ≡ a .refusal → told ≡ cond (eqb r 0) (startWords a) answer → StartCall ports before after answer told r
     unfolding refusal
     start-called {r = r} z t =
-        let n : r ≡ startRefusal 4 (length before) (modelOf 4 before .rest .own) = z ∙ rw (S .answer) (start-refusal (length before) (modelOf 4 before)) in
+        let n : r ≡ startRefusal ports (length before) (modelOf ports before .rest .own) = z ∙ rw (S .answer) (start-refusal ports (length before) (modelOf ports before)) in
         record {
-          number = n ∙ sym (start-number (length before) (length answer) (modelOf 4 before .rest .own) e);
+          number = n ∙ sym (start-number ports (length before) (length answer) (modelOf ports before .rest .own) e);
           served = served n (S .call);
           tells = rw (← (S .answer)) t;
         }
 
-    pub start-refused : (a .refusal ≡ 0 → ⊥) → StartCall 4 before after answer answer (a .refusal)
+    pub start-refused : (a .refusal ≡ 0 → ⊥) → StartCall ports before after answer answer (a .refusal)
     start-refused h = start-called refl (rw (ne-eqb (a .refusal) 0 h))
 
-    pub start-done : {told : List ℕ} → a .refusal ≡ 0 → told ≡ startWords a → StartCall 4 before after answer told 0
+    pub start-done : {told : List ℕ} → a .refusal ≡ 0 → told ≡ startWords a → StartCall ports before after answer told 0
     start-done z t = start-called (sym z) t
 
 -- ---- deorasaeng_unit
-unit-refused : (lent : ℕ) (m : Model) (number : ℕ) → UnitAnswer.Refused number ≡ unitAnswer 4 lent m → (number ≡ unitRefusal 4 lent) × (number ≡ 0 → ⊥)
+unit-refused : (ports lent : ℕ) (m : Model) (number : ℕ) → UnitAnswer.Refused number ≡ unitAnswer ports lent m → (number ≡ lengthRefusal ports lent) × (number ≡ 0 → ⊥)
 unfolding unitAnswer
-unit-refused lent m number e =
-    elim (ℕ-discrete (unitRefusal 4 lent) 0) [
-      | yes z ↦ let d = rw (eq-eqb (unitRefusal 4 lent) 0 z) at e in absurd (let x : _≡_ {A = ℕ} 0 1 = cc in omega arith)
-      | no h ↦ let d = rw (ne-eqb (unitRefusal 4 lent) 0 h) at e in let same : number ≡ unitRefusal 4 lent = cc in (same, λ z. h (sym same ∙ z))
+unit-refused ports lent m number e =
+    elim (ℕ-discrete (lengthRefusal ports lent) 0) [
+      | yes z ↦ let d = rw (eq-eqb (lengthRefusal ports lent) 0 z) at e in absurd (let x : _≡_ {A = ℕ} 0 1 = cc in omega arith)
+      | no h ↦ let d = rw (ne-eqb (lengthRefusal ports lent) 0 h) at e in let same : number ≡ lengthRefusal ports lent = cc in (same, λ z. h (sym same ∙ z))
     ]
 
-unit-done : (lent : ℕ) (m : Model) (own : Unit) (ports : ℕ) → Told own ports ≡ unitAnswer 4 lent m → (unitRefusal 4 lent ≡ 0) × (own ≡ m .rest .own) × (ports ≡ 4)
+unit-done : (ports lent : ℕ) (m : Model) (own : Unit) → Told own ≡ unitAnswer ports lent m → (lengthRefusal ports lent ≡ 0) × (own ≡ m .rest .own)
 unfolding unitAnswer
-unit-done lent m own ports e =
-    elim (ℕ-discrete (unitRefusal 4 lent) 0) [
-      | yes z ↦ let d = rw (eq-eqb (unitRefusal 4 lent) 0 z) at e in (z, cc, cc)
-      | no h ↦ let d = rw (ne-eqb (unitRefusal 4 lent) 0 h) at e in absurd (let x : _≡_ {A = ℕ} 0 1 = cc in omega arith)
+unit-done ports lent m own e =
+    elim (ℕ-discrete (lengthRefusal ports lent) 0) [
+      | yes z ↦ let d = rw (eq-eqb (lengthRefusal ports lent) 0 z) at e in (z, cc)
+      | no h ↦ let d = rw (ne-eqb (lengthRefusal ports lent) 0 h) at e in absurd (let x : _≡_ {A = ℕ} 0 1 = cc in omega arith)
     ]
 
-module _ {words answer : List ℕ} where
-  pub unit-wrong : (length answer ≡ unitLength → ⊥) → UnitCall 4 words answer answer 2
-  unit-wrong h = record { number = unit-lent (length words) (length answer) h; served = untouched (λ z. omega arith); tells = refl }
+module _ {ports : ℕ} {words answer : List ℕ} where
+  pub unit-wrong : (length answer ≡ unitLength → ⊥) → UnitCall ports words answer answer 2
+  unit-wrong h = record { number = unit-lent ports (length words) (length answer) h; served = untouched (λ z. omega arith); tells = refl }
 
-  module _ {a : UnitAnswer} (R : Reading 4 words a) (e : length answer ≡ unitLength) where
-    unit-called : {told : List ℕ} {r : ℕ} → r ≡ unitRefusal 4 (length words) → told ≡ cond (eqb r 0) (unitWords (modelOf 4 words .rest .own) 4) answer → UnitCall 4 words answer told r
+  module _ {a : UnitAnswer} (R : Reading ports words a) (e : length answer ≡ unitLength) where
+    unit-called : {told : List ℕ} {r : ℕ} → r ≡ lengthRefusal ports (length words) → told ≡ cond (eqb r 0) (unitWords (modelOf ports words .rest .own)) answer → UnitCall ports words answer told r
     unfolding refusal
     unit-called n t = record {
-      number = n ∙ sym (unit-number (length words) (length answer) e);
+      number = n ∙ sym (unit-number ports (length words) (length answer) e);
       served = served n (R .call);
       tells = t;
     }
 
-    pub unit-left : {number : ℕ} → a ≡ UnitAnswer.Refused number → UnitCall 4 words answer answer number
+    pub unit-left : {number : ℕ} → a ≡ UnitAnswer.Refused number → UnitCall ports words answer answer number
     unit-left {number} is =
-        let N = unit-refused (length words) (modelOf 4 words) number (sym is ∙ R .answer) in
+        let N = unit-refused ports (length words) (modelOf ports words) number (sym is ∙ R .answer) in
         unit-called (N .0) (rw (ne-eqb number 0 (N .1)))
 
-    pub unit-told : {own : Unit} {ports : ℕ} {told : List ℕ} {r : ℕ} → a ≡ Told own ports → TellingUnit told own ports r → UnitCall 4 words answer told r
-    unit-told {own} {ports} {r = r} is G =
-        let D = unit-done (length words) (modelOf 4 words) own ports (sym is ∙ R .answer) in
-        unit-called (G .number ∙ sym (D .0)) (rw (eq-eqb r 0 (G .number), ← (D .1), ← (D .2)) (G .tells))
+    pub unit-told : {own : Unit} {told : List ℕ} {r : ℕ} → a ≡ Told own → TellingUnit told own r → UnitCall ports words answer told r
+    unit-told {own} {r = r} is G =
+        let D = unit-done ports (length words) (modelOf ports words) own (sym is ∙ R .answer) in
+        unit-called (G .number ∙ sym (D .0)) (rw (eq-eqb r 0 (G .number), ← (D .1)) (G .tells))
 
 -- ---- deorasaeng_take_queue
 module _ {before answer bytes : List ℕ} where

@@ -11,7 +11,7 @@ use Rattle.network_message.specs.Decoding.{longest}
 use Rattle.unit.specs.declared.Unit.{Unit}
 use Rattle.unit.specs.Model.{Rest}
 use Rattle.checks.specs.Ports.{noPort}
-use Rattle.refusals.specs.Refusals.{frameRefusal, takeRefusal, startRefusal, unitRefusal, messageRefusal}
+use Rattle.refusals.specs.Refusals.{frameRefusal, takeRefusal, startRefusal, lengthRefusal, messageRefusal}
 use Rattle.unit.specs.PowerOn.{notLong}
 use Rattle.bridge.specs.Calls.{silentReply, messaged}
 use Rattle.deorasaeng.specs.Interface.{notOf, lentRefusal, messageLength, startLength, frameNumber, takeNumber, messageNumber, repliedTo, startNumber, unitNumber, queueNumber}
@@ -35,70 +35,70 @@ or-false : (a : Bool) {b : Bool} → b ≡ false → a || b ≡ a
 or-false true e = refl
 or-false false e = e
 
-pub not-0 : (port : ℕ) → lentRefusal 4 port ≡ 0 → ⊥
+pub not-0 : (ports port : ℕ) → lentRefusal ports port ≡ 0 → ⊥
 unfolding lentRefusal
-not-0 port e = cases (noPort 4 port) e
+not-0 ports port e = cases (noPort ports port) e
   where
     cases : (a : Bool) → _≡_ {A = ℕ} (cond a 1 2) 0 → ⊥
     cases true e = omega arith
     cases false e = omega arith
 
-module _ (lent lentAnswer port : ℕ) where
-  pub frame-lent : (id len : ℕ) → (lentAnswer ≡ frameLength → ⊥) → lentRefusal 4 port ≡ frameNumber 4 lent lentAnswer port id len
+module _ (ports lent lentAnswer port : ℕ) where
+  pub frame-lent : (id len : ℕ) → (lentAnswer ≡ frameLength → ⊥) → lentRefusal ports port ≡ frameNumber ports lent lentAnswer port id len
   unfolding lentRefusal frameNumber
-  frame-lent id len h = rw (or-true (notLong 4 lent) (wrong h))
+  frame-lent id len h = rw (or-true (notLong ports lent) (wrong h))
 
-  pub frame-number : (id len : ℕ) → lentAnswer ≡ frameLength → frameNumber 4 lent lentAnswer port id len ≡ frameRefusal 4 lent port id len
+  pub frame-number : (id len : ℕ) → lentAnswer ≡ frameLength → frameNumber ports lent lentAnswer port id len ≡ frameRefusal ports lent port id len
   unfolding frameNumber frameRefusal
-  frame-number id len e = rw (or-false (notLong 4 lent) (right e))
+  frame-number id len e = rw (or-false (notLong ports lent) (right e))
 
-  pub take-lent : (lentBytes : ℕ) → (lentAnswer ≡ takeLength → ⊥) → lentRefusal 4 port ≡ takeNumber 4 lent lentAnswer lentBytes port
+  pub take-lent : (lentBytes : ℕ) → (lentAnswer ≡ takeLength → ⊥) → lentRefusal ports port ≡ takeNumber ports lent lentAnswer lentBytes port
   unfolding lentRefusal takeNumber
-  take-lent lentBytes h = rw (or-true-first (notOf bytesLength lentBytes) (or-true (notLong 4 lent) (wrong h)))
+  take-lent lentBytes h = rw (or-true-first (notOf bytesLength lentBytes) (or-true (notLong ports lent) (wrong h)))
 
-  pub take-lent-bytes : (lentBytes : ℕ) → (lentBytes ≡ bytesLength → ⊥) → lentRefusal 4 port ≡ takeNumber 4 lent lentAnswer lentBytes port
+  pub take-lent-bytes : (lentBytes : ℕ) → (lentBytes ≡ bytesLength → ⊥) → lentRefusal ports port ≡ takeNumber ports lent lentAnswer lentBytes port
   unfolding lentRefusal takeNumber
-  take-lent-bytes lentBytes h = rw (or-true (notLong 4 lent || notOf takeLength lentAnswer) (wrong h))
+  take-lent-bytes lentBytes h = rw (or-true (notLong ports lent || notOf takeLength lentAnswer) (wrong h))
 
-  pub take-number : (lentBytes : ℕ) → lentAnswer ≡ takeLength → lentBytes ≡ bytesLength → takeNumber 4 lent lentAnswer lentBytes port ≡ takeRefusal 4 lent port
+  pub take-number : (lentBytes : ℕ) → lentAnswer ≡ takeLength → lentBytes ≡ bytesLength → takeNumber ports lent lentAnswer lentBytes port ≡ takeRefusal ports lent port
   unfolding takeNumber takeRefusal
-  take-number lentBytes e e′ = rw (or-false (notLong 4 lent || notOf takeLength lentAnswer) (right e′), or-false (notLong 4 lent) (right e))
+  take-number lentBytes e e′ = rw (or-false (notLong ports lent || notOf takeLength lentAnswer) (right e′), or-false (notLong ports lent) (right e))
 
   module _ (lentReply : ℕ) (rest : Rest) (requester : ℕ) where
-    message-lent : (size : ℕ) → (lentAnswer ≡ messageLength → ⊥) → messageNumber 4 lent lentReply lentAnswer rest port requester size ≡ lentRefusal 4 port
+    message-lent : (size : ℕ) → (lentAnswer ≡ messageLength → ⊥) → messageNumber ports lent lentReply lentAnswer rest port requester size ≡ lentRefusal ports port
     unfolding lentRefusal messageNumber
-    message-lent size h = rw (or-true (notLong 4 lent || ltb lentReply longest) (wrong h))
+    message-lent size h = rw (or-true (notLong ports lent || ltb lentReply longest) (wrong h))
 
-    message-number : (size : ℕ) → lentAnswer ≡ messageLength → messageNumber 4 lent lentReply lentAnswer rest port requester size ≡ messageRefusal 4 lent lentReply rest port requester size
+    message-number : (size : ℕ) → lentAnswer ≡ messageLength → messageNumber ports lent lentReply lentAnswer rest port requester size ≡ messageRefusal ports lent lentReply rest port requester size
     unfolding messageNumber messageRefusal
-    message-number size e = rw (or-false (notLong 4 lent || ltb lentReply longest) (right e))
+    message-number size e = rw (or-false (notLong ports lent || ltb lentReply longest) (right e))
 
     -- an answer of a wrong length: nothing is written
-    pub silent : (payload : List ℕ) → (lentAnswer ≡ messageLength → ⊥) → repliedTo 4 lent lentReply lentAnswer rest port requester payload ≡ silentReply (lentRefusal 4 port) (rest .pairs)
+    pub silent : (payload : List ℕ) → (lentAnswer ≡ messageLength → ⊥) → repliedTo ports lent lentReply lentAnswer rest port requester payload ≡ silentReply (lentRefusal ports port) (rest .pairs)
     unfolding repliedTo
-    silent payload h = rw (message-lent (length payload) h, ne-eqb (lentRefusal 4 port) 0 (not-0 port))
+    silent payload h = rw (message-lent (length payload) h, ne-eqb (lentRefusal ports port) 0 (not-0 ports port))
 
-    pub replied-as : (payload : List ℕ) → lentAnswer ≡ messageLength → repliedTo 4 lent lentReply lentAnswer rest port requester payload ≡ messaged 4 lent lentReply rest port requester payload
+    pub replied-as : (payload : List ℕ) → lentAnswer ≡ messageLength → repliedTo ports lent lentReply lentAnswer rest port requester payload ≡ messaged ports lent lentReply rest port requester payload
     unfolding repliedTo messaged
     replied-as payload e = rw (message-number (length payload) e)
 
-module _ (lent lentAnswer : ℕ) (own : Unit) where
-  pub start-lent : (lentAnswer ≡ startLength → ⊥) → 2 ≡ startNumber 4 lent lentAnswer own
+module _ (ports lent lentAnswer : ℕ) (own : Unit) where
+  pub start-lent : (lentAnswer ≡ startLength → ⊥) → 2 ≡ startNumber ports lent lentAnswer own
   unfolding startNumber
-  start-lent h = rw (or-true (notLong 4 lent) (wrong h))
+  start-lent h = rw (or-true (notLong ports lent) (wrong h))
 
-  pub start-number : lentAnswer ≡ startLength → startNumber 4 lent lentAnswer own ≡ startRefusal 4 lent own
+  pub start-number : lentAnswer ≡ startLength → startNumber ports lent lentAnswer own ≡ startRefusal ports lent own
   unfolding startNumber startRefusal
-  start-number e = rw (or-false (notLong 4 lent) (right e))
+  start-number e = rw (or-false (notLong ports lent) (right e))
 
-module _ (lent lentAnswer : ℕ) where
-  pub unit-lent : (lentAnswer ≡ unitLength → ⊥) → 2 ≡ unitNumber 4 lent lentAnswer
+module _ (ports lent lentAnswer : ℕ) where
+  pub unit-lent : (lentAnswer ≡ unitLength → ⊥) → 2 ≡ unitNumber ports lent lentAnswer
   unfolding unitNumber
-  unit-lent h = rw (or-true (notLong 4 lent) (wrong h))
+  unit-lent h = rw (or-true (notLong ports lent) (wrong h))
 
-  pub unit-number : lentAnswer ≡ unitLength → unitNumber 4 lent lentAnswer ≡ unitRefusal 4 lent
-  unfolding unitNumber unitRefusal
-  unit-number e = rw (or-false (notLong 4 lent) (right e))
+  pub unit-number : lentAnswer ≡ unitLength → unitNumber ports lent lentAnswer ≡ lengthRefusal ports lent
+  unfolding unitNumber lengthRefusal
+  unit-number e = rw (or-false (notLong ports lent) (right e))
 
 module _ (lentAnswer lentBytes : ℕ) where
   pub queue-lent : (lentAnswer ≡ takeLength → ⊥) → 2 ≡ queueNumber lentAnswer lentBytes

@@ -16,6 +16,7 @@ use Rattle.checks.specs.Checks.{check, first}
 use Rattle.network_message.specs.Decoding.{decoded, longest}
 use Rattle.bridge.specs.declared.StartAnswer.{StartAnswer}
 use Rattle.unit.specs.declared.Unit.{Unit}
+use Rattle.unit.specs.Count.{portsOf}
 use Rattle.unit.specs.Model.{Rest, Seen, modelOf}
 use Rattle.checks.specs.Ports.{noPort}
 use Rattle.flat_answers.specs.Answers.{frameLength, takeLength, bytesLength, unitLength, frameWords, takeWords, bytesOfTaken, unitWords}
@@ -40,6 +41,7 @@ lentRefusal ports port = first (check (noPort ports port) 1 ∷ check true 2 ∷
 pub record Served (ports : ℕ) (before after : List ℕ) (k : Call) (r : ℕ) : Type 0 where
   pub long : length after ≡ length before
   pub state : modelOf ports after ≡ cond (eqb r 0) (next ports (length before) (modelOf ports before) k) (modelOf ports before)
+  pub count : portsOf after ≡ portsOf before
   pub refused : (r ≡ 0 → ⊥) → after ≡ before
 
 -- "On a refusal it is left as it was."
@@ -71,8 +73,8 @@ pub record TakeCall (ports : ℕ) (before after : List ℕ) (port : ℕ) (answer
   pub number : r ≡ takeNumber ports (length before) (length answer) (length bytes) port
   pub served : Served ports before after (TakeOut port) r
   -- "A take changes that port's queue only": every word before it and behind it is as it was
-  pub ahead : take (queueAt ports port) after ≡ take (queueAt ports port) before
-  pub behind : drop (queueAt ports port + blockLength) after ≡ drop (queueAt ports port + blockLength) before
+  pub ahead : take (queueAt port) after ≡ take (queueAt port) before
+  pub behind : drop (queueAt port + blockLength) after ≡ drop (queueAt port + blockLength) before
   pub tells : told ≡ filled r (takeWords (gave (takeAnswer ports (length before) (modelOf ports before) port))) answer
   pub writes : written ≡ filled r (bytesOfTaken (gave (takeAnswer ports (length before) (modelOf ports before) port)) bytes) bytes
 
@@ -137,7 +139,7 @@ unitNumber ports lent lentAnswer = first (check (notLong ports lent || notOf uni
 pub record UnitCall (ports : ℕ) (words answer told : List ℕ) (r : ℕ) : Type 0 where
   pub number : r ≡ unitNumber ports (length words) (length answer)
   pub served : Served ports words words ReadUnit r
-  pub tells : told ≡ filled r (unitWords (modelOf ports words .rest .own) ports) answer
+  pub tells : told ≡ filled r (unitWords (modelOf ports words .rest .own)) answer
 
 -- ---- deorasaeng_take_queue: `before` and `after` are the words of one port's queue
 unfoldable pub queueNumber : ℕ → ℕ → ℕ

@@ -5,12 +5,13 @@ use bridge::UnitAnswer;
 use queue::Queue;
 use unit::Unit;
 ghost use mathlib.Core.Path.{_≡_};
+ghost use Rattle.unit.specs.Count.{portsOf};
 ghost use Rattle.unit.specs.PowerOn.{PoweringOn};
 ghost use Rattle.bridge.specs.Calls.{Quieting};
 ghost use Rattle.deorasaeng.specs.Interface.{lentRefusal, FrameCall, TakeCall, MessageCall, StartCall, UnitCall, QueueCall};
 
 // The version of the interface, which the header names: it rises with every function, number or word that is added.
-pub const VERSION: u64 = 2;
+pub const VERSION: u64 = 3;
 
 // The published lengths of the answers.
 pub const FRAME_WORDS: usize = 7;
@@ -24,21 +25,34 @@ pub const START_WORDS: usize = 2;
 pub const UNIT_WORDS: usize = 5;
 
 // The number of a call that names a port and lends storage of a wrong length: 1 stands before 2.
-fn lent_refusal(port: u32) -> u32
-    ensures { λ r. ⌜ r ≡ lentRefusal 4 port ⌝ }
+fn lent_refusal(words: &[u64], port: u32) -> u32
+    ensures { λ r. ⌜ r ≡ lentRefusal (portsOf (now (words .entry))) port ⌝ }
 {
-    if !checks::is_port(port) {
+    if !checks::is_port(unit::ports_of(words), port) {
         return 1;
     }
     2
 }
 
-// Power-on: the record becomes that of a fresh unit.
+// Power-on: the record becomes that of a fresh unit of four ports.
 #[no_mangle]
 pub extern "C" fn deorasaeng_power_on(words: &mut [u64], name: u64, preferred: u32) -> u32
     ensures { λ r. ⌜ PoweringOn 4 (now (words .entry)) (now (words .exit)) name preferred r ⌝ }
 {
     Unit::power_on(words, name, preferred)
+}
+
+// Power-on with a number of ports, 2 to 8.
+#[no_mangle]
+pub extern "C" fn deorasaeng_power_on_ports(
+    words: &mut [u64],
+    name: u64,
+    preferred: u32,
+    ports: u32,
+) -> u32
+    ensures { λ r. ⌜ PoweringOn ports (now (words .entry)) (now (words .exit)) name preferred r ⌝ }
+{
+    Unit::power_on_ports(words, name, preferred, ports)
 }
 
 // A frame arrived at a port.
@@ -50,10 +64,10 @@ pub extern "C" fn deorasaeng_frame(
     bytes: &[u8],
     answer: &mut [u64],
 ) -> u32
-    ensures { λ r. ⌜ FrameCall 4 (now (words .entry)) (now (words .exit)) port id (now (bytes .entry)) (now (answer .entry)) (now (answer .exit)) r ⌝ }
+    ensures { λ r. ⌜ FrameCall (portsOf (now (words .entry))) (now (words .entry)) (now (words .exit)) port id (now (bytes .entry)) (now (answer .entry)) (now (answer .exit)) r ⌝ }
 {
     if answer.len() != FRAME_WORDS {
-        return lent_refusal(port);
+        return lent_refusal(words, port);
     }
     let a = bridge::frame(words, port, id, bytes);
     let number = a.refusal;
@@ -72,13 +86,13 @@ pub extern "C" fn deorasaeng_take(
     answer: &mut [u64],
     bytes: &mut [u8],
 ) -> u32
-    ensures { λ r. ⌜ TakeCall 4 (now (words .entry)) (now (words .exit)) port (now (answer .entry)) (now (answer .exit)) (now (bytes .entry)) (now (bytes .exit)) r ⌝ }
+    ensures { λ r. ⌜ TakeCall (portsOf (now (words .entry))) (now (words .entry)) (now (words .exit)) port (now (answer .entry)) (now (answer .exit)) (now (bytes .entry)) (now (bytes .exit)) r ⌝ }
 {
     if answer.len() != TAKE_WORDS {
-        return lent_refusal(port);
+        return lent_refusal(words, port);
     }
     if bytes.len() != flat_answers::FRAME_BYTES {
-        return lent_refusal(port);
+        return lent_refusal(words, port);
     }
     let t = bridge::take(words, port);
     match t {
@@ -97,10 +111,10 @@ pub extern "C" fn deorasaeng_message(
     reply: &mut [u8],
     answer: &mut [u64],
 ) -> u32
-    ensures { λ r. ⌜ MessageCall 4 (now (words .entry)) (now (words .exit)) port requester (now (payload .entry)) (now (reply .entry)) (now (reply .exit)) (now (answer .entry)) (now (answer .exit)) r ⌝ }
+    ensures { λ r. ⌜ MessageCall (portsOf (now (words .entry))) (now (words .entry)) (now (words .exit)) port requester (now (payload .entry)) (now (reply .entry)) (now (reply .exit)) (now (answer .entry)) (now (answer .exit)) r ⌝ }
 {
     if answer.len() != MESSAGE_WORDS {
-        return lent_refusal(port);
+        return lent_refusal(words, port);
     }
     let a = bridge::message(words, port, requester, payload, reply);
     answer[0] = a.pgn as u64;
@@ -111,7 +125,7 @@ pub extern "C" fn deorasaeng_message(
 // The unit claims its preferred address.
 #[no_mangle]
 pub extern "C" fn deorasaeng_start(words: &mut [u64], answer: &mut [u64]) -> u32
-    ensures { λ r. ⌜ StartCall 4 (now (words .entry)) (now (words .exit)) (now (answer .entry)) (now (answer .exit)) r ⌝ }
+    ensures { λ r. ⌜ StartCall (portsOf (now (words .entry))) (now (words .entry)) (now (words .exit)) (now (answer .entry)) (now (answer .exit)) r ⌝ }
 {
     if answer.len() != START_WORDS {
         return 2;
@@ -130,7 +144,7 @@ pub extern "C" fn deorasaeng_start(words: &mut [u64], answer: &mut [u64]) -> u32
 // The 250 ms after the unit's claim are over.
 #[no_mangle]
 pub extern "C" fn deorasaeng_quiet(words: &mut [u64]) -> u32
-    ensures { λ r. ⌜ Quieting 4 (now (words .entry)) (now (words .exit)) r ⌝ }
+    ensures { λ r. ⌜ Quieting (portsOf (now (words .entry))) (now (words .entry)) (now (words .exit)) r ⌝ }
 {
     bridge::quiet(words)
 }
@@ -138,7 +152,7 @@ pub extern "C" fn deorasaeng_quiet(words: &mut [u64]) -> u32
 // The unit is read: its claim state, its addresses, its NAME, and how many ports it has.
 #[no_mangle]
 pub extern "C" fn deorasaeng_unit(words: &[u64], answer: &mut [u64]) -> u32
-    ensures { λ r. ⌜ UnitCall 4 (now (words .entry)) (now (answer .entry)) (now (answer .exit)) r ⌝ }
+    ensures { λ r. ⌜ UnitCall (portsOf (now (words .entry))) (now (words .entry)) (now (answer .entry)) (now (answer .exit)) r ⌝ }
 {
     if answer.len() != UNIT_WORDS {
         return 2;
@@ -146,7 +160,7 @@ pub extern "C" fn deorasaeng_unit(words: &[u64], answer: &mut [u64]) -> u32
     let told = bridge::unit(words);
     match told {
         UnitAnswer::Refused(number) => number,
-        UnitAnswer::Told { unit, ports } => flat_answers::tell_unit(answer, unit, ports),
+        UnitAnswer::Told(unit) => flat_answers::tell_unit(answer, unit),
     }
 }
 

@@ -51,6 +51,14 @@ fn power_on(record: &mut [u64], preferred: u32) {
     text(b"\n");
 }
 
+fn power_on_ports(record: &mut [u64], word: &[u8], count: u32) {
+    head(
+        word,
+        deorasaeng::deorasaeng_power_on_ports(record, NAME, 0x90, count),
+    );
+    text(b"\n");
+}
+
 fn start(record: &mut [u64]) {
     let mut answer = [0u64; deorasaeng::START_WORDS];
     head(b"Start", deorasaeng::deorasaeng_start(record, &mut answer));
@@ -218,6 +226,25 @@ fn is_taken_over(record: &mut [u64]) {
     );
 }
 
+// Nine ports are none: the unit has four then. The record of four is not of the length for eight.
+fn wrong_counts(record: &mut [u64]) {
+    power_on_ports(record, b"power-on, 9 ports", 9);
+    unit(record);
+    power_on_ports(record, b"power-on, 8 ports", 8);
+}
+
+// A unit of eight ports: a frame from the last at the other seven, and a port that is not there.
+fn eight_ports() {
+    let mut space = [0u64; 2937];
+    let record: &mut [u64] = &mut space;
+    power_on_ports(record, b"power-on, 8 ports", 8);
+    unit(record);
+    frame(record, b"from port 8", 8, 0x18FEF126, b"\x01");
+    take(record, b"take 7", 7);
+    take(record, b"take 8", 8);
+    frame(record, b"port 9", 9, 0x18FEF126, b"\x01");
+}
+
 fn main() {
     let mut space = [0u64; Unit::RECORD_LENGTH];
     let record: &mut [u64] = &mut space;
@@ -233,4 +260,6 @@ fn main() {
     full(record);
     is_lost(record);
     is_taken_over(record);
+    wrong_counts(record);
+    eight_ports();
 }

@@ -54,10 +54,10 @@ abbrev pub unitLength : ℕ
 unitLength = 5
 
 -- claim state (0 Unstarted, 1 Claiming, 2 Claimed, 3 Lost), address (254 for none), preferred address, NAME, number of ports
-abbrev pub unitWords : Unit → ℕ → List ℕ
-unitWords own ports = claimWord (own .claim) ∷ own .address ∷ own .preferred ∷ own .name ∷ ports ∷ []
+abbrev pub unitWords : Unit → List ℕ
+unitWords own = claimWord (own .claim) ∷ own .address ∷ own .preferred ∷ own .name ∷ own .ports ∷ []
 
 -- the contract of telling it, which is done
-pub record TellingUnit (told : List ℕ) (own : Unit) (ports r : ℕ) : Type 0 where
+pub record TellingUnit (told : List ℕ) (own : Unit) (r : ℕ) : Type 0 where
   pub number : r ≡ 0
-  pub tells : told ≡ unitWords own ports
+  pub tells : told ≡ unitWords own

@@ -88,15 +88,15 @@ pub fn tell_taken(answer: &mut [u64], bytes: &mut [u8], taken: Taken) -> u32
 }
 
 // The unit, read: 0.
-pub fn tell_unit(answer: &mut [u64], unit: Unit, ports: u32) -> u32
+pub fn tell_unit(answer: &mut [u64], unit: Unit) -> u32
     requires { ⌜ length (now answer) ≡ unitLength ⌝ }
-    ensures { λ r. ⌜ TellingUnit (now (answer .exit)) unit ports r ⌝ }
+    ensures { λ r. ⌜ TellingUnit (now (answer .exit)) unit r ⌝ }
 {
     let claim = unit.claim;
     answer[0] = claim.word();
     answer[1] = unit.address as u64;
     answer[2] = unit.preferred as u64;
     answer[3] = unit.name;
-    answer[4] = ports as u64;
+    answer[4] = unit.ports as u64;
     0
 }

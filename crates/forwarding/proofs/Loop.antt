@@ -19,73 +19,75 @@ use Rattle.unit.specs.Model.{Rest, modelOf, rowAt, withRow, withRows, recordLen
 use Rattle.forwarding.specs.Forwarding.{sentIf, accepts, loses, losesOwn}
 use Rattle.forwarding.specs.Steps.{changedTo, share, forwardedTo, sharesTo, Sending, Forwarding, announcedTo, unsentTo, OwnJoining, Announcing}
 use Rattle.unit.proofs.Ports.{each-later, each-step, mask-step, total-step, mask-small, choice-small, each-none, mask-none}
-use Rattle.record.proofs.Regions.{rows-four}
+use Rattle.record.proofs.Regions.{rows-long}
 use Rattle.unit.specs.declared.Sent.{Sent}
 
 -- ---- any loop over the ports
 -- where it stands: each of the first n rows is changed by itself, and the bit is the next port's
-pub record Along (start : List ℕ) (change : ℕ → List Frame → List Frame) (words : List ℕ) (bit n : ℕ) : Type 0 where
-  pub whole : length words ≡ recordLength 4
-  pub within : n ≤ 4
+pub record Along (ports : ℕ) (start : List ℕ) (change : ℕ → List Frame → List Frame) (words : List ℕ) (bit n : ℕ) : Type 0 where
+  pub few : ports ≤ 8
+  pub whole : length words ≡ recordLength ports
+  pub within : n ≤ ports
   pub weight : bit ≡ 2 ^ n
-  pub state : modelOf 4 words ≡ changedTo n (modelOf 4 start) change
+  pub state : modelOf ports words ≡ changedTo n (modelOf ports start) change
 
-module _ {start : List ℕ} {change : ℕ → List Frame → List Frame} where
-  along-start : length start ≡ recordLength 4 → Along start change start 1 0
+module _ {ports : ℕ} {start : List ℕ} {change : ℕ → List Frame → List Frame} where
+  along-start : ports ≤ 8 → length start ≡ recordLength ports → Along ports start change start 1 0
   unfolding each
-  along-start h = record { whole = h; within = omega arith; weight = refl; state = refl }
+  along-start few h = record { few = few; whole = h; within = omega arith; weight = refl; state = refl }
 
-  module _ {words : List ℕ} {bit n : ℕ} (A : Along start change words bit n) where
-    rest-still : modelOf 4 words .rest ≡ modelOf 4 start .rest
+  module _ {words : List ℕ} {bit n : ℕ} (A : Along ports start change words bit n) where
+    rest-still : modelOf ports words .rest ≡ modelOf ports start .rest
     rest-still = rw (A .state)
 
     -- port n's row is still the one at the start
-    row-still : rowAt (modelOf 4 words) n ≡ rowAt (modelOf 4 start) n
-    row-still = rw (A .state) (each-later change n (modelOf 4 start .rows) n [] (omega arith))
+    row-still : rowAt (modelOf ports words) n ≡ rowAt (modelOf ports start) n
+    row-still = rw (A .state) (each-later change n (modelOf ports start .rows) n [] (omega arith))
 
-    along-more : {after : List ℕ} → n < 4 → length after ≡ recordLength 4 → modelOf 4 after ≡ withRow (modelOf 4 words) n (change n (rowAt (modelOf 4 words) n)) → Along start change after (2 * bit) (n + 1)
+    along-more : {after : List ℕ} → n < ports → length after ≡ recordLength ports → modelOf ports after ≡ withRow (modelOf ports words) n (change n (rowAt (modelOf ports words) n)) → Along ports start change after (2 * bit) (n + 1)
     along-more more h e = record {
+      few = A .few;
       whole = h;
       within = omega arith;
       weight = rw (A .weight, add-one n, pow-succ' 2 n);
-      state = (rw (A .state) at e) ∙ ap (withRows (modelOf 4 start)) (each-step change n (modelOf 4 start .rows) [] (omega (arith, rows-four start)));
+      state = (rw (A .state) at e) ∙ ap (withRows (modelOf ports start)) (each-step change n (modelOf ports start .rows) [] (omega (arith, rows-long ports start)));
     }
 
-    bit-small : n < 4 → bit ≤ 8
-    bit-small h = rw (A .weight) (pow-le-pow-right {n = 2} (omega arith) {i = n} {j = 3} (omega arith))
+    bit-small : n < ports → bit ≤ 128
+    bit-small h = rw (A .weight) (pow-le-pow-right {n = 2} (omega arith) {i = n} {j = 7} (omega (arith, A .few)))
 
     -- a set of ports below n with port n, or without it
-    mask-sum : (test : ℕ → Bool) {ports r : ℕ} → n < 4 → ports ≡ mask test n → r ≤ bit → ports + r < 16
-    mask-sum test {ports} h e l =
-        let x : ports < 2 ^ n = rw e (mask-small test n) in
+    mask-sum : (test : ℕ → Bool) {set r : ℕ} → n < ports → set ≡ mask test n → r ≤ bit → set + r < 256
+    mask-sum test {set} h e l =
+        let x : set < 2 ^ n = rw e (mask-small test n) in
         omega (arith, bit-small h, A .weight)
 
 -- ---- a forwarded frame, by any question
-pub record Going (start : List ℕ) (question : ℕ → Asked) (f : Frame) (words : List ℕ) (accepted lost compared bit n : ℕ) : Type 0 where
-  pub along : Along start (λ q row. joinAll size row (sentIf (question q) f)) words bit n
-  pub answer : record { accepted = accepted; lost = lost; compared = compared } ≡ sharesTo n (modelOf 4 start) question
+pub record Going (ports : ℕ) (start : List ℕ) (question : ℕ → Asked) (f : Frame) (words : List ℕ) (accepted lost compared bit n : ℕ) : Type 0 where
+  pub along : Along ports start (λ q row. joinAll size row (sentIf (question q) f)) words bit n
+  pub answer : record { accepted = accepted; lost = lost; compared = compared } ≡ sharesTo n (modelOf ports start) question
   pub small : compared ≤ listSize * n
 
 -- forwarding changes rows alone, so what is asked of the rest is answered as it was at the start
-pub asked-still : (question : Rest → ℕ → Asked) {start words after : List ℕ} {f : Frame} {accepted lost compared bit n : ℕ} {r : Share} → Going start (question (modelOf 4 start .rest)) f words accepted lost compared bit n
-    → Sending 4 words after (question (modelOf 4 words .rest) n) n bit f r → Sending 4 words after (question (modelOf 4 start .rest) n) n bit f r
+pub asked-still : {ports : ℕ} (question : Rest → ℕ → Asked) {start words after : List ℕ} {f : Frame} {accepted lost compared bit n : ℕ} {r : Share} → Going ports start (question (modelOf ports start .rest)) f words accepted lost compared bit n
+    → Sending ports words after (question (modelOf ports words .rest) n) n bit f r → Sending ports words after (question (modelOf ports start .rest) n) n bit f r
 asked-still question G S = rw (rest-still (G .along)) at S
 
-module _ {start : List ℕ} {question : ℕ → Asked} {f : Frame} where
-  pub going-start : length start ≡ recordLength 4 → Going start question f start 0 0 0 1 0
+module _ {ports : ℕ} {start : List ℕ} {question : ℕ → Asked} {f : Frame} where
+  pub going-start : ports ≤ 8 → length start ≡ recordLength ports → Going ports start question f start 0 0 0 1 0
   unfolding sharesTo mask total
-  going-start h = record { along = along-start h; answer = refl; small = omega arith }
+  going-start few h = record { along = along-start few h; answer = refl; small = omega arith }
 
-  pub going-done : {words : List ℕ} {accepted lost compared bit n : ℕ} → n ≡ 4 → Going start question f words accepted lost compared bit n
-      → Forwarding 4 start words question f (record { accepted = accepted; lost = lost; compared = compared })
+  pub going-done : {words : List ℕ} {accepted lost compared bit n : ℕ} → n ≡ ports → Going ports start question f words accepted lost compared bit n
+      → Forwarding ports start words question f (record { accepted = accepted; lost = lost; compared = compared })
   unfolding forwardedTo
   going-done e G = record { answer = rw e at (G .answer); state = rw e at (G .along .state) }
 
-  module _ {words after : List ℕ} {accepted lost compared bit n : ℕ} {r : Share} (G : Going start question f words accepted lost compared bit n) (S : Sending 4 words after (question n) n bit f r) (more : n < 4) where
-    share-is : r ≡ share (2 ^ n) (question n) (rowAt (modelOf 4 start) n)
+  module _ {words after : List ℕ} {accepted lost compared bit n : ℕ} {r : Share} (G : Going ports start question f words accepted lost compared bit n) (S : Sending ports words after (question n) n bit f r) (more : n < ports) where
+    share-is : r ≡ share (2 ^ n) (question n) (rowAt (modelOf ports start) n)
     share-is = rw (row-still (G .along), G .along .weight) at (S .answer)
 
-    pub going-more : length after ≡ recordLength 4 → Going start question f after (accepted + r .accepted) (lost + r .lost) (compared + r .compared) (2 * bit) (n + 1)
+    pub going-more : length after ≡ recordLength ports → Going ports start question f after (accepted + r .accepted) (lost + r .lost) (compared + r .compared) (2 * bit) (n + 1)
     unfolding sharesTo
     going-more h = record {
       along = along-more (G .along) more h (S .state);
@@ -98,53 +100,53 @@ module _ {start : List ℕ} {question : ℕ → Asked} {f : Frame} where
     }
 
     -- no sum overflows
-    pub sums : (accepted + r .accepted < 16) × (lost + r .lost < 16) × (compared + r .compared < 160) × (2 * bit ≤ 16)
+    pub sums : (accepted + r .accepted < 256) × (lost + r .lost < 256) × (compared + r .compared < 288) × (2 * bit ≤ 256)
     unfolding sharesTo
     sums =
-        let row = rowAt (modelOf 4 words) n in (
-          mask-sum (G .along) (λ q. accepts (question q) (rowAt (modelOf 4 start) q)) more
+        let row = rowAt (modelOf ports words) n in (
+          mask-sum (G .along) (λ q. accepts (question q) (rowAt (modelOf ports start) q)) more
               (ap (λ (x : Share). x .accepted) (G .answer)) (rw (S .answer) (choice-small (accepts (question n) row) bit)),
-          mask-sum (G .along) (λ q. loses (question q) (rowAt (modelOf 4 start) q)) more
+          mask-sum (G .along) (λ q. loses (question q) (rowAt (modelOf ports start) q)) more
               (ap (λ (x : Share). x .lost) (G .answer)) (rw (S .answer) (choice-small (loses (question n) row) bit)),
-          omega (arith, S .small, G .small),
+          omega (arith, S .small, G .small, G .along .few),
           omega (arith, bit-small (G .along) more),
         )
 
 -- ---- the unit's own frame
-pub record Telling (start : List ℕ) (f : Frame) (words : List ℕ) (lost bit n : ℕ) : Type 0 where
-  pub along : Along start (λ q row. joinAll size row (f ∷ [])) words bit n
-  pub answer : lost ≡ unsentTo n (modelOf 4 start) (One f)
+pub record Telling (ports : ℕ) (start : List ℕ) (f : Frame) (words : List ℕ) (lost bit n : ℕ) : Type 0 where
+  pub along : Along ports start (λ q row. joinAll size row (f ∷ [])) words bit n
+  pub answer : lost ≡ unsentTo n (modelOf ports start) (One f)
 
-module _ {start : List ℕ} {f : Frame} where
-  pub telling-start : length start ≡ recordLength 4 → Telling start f start 0 1 0
+module _ {ports : ℕ} {start : List ℕ} {f : Frame} where
+  pub telling-start : ports ≤ 8 → length start ≡ recordLength ports → Telling ports start f start 0 1 0
   unfolding unsentTo mask
-  telling-start h = record { along = along-start h; answer = refl }
+  telling-start few h = record { along = along-start few h; answer = refl }
 
-  pub telling-done : {words : List ℕ} {lost bit n : ℕ} → n ≡ 4 → Telling start f words lost bit n → Announcing 4 start words (One f) lost
+  pub telling-done : {words : List ℕ} {lost bit n : ℕ} → n ≡ ports → Telling ports start f words lost bit n → Announcing ports start words (One f) lost
   unfolding announcedTo
   telling-done e T = record { answer = rw e at (T .answer); state = rw e at (T .along .state) }
 
-  module _ {words after : List ℕ} {lost bit n r : ℕ} (T : Telling start f words lost bit n) (J : OwnJoining 4 words after n bit f r) (more : n < 4) where
-    pub telling-more : length after ≡ recordLength 4 → Telling start f after (lost + r) (2 * bit) (n + 1)
+  module _ {words after : List ℕ} {lost bit n r : ℕ} (T : Telling ports start f words lost bit n) (J : OwnJoining ports words after n bit f r) (more : n < ports) where
+    pub telling-more : length after ≡ recordLength ports → Telling ports start f after (lost + r) (2 * bit) (n + 1)
     unfolding unsentTo
     telling-more h = record {
       along = along-more (T .along) more h (J .state);
       answer =
-          let e : r ≡ cond (losesOwn (One f) (rowAt (modelOf 4 start) n)) (2 ^ n) 0 = rw (row-still (T .along), T .along .weight) at (J .answer) in
+          let e : r ≡ cond (losesOwn (One f) (rowAt (modelOf ports start) n)) (2 ^ n) 0 = rw (row-still (T .along), T .along .weight) at (J .answer) in
           rw (T .answer, e, mask-step);
     }
 
-    pub told-sums : (lost + r < 16) × (2 * bit ≤ 16)
+    pub told-sums : (lost + r < 256) × (2 * bit ≤ 256)
     unfolding unsentTo
     told-sums = (
-      mask-sum (T .along) (λ q. losesOwn (One f) (rowAt (modelOf 4 start) q)) more (T .answer) (rw (J .answer) (choice-small (losesOwn (One f) (rowAt (modelOf 4 words) n)) bit)),
+      mask-sum (T .along) (λ q. losesOwn (One f) (rowAt (modelOf ports start) q)) more (T .answer) (rw (J .answer) (choice-small (losesOwn (One f) (rowAt (modelOf ports words) n)) bit)),
       omega (arith, bit-small (T .along) more),
     )
 
 -- where it sends none
-pub told-nothing : {words : List ℕ} {s : Sent} → s ≡ Sent.Nothing → Announcing 4 words words s 0
+pub told-nothing : {ports : ℕ} {words : List ℕ} {s : Sent} → s ≡ Sent.Nothing → Announcing ports words words s 0
 unfolding announcedTo unsentTo
-told-nothing {words} e = record {
-  answer = rw (e, mask-none 4);
-  state = rw (e, each-none 4 (modelOf 4 words .rows));
+told-nothing {ports} {words} e = record {
+  answer = rw (e, mask-none ports);
+  state = rw (e, each-none ports (modelOf ports words .rows));
 }

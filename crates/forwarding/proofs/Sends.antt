@@ -2,50 +2,77 @@
 use mathlib.Core.Path.{_≡_, sym}
 use mathlib.Core.Bool.{Bool, true, false, not, cond}
 use mathlib.Core.List.{List, []}
-use Prim.Native.Nat.{ℕ}
+use mathlib.Core.Logic.{inl, inr, ⊎-elim}
+use Prim.Native.Nat.{ℕ, _+_, _-_, _*_, _≤_, _<_}
 use native.Mathlib.Omega.{arith}
-use borrow.Author.Tests.{eq-eqb, ne-eqb}
+use borrow.Author.Tests.{eq-eqb, ne-eqb, lt-ltb, le-ltb}
 use lib.Seq.{set-getD}
 use Rattle.filter.specs.declared.Asked.{Asked}
+use Rattle.filter.specs.Filter.{blockSize as filterLength}
 use Rattle.queue.specs.declared.Frame.{Frame}
-use Rattle.unit.specs.Model.{Model, modelOf, rowAt, withRow}
+use Rattle.unit.specs.Count.{pairCount}
+use Rattle.unit.specs.Model.{Model, modelOf, rowAt, withRow, pairsFrom, pairAt}
+use Rattle.unit.proofs.Count.{pair-below}
 use Rattle.forwarding.specs.Forwarding.{verdict}
 use Rattle.record.specs.Steps.{PairAsking, RowJoining}
-use Rattle.forwarding.specs.Steps.{Sending, OwnJoining}
+use Rattle.forwarding.specs.Steps.{Sending, Standing, OwnJoining}
 
 row-same : (m : Model) (q : ℕ) → m ≡ withRow m q (rowAt m q)
 row-same m q = rw (set-getD (m .rows) q [])
 
-verdict-is : {before : List ℕ} {p q pgn : ℕ} {v : Asked} → (p ≡ q → ⊥) → PairAsking 4 before p q pgn v → verdict 4 (modelOf 4 before .rest .pairs) p pgn q ≡ v
+verdict-is : {ports : ℕ} {before : List ℕ} {p q pgn : ℕ} {v : Asked} → (p ≡ q → ⊥) → PairAsking ports before p q pgn v → verdict ports (modelOf ports before .rest .pairs) p pgn q ≡ v
 unfolding verdict
-verdict-is {before} {p} {q} ne P = rw (ne-eqb p q ne) (sym (P .answer))
+verdict-is {ports} {before} {p} {q} ne P = rw (ne-eqb p q ne) (sym (P .answer))
 
-module _ {before : List ℕ} {p q bit : ℕ} (pgn : ℕ) {f : Frame} where
+module _ {ports : ℕ} {before : List ℕ} {p q bit : ℕ} (pgn : ℕ) {f : Frame} where
   -- the arrival port
-  pub send-self : p ≡ q → Sending 4 before before (verdict 4 (modelOf 4 before .rest .pairs) p pgn q) q bit f (record { accepted = 0; lost = 0; compared = 0 })
+  pub send-self : p ≡ q → Sending ports before before (verdict ports (modelOf ports before .rest .pairs) p pgn q) q bit f (record { accepted = 0; lost = 0; compared = 0 })
   unfolding verdict
   send-self e = record {
     answer = rw (eq-eqb p q e);
-    state = rw (eq-eqb p q e) (row-same (modelOf 4 before) q);
+    state = rw (eq-eqb p q e) (row-same (modelOf ports before) q);
     small = omega arith;
   }
 
-  module _ {v : Asked} (ne : p ≡ q → ⊥) (P : PairAsking 4 before p q pgn v) where
-    pub send-stopped : v .permitted ≡ false → Sending 4 before before (verdict 4 (modelOf 4 before .rest .pairs) p pgn q) q bit f (record { accepted = 0; lost = 0; compared = v .compared })
+  module _ {v : Asked} (ne : p ≡ q → ⊥) (P : PairAsking ports before p q pgn v) where
+    pub send-stopped : v .permitted ≡ false → Sending ports before before (verdict ports (modelOf ports before .rest .pairs) p pgn q) q bit f (record { accepted = 0; lost = 0; compared = v .compared })
     send-stopped e = record {
       answer = rw (verdict-is ne P, e);
-      state = rw (verdict-is ne P, e) (row-same (modelOf 4 before) q);
+      state = rw (verdict-is ne P, e) (row-same (modelOf ports before) q);
       small = P .small;
     }
 
-    pub send-permitted : {after : List ℕ} {w : Bool} (b : Bool) → v .permitted ≡ true → w ≡ b → RowJoining 4 before after q f w
-        → Sending 4 before after (verdict 4 (modelOf 4 before .rest .pairs) p pgn q) q bit f (record { accepted = cond b bit 0; lost = cond (not b) bit 0; compared = v .compared })
+    pub send-permitted : {after : List ℕ} {w : Bool} (b : Bool) → v .permitted ≡ true → w ≡ b → RowJoining ports before after q f w
+        → Sending ports before after (verdict ports (modelOf ports before .rest .pairs) p pgn q) q bit f (record { accepted = cond b bit 0; lost = cond (not b) bit 0; compared = v .compared })
     send-permitted b e h J = record {
       answer = rw (verdict-is ne P, e, ← (J .answer), h);
       state = rw (verdict-is ne P, e) (J .state);
       small = P .small;
     }
 
+-- ---- where a frame from port p stands: at port n, the filter of whose pair begins at a word
+module _ {ports p at n : ℕ} (port : p < ports) (L : Standing ports p at n) where
+  pub stand-self : p ≡ n → Standing ports p at (n + 1)
+  stand-self e = inr (omega arith, ⊎-elim (λ l. omega (arith, l .1)) (λ l. omega (arith, l .0)) L)
+
+  module _ (other : p ≡ n → ⊥) where
+    pub stand-pair : at ≡ pairsFrom ports + filterLength * pairAt ports p n
+    stand-pair =
+        ⊎-elim
+        (λ l. let near : n < p = omega (arith, l .0) in rw (lt-ltb n p near) (l .1))
+        (λ l. let far : p ≤ n = omega (arith, l .0) in rw (le-ltb n p far) (omega (arith, l .0, l .1)))
+        L
+
+    pub stand-count : n < ports → pairAt ports p n < pairCount ports
+    stand-count more =
+        ⊎-elim
+        (λ l. let near : n < p = omega (arith, l .0) in rw (lt-ltb n p near) (pair-below {ports = ports} {p = p} {k = n} port (omega arith)))
+        (λ l. let far : p ≤ n = omega (arith, l .0) in rw (le-ltb n p far) (pair-below {ports = ports} {p = p} {k = n - 1} port (omega (arith, l .0))))
+        L
+
+    pub stand-next : Standing ports p (at + filterLength) (n + 1)
+    stand-next = ⊎-elim (λ l. inl (omega (arith, l .0), omega (arith, l .1))) (λ l. inr (omega (arith, l .0), omega (arith, l .1))) L
+
 -- the unit's own frame
-pub own-joined : {before after : List ℕ} {q bit : ℕ} {f : Frame} {w : Bool} (b : Bool) → w ≡ b → RowJoining 4 before after q f w → OwnJoining 4 before after q bit f (cond (not b) bit 0)
+pub own-joined : {ports : ℕ} {before after : List ℕ} {q bit : ℕ} {f : Frame} {w : Bool} (b : Bool) → w ≡ b → RowJoining ports before after q f w → OwnJoining ports before after q bit f (cond (not b) bit 0)
 own-joined b h J = record { answer = rw (← (J .answer), h); state = J .state }

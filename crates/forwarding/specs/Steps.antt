@@ -1,17 +1,19 @@
 -- The contracts of the loops over the ports: what each does to the model of a record, at one port and at all.
 -- Assumes nothing.
-use Prim.Native.Nat.{ℕ, _≤_}
+use Prim.Native.Nat.{ℕ, _+_, _-_, _*_, _≤_, _<_}
 use mathlib.Core.Bool.{cond}
+use mathlib.Core.Logic.{_⊎_}
 use mathlib.Core.Path.{_≡_}
 use mathlib.Core.List.{List, [], _∷_}
 use Rattle.delivery.specs.Unit.{joinAll}
 use Rattle.filter.specs.declared.Asked.{Asked}
+use Rattle.filter.specs.Filter.{blockSize as filterLength}
 use Rattle.pgn_list.specs.PgnList.{listSize}
 use Rattle.queue.specs.declared.Frame.{Frame}
 use Rattle.queue.specs.Queue.{size}
 use Rattle.unit.specs.declared.Sent.{Sent}
 use Rattle.unit.specs.Ports.{each, mask, total}
-use Rattle.unit.specs.Model.{Model, rowAt, withRow, withRows, modelOf}
+use Rattle.unit.specs.Model.{Model, rowAt, withRow, withRows, pairsFrom, modelOf}
 use Rattle.unit.specs.Own.{framesSent}
 use Rattle.forwarding.specs.declared.Share.{Share}
 use Rattle.forwarding.specs.Forwarding.{sentIf, accepts, loses, losesOwn}
@@ -28,6 +30,11 @@ pub record Sending (ports : ℕ) (before after : List ℕ) (v : Asked) (q bit : 
   pub answer : r ≡ share bit v (rowAt (modelOf ports before) q)
   pub state : modelOf ports after ≡ withRow (modelOf ports before) q (joinAll size (rowAt (modelOf ports before) q) (sentIf v f))
   pub small : r .compared ≤ listSize
+
+-- where the filter begins that port p's frame meets next, before port n: port p itself has none
+abbrev pub Standing : ℕ → ℕ → ℕ → ℕ → Type 0
+Standing ports p at n =
+    ((n ≤ p) × (at ≡ pairsFrom ports + filterLength * ((ports - 1) * p + n))) ⊎ ((p < n) × (at + filterLength ≡ pairsFrom ports + filterLength * ((ports - 1) * p + n)))
 
 unfoldable pub forwardedTo : ℕ → Model → (ℕ → Asked) → Frame → Model
 forwardedTo n m question f = changedTo n m (λ q row. joinAll size row (sentIf (question q) f))

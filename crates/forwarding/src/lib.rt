@@ -2,11 +2,14 @@
 use queue::Frame;
 use unit::Sent;
 ghost use mathlib.Core.Path.{_≡_};
-ghost use Prim.Native.Nat.{_<_};
+ghost use Prim.Native.Nat.{ℕ, _+_, _*_, _≤_, _<_};
 ghost use lib.ListN.{length};
-ghost use Rattle.unit.specs.Model.{modelOf, recordLength};
+ghost use Rattle.queue.specs.Queue.{blockLength as queueLength};
+ghost use Rattle.filter.specs.Filter.{blockSize as filterLength};
+ghost use Rattle.unit.specs.Count.{pairCount};
+ghost use Rattle.unit.specs.Model.{modelOf, recordLength, rowsFrom, pairsFrom, pairAt};
 ghost use Rattle.forwarding.specs.Forwarding.{verdict};
-ghost use Rattle.forwarding.specs.Steps.{Sending, Forwarding, Announcing, OwnJoining};
+ghost use Rattle.forwarding.specs.Steps.{Sending, Standing, Forwarding, Announcing, OwnJoining};
 
 // What came of a frame: accepted and lost ports as masks, bit p - 1 for port p, and the entries compared.
 pub struct Share {
@@ -15,19 +18,18 @@ pub struct Share {
     pub compared: u32,
 }
 
-// A frame from one port at another: the pair is asked, and the frame joins where it is permitted.
-fn send(words: &mut [u64], from: usize, to: usize, bit: u32, pgn: u32, f: Frame) -> Share
-    requires { ⌜ (length (now words) ≡ recordLength 4) × (from < 4) × (to < 4) ⌝ }
-    ensures { λ r. ⌜ Sending 4 (now (words .entry)) (now (words .exit)) (verdict 4 (modelOf 4 (now (words .entry)) .rest .pairs) from pgn to) to bit f r ⌝ }
+// A frame at one port, and the word where the next port's filter begins.
+struct Passed {
+    share: Share,
+    next: usize,
+}
+
+// A frame from one port at another: the pair, whose filter begins at a word, is asked, and the frame joins where it is permitted.
+fn send(words: &mut [u64], at: usize, to: usize, bit: u32, pgn: u32, f: Frame) -> Share
+    requires { ⌜ (at + filterLength ≤ length (now words)) × (rowsFrom + queueLength * to + queueLength ≤ length (now words)) ⌝ }
+    ensures { λ r. ⌜ ((ports from : ℕ) → to < ports → (from ≡ to → ⊥) → pairAt ports from to < pairCount ports → at ≡ pairsFrom ports + filterLength * pairAt ports from to → Sending ports (now (words .entry)) (now (words .exit)) (verdict ports (modelOf ports (now (words .entry)) .rest .pairs) from pgn to) to bit f r) ⌝ }
 {
-    if from == to {
-        return Share {
-            accepted: 0,
-            lost: 0,
-            compared: 0,
-        };
-    }
-    let v = record::ask_pair(words, from, to, pgn);
+    let v = record::ask_filter(words, at, pgn);
     let compared = v.compared;
     if v.permitted {
         let waits = record::join_row(words, to, f);
@@ -51,21 +53,50 @@ fn send(words: &mut [u64], from: usize, to: usize, bit: u32, pgn: u32, f: Frame)
     }
 }
 
-// A frame from one port at every other.
-pub fn forward(words: &mut [u64], from: usize, pgn: u32, f: Frame) -> Share
-    requires { ⌜ (length (now words) ≡ recordLength 4) × (from < 4) ⌝ }
-    ensures { λ r. ⌜ Forwarding 4 (now (words .entry)) (now (words .exit)) (verdict 4 (modelOf 4 (now (words .entry)) .rest .pairs) from pgn) f r ⌝ }
+// A frame from one port at any: nothing is asked at the port itself, and it has no filter to pass.
+fn pass(
+    words: &mut [u64],
+    ports: usize,
+    from: usize,
+    at: usize,
+    to: usize,
+    bit: u32,
+    pgn: u32,
+    f: Frame,
+) -> Passed
+    requires { ⌜ (ports ≤ 8) × (length (now words) ≡ recordLength ports) × (from < ports) × (to < ports) × Standing ports from at to ⌝ }
+    ensures { λ r. ⌜ Sending ports (now (words .entry)) (now (words .exit)) (verdict ports (modelOf ports (now (words .entry)) .rest .pairs) from pgn to) to bit f (r .share) × Standing ports from (r .next) (to + 1) ⌝ }
+{
+    if from == to {
+        let share = Share {
+            accepted: 0,
+            lost: 0,
+            compared: 0,
+        };
+        return Passed { share, next: at };
+    }
+    let share = send(words, at, to, bit, pgn, f);
+    let next = at + filter::BLOCK_SIZE;
+    Passed { share, next }
+}
+
+// A frame from one port at every other, along the filters of the pairs from it.
+pub fn forward(words: &mut [u64], ports: usize, from: usize, pgn: u32, f: Frame) -> Share
+    requires { ⌜ (ports ≤ 8) × (length (now words) ≡ recordLength ports) × (from < ports) ⌝ }
+    ensures { λ r. ⌜ Forwarding ports (now (words .entry)) (now (words .exit)) (verdict ports (modelOf ports (now (words .entry)) .rest .pairs) from pgn) f r ⌝ }
 {
     let mut accepted: u32 = 0;
     let mut lost: u32 = 0;
     let mut compared: u32 = 0;
     let mut bit: u32 = 1;
+    let mut at = record::filters_from(ports, from);
     let mut to: usize = 0;
-    while to < 4 {
-        let s = send(words, from, to, bit, pgn, f);
-        accepted += s.accepted;
-        lost += s.lost;
-        compared += s.compared;
+    while to < ports {
+        let p = pass(words, ports, from, at, to, bit, pgn, f);
+        accepted += p.share.accepted;
+        lost += p.share.lost;
+        compared += p.share.compared;
+        at = p.next;
         bit = 2 * bit;
         to += 1;
     }
@@ -78,8 +109,8 @@ pub fn forward(words: &mut [u64], from: usize, pgn: u32, f: Frame) -> Share
 
 // The unit's own frame at one port: its bit where the frame is lost there, else 0.
 fn join_own(words: &mut [u64], to: usize, bit: u32, f: Frame) -> u32
-    requires { ⌜ (length (now words) ≡ recordLength 4) × (to < 4) ⌝ }
-    ensures { λ r. ⌜ OwnJoining 4 (now (words .entry)) (now (words .exit)) to bit f r ⌝ }
+    requires { ⌜ rowsFrom + queueLength * to + queueLength ≤ length (now words) ⌝ }
+    ensures { λ r. ⌜ ((ports : ℕ) → to < ports → OwnJoining ports (now (words .entry)) (now (words .exit)) to bit f r) ⌝ }
 {
     let waits = record::join_row(words, to, f);
     if waits {
@@ -89,14 +120,14 @@ fn join_own(words: &mut [u64], to: usize, bit: u32, f: Frame) -> u32
 }
 
 // The unit's own frame at every port, the ports where it is lost.
-fn join_all(words: &mut [u64], f: Frame) -> u32
-    requires { ⌜ length (now words) ≡ recordLength 4 ⌝ }
-    ensures { λ r. ⌜ Announcing 4 (now (words .entry)) (now (words .exit)) (Sent.One f) r ⌝ }
+fn join_all(words: &mut [u64], ports: usize, f: Frame) -> u32
+    requires { ⌜ (ports ≤ 8) × (length (now words) ≡ recordLength ports) ⌝ }
+    ensures { λ r. ⌜ Announcing ports (now (words .entry)) (now (words .exit)) (Sent.One f) r ⌝ }
 {
     let mut lost: u32 = 0;
     let mut bit: u32 = 1;
     let mut port: usize = 0;
-    while port < 4 {
+    while port < ports {
         lost += join_own(words, port, bit, f);
         bit = 2 * bit;
         port += 1;
@@ -105,12 +136,12 @@ fn join_all(words: &mut [u64], f: Frame) -> u32
 }
 
 // What the unit sends of its own, to every port; the ports where it is lost.
-pub fn announce(words: &mut [u64], sent: Sent) -> u32
-    requires { ⌜ length (now words) ≡ recordLength 4 ⌝ }
-    ensures { λ r. ⌜ Announcing 4 (now (words .entry)) (now (words .exit)) sent r ⌝ }
+pub fn announce(words: &mut [u64], ports: usize, sent: Sent) -> u32
+    requires { ⌜ (ports ≤ 8) × (length (now words) ≡ recordLength ports) ⌝ }
+    ensures { λ r. ⌜ Announcing ports (now (words .entry)) (now (words .exit)) sent r ⌝ }
 {
     match sent {
         Sent::Nothing => 0,
-        Sent::One(f) => join_all(words, f),
+        Sent::One(f) => join_all(words, ports, f),
     }
 }

@@ -20,11 +20,11 @@ use Rattle.frame_parts.specs.declared.AskAnswer.{AskAnswer}
 use Rattle.frame_parts.specs.declared.JoinAnswer.{JoinAnswer}
 use Rattle.frame_parts.specs.declared.ActAnswer.{ActAnswer}
 use Rattle.frame_parts.specs.declared.AnnounceAnswer.{AnnounceAnswer}
+use Rattle.unit.specs.Count.{portsOf}
 use Rattle.unit.specs.Model.{Rest, Model, rowAt, withRest, withRow, modelOf}
 use Rattle.unit.specs.Own.{consumes}
 use Rattle.checks.specs.Ports.{noPort}
-use Rattle.refusals.specs.Refusals.{frameRefusal}
-use Rattle.unit.specs.PowerOn.{powerOnRefusal}
+use Rattle.refusals.specs.Refusals.{frameRefusal, lengthRefusal}
 use Rattle.forwarding.specs.Forwarding.{silent, verdict}
 use Rattle.claims.specs.Claims.{frameOf, isClaim, Acted, frameActed}
 use Rattle.forwarding.specs.Steps.{announcedTo, unsentTo}
@@ -33,6 +33,7 @@ use Rattle.forwarding.specs.Steps.{announcedTo, unsentTo}
 pub record Changing (ports : ℕ) (before after : List ℕ) (refusal : ℕ) (then : Model) : Type 0 where
   pub long : length after ≡ length before
   pub state : modelOf ports after ≡ cond (eqb refusal 0) then (modelOf ports before)
+  pub count : portsOf after ≡ portsOf before
   pub refused : (refusal ≡ 0 → ⊥) → after ≡ before
 
 -- ---- a frame arrives: refused as a whole call would be (1 to 5), or told whether it is for the unit (rule 1) and whether it is a claim
@@ -98,10 +99,10 @@ pub record PartActing (ports : ℕ) (before after : List ℕ) (port : ℕ) (cons
 -- ---- send the unit's own frame (rule 3 at every port)
 unfoldable pub announceAnswer : ℕ → ℕ → Model → Sent → AnnounceAnswer
 announceAnswer ports lent m s = record {
-  refusal = powerOnRefusal ports lent;
-  unsent = cond (eqb (powerOnRefusal ports lent) 0) (unsentTo ports m s) 0;
+  refusal = lengthRefusal ports lent;
+  unsent = cond (eqb (lengthRefusal ports lent) 0) (unsentTo ports m s) 0;
 }
 
 pub record PartAnnouncing (ports : ℕ) (before after : List ℕ) (s : Sent) (r : AnnounceAnswer) : Type 0 where
   pub answer : r ≡ announceAnswer ports (length before) (modelOf ports before) s
-  pub change : Changing ports before after (powerOnRefusal ports (length before)) (announcedTo ports (modelOf ports before) s)
+  pub change : Changing ports before after (lengthRefusal ports (length before)) (announcedTo ports (modelOf ports before) s)

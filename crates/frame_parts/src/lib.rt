@@ -4,7 +4,9 @@ use queue::Frame;
 use unit::Sent;
 use unit::Unit;
 ghost use mathlib.Core.Path.{_≡_};
+ghost use Prim.Native.Nat.{_≤_};
 ghost use lib.ListN.{length};
+ghost use Rattle.unit.specs.Count.{portsOf};
 ghost use Rattle.unit.specs.Model.{modelOf};
 ghost use Rattle.frame_parts.specs.Parts.{arrival, pairRefusal, PartAsking, PartJoining, PartActing, PartAnnouncing};
 
@@ -44,10 +46,11 @@ pub struct AnnounceAnswer {
 
 // A frame arrived at a port. The record is read alone.
 pub fn arrive(words: &[u64], port: u32, id: u32, bytes: &[u8]) -> Arrival
-    ensures { λ r. ⌜ r ≡ arrival 4 (length (now (words .entry))) (modelOf 4 (now (words .entry)) .rest) port id (now (bytes .entry)) ⌝ }
+    ensures { λ r. ⌜ r ≡ arrival (portsOf (now (words .entry))) (length (now (words .entry))) (modelOf (portsOf (now (words .entry))) (now (words .entry)) .rest) port id (now (bytes .entry)) ⌝ }
 {
+    let ports = unit::ports_of(words);
     let len = bytes.len();
-    let number = refusals::frame_refusal(words.len(), port, id, len);
+    let number = refusals::frame_refusal(ports, words.len(), port, id, len);
     if number != 0 {
         return Arrival {
             refusal: number,
@@ -78,20 +81,22 @@ pub fn arrive(words: &[u64], port: u32, id: u32, bytes: &[u8]) -> Arrival
 }
 
 // The number that a frame from one port to another is refused with, or 0.
-fn pair_refusal(lent: usize, from: u32, to: u32, id: u32, len: usize) -> u32
-    ensures { λ r. ⌜ r ≡ pairRefusal 4 lent from to id len ⌝ }
+fn pair_refusal(ports: u32, lent: usize, from: u32, to: u32, id: u32, len: usize) -> u32
+    requires { ⌜ (2 ≤ ports) × (ports ≤ 8) ⌝ }
+    ensures { λ r. ⌜ r ≡ pairRefusal ports lent from to id len ⌝ }
 {
-    if checks::is_port(to) {
-        return refusals::frame_refusal(lent, from, id, len);
+    if checks::is_port(ports, to) {
+        return refusals::frame_refusal(ports, lent, from, id, len);
     }
     1
 }
 
 // Asks the pair from one port to another about a frame with this identifier. The arrival port is no target.
 pub fn ask(words: &[u64], from: u32, to: u32, id: u32) -> AskAnswer
-    ensures { λ r. ⌜ PartAsking 4 (now (words .entry)) from to id r ⌝ }
+    ensures { λ r. ⌜ PartAsking (portsOf (now (words .entry))) (now (words .entry)) from to id r ⌝ }
 {
-    let number = pair_refusal(words.len(), from, to, id, 0);
+    let ports = unit::ports_of(words);
+    let number = pair_refusal(ports, words.len(), from, to, id, 0);
     if number != 0 {
         return AskAnswer {
             refusal: number,
@@ -108,7 +113,7 @@ pub fn ask(words: &[u64], from: u32, to: u32, id: u32) -> AskAnswer
     }
     let p = from as usize - 1;
     let q = to as usize - 1;
-    let v = record::ask_pair(words, p, q, identifier::pgn(id));
+    let v = record::ask_pair(words, ports as usize, p, q, identifier::pgn(id));
     AskAnswer {
         refusal: 0,
         permitted: v.permitted,
@@ -118,9 +123,10 @@ pub fn ask(words: &[u64], from: u32, to: u32, id: u32) -> AskAnswer
 
 // Sends a frame from one port to another, asking no pair. The arrival port is no target.
 pub fn join(words: &mut [u64], from: u32, to: u32, f: Frame) -> JoinAnswer
-    ensures { λ r. ⌜ PartJoining 4 (now (words .entry)) (now (words .exit)) from to f r ⌝ }
+    ensures { λ r. ⌜ PartJoining (portsOf (now (words .entry))) (now (words .entry)) (now (words .exit)) from to f r ⌝ }
 {
-    let number = pair_refusal(words.len(), from, to, f.id, f.len as usize);
+    let ports = unit::ports_of(words);
+    let number = pair_refusal(ports, words.len(), from, to, f.id, f.len as usize);
     if number != 0 {
         return JoinAnswer {
             refusal: number,
@@ -143,9 +149,10 @@ pub fn join(words: &mut [u64], from: u32, to: u32, f: Frame) -> JoinAnswer
 
 // Acts on a frame that is a claim or a request for one; `consumed` tells whether it was for the unit.
 pub fn act(words: &mut [u64], port: u32, consumed: bool, f: Frame) -> ActAnswer
-    ensures { λ r. ⌜ PartActing 4 (now (words .entry)) (now (words .exit)) port consumed f r ⌝ }
+    ensures { λ r. ⌜ PartActing (portsOf (now (words .entry))) (now (words .entry)) (now (words .exit)) port consumed f r ⌝ }
 {
-    let number = refusals::frame_refusal(words.len(), port, f.id, f.len as usize);
+    let ports = unit::ports_of(words);
+    let number = refusals::frame_refusal(ports, words.len(), port, f.id, f.len as usize);
     if number != 0 {
         return ActAnswer {
             refusal: number,
@@ -165,14 +172,15 @@ pub fn act(words: &mut [u64], port: u32, consumed: bool, f: Frame) -> ActAnswer
 
 // Sends what the unit has to send to every port.
 pub fn announce(words: &mut [u64], sent: Sent) -> AnnounceAnswer
-    ensures { λ r. ⌜ PartAnnouncing 4 (now (words .entry)) (now (words .exit)) sent r ⌝ }
+    ensures { λ r. ⌜ PartAnnouncing (portsOf (now (words .entry))) (now (words .entry)) (now (words .exit)) sent r ⌝ }
 {
-    if words.len() != Unit::RECORD_LENGTH {
+    let ports = unit::ports_of(words);
+    if words.len() != Unit::record_length(ports as usize) {
         return AnnounceAnswer {
             refusal: 2,
             unsent: 0,
         };
     }
-    let unsent = forwarding::announce(words, sent);
+    let unsent = forwarding::announce(words, ports as usize, sent);
     AnnounceAnswer { refusal: 0, unsent }
 }

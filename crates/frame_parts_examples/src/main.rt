@@ -1,5 +1,5 @@
 // A frame's call put together from its parts, beside the call itself: the same frames go to two units, to one whole and to the other part by part, and after
-// each the answers and every word of the two records are compared.
+// each the answers and every word of the two records are compared. So with two, with eight and with four ports.
 use address_claims::Event;
 use bridge::FrameAnswer;
 use bridge::Unit;
@@ -15,6 +15,11 @@ const ADDRESS: u32 = 0x50;
 
 // How many frames are sent by number.
 const FRAMES: u64 = 3000;
+
+// The lengths of a record with two ports and with eight.
+const TWO_PORTS: usize = Unit::QUEUES_AT + queue::BLOCK_LENGTH * 2 + filter::BLOCK_SIZE * 2;
+
+const EIGHT_PORTS: usize = Unit::QUEUES_AT + queue::BLOCK_LENGTH * 8 + filter::BLOCK_SIZE * 56;
 
 // What came of a frame at one port.
 struct Crossing {
@@ -83,7 +88,7 @@ fn bit(on: bool, weight: u32) -> u32
     0
 }
 
-// A set of ports.
+// A set of four ports.
 fn set_of(port1: bool, port2: bool, port3: bool, port4: bool) -> u32 {
     bit(port1, 1) + bit(port2, 2) + bit(port3, 4) + bit(port4, 8)
 }
@@ -100,24 +105,37 @@ fn refused(refusal: u32) -> FrameAnswer {
     }
 }
 
-// What came of a frame at all ports.
+// What came of a frame at some ports.
 struct Crossings {
     accepted: u32,
     lost: u32,
     compared: u32,
 }
 
-// A frame from one port at every port, the sets of ports as bits.
-fn cross_all(consumed: bool, words: &mut [u64], from: u32, f: Frame) -> Crossings {
-    let c1 = cross_unless(consumed, words, from, 1, f);
-    let c2 = cross_unless(consumed, words, from, 2, f);
-    let c3 = cross_unless(consumed, words, from, 3, f);
-    let c4 = cross_unless(consumed, words, from, 4, f);
+// A frame from one port at four ports, the sets of ports as bits.
+fn cross_four(consumed: bool, words: &mut [u64], from: u32, first: u32, f: Frame) -> Crossings
+    requires { ⌜ first ≤ 5 ⌝ }
+{
+    let c1 = cross_unless(consumed, words, from, first, f);
+    let c2 = cross_unless(consumed, words, from, first + 1, f);
+    let c3 = cross_unless(consumed, words, from, first + 2, f);
+    let c4 = cross_unless(consumed, words, from, first + 3, f);
     let compared = c1.compared + c2.compared + c3.compared + c4.compared;
     Crossings {
         accepted: set_of(c1.accepted, c2.accepted, c3.accepted, c4.accepted),
         lost: set_of(c1.lost, c2.lost, c3.lost, c4.lost),
         compared,
+    }
+}
+
+// At every port: a part refuses a port that there isn't. Four ports are below 16, and 4 lists below 1,024.
+fn cross_all(consumed: bool, words: &mut [u64], from: u32, f: Frame) -> Crossings {
+    let low = cross_four(consumed, words, from, 1, f);
+    let high = cross_four(consumed, words, from, 5, f);
+    Crossings {
+        accepted: low.accepted % 16 + high.accepted % 16 * 16,
+        lost: low.lost % 16 + high.lost % 16 * 16,
+        compared: low.compared % 1024 + high.compared % 1024,
     }
 }
 
@@ -338,11 +356,12 @@ fn bytes_of(kind: u64, n: u64) -> [u8; 9] {
     [(n % 4) as u8, 0, 0, 0, 0, 0, 0, (0x90 + n % 32) as u8, 0]
 }
 
-// The frame of a number, from a port, and a take.
+// The frame of a number, from a port, the two next to them too, and a take.
 fn step(whole: &mut [u64], parts: &mut [u64], seed: u64, t: Tally) -> Tally {
+    let ports = unit::ports_of(whole);
     let kind = seed / 7 % 8;
     let n = seed / 64;
-    let port = (seed / 1024 % 16) as u32 / 3;
+    let port = (seed / 1024 % 60) as u32 % (ports + 2);
     let source = source_of(seed / 4096);
     let len = length_of(kind, n);
     let bytes = bytes_of(kind, n);
@@ -430,8 +449,12 @@ fn command(words: &mut [u64], payload: &[u8]) {
 }
 
 // Power-on, Start, Quiet; pair 1 to 2 passes 65265 alone, 1 to 3 blocks 61444, 2 to 1 blocks 65265.
-fn key_on(words: &mut [u64]) {
-    number(b"key on: ", Unit::power_on(words, NAME, ADDRESS));
+fn key_on(words: &mut [u64], ports: u32) {
+    number(b"key on with ", ports);
+    number(
+        b" ports: ",
+        Unit::power_on_ports(words, NAME, ADDRESS, ports),
+    );
     let a = bridge::start(words);
     number(b" ", a.refusal);
     number(b" ", bridge::quiet(words));
@@ -480,19 +503,43 @@ fn others(whole: &mut [u64], parts: &mut [u64]) {
     );
 }
 
+// The frames on two units.
+fn frames(whole: &mut [u64], parts: &mut [u64]) {
+    listed(whole, parts);
+    acted_on(whole, parts);
+    others(whole, parts);
+}
+
+// The same on two units of that many ports.
+fn morning(whole: &mut [u64], parts: &mut [u64], ports: u32) {
+    key_on(whole, ports);
+    key_on(parts, ports);
+    frames(whole, parts);
+    text(b"frames by number: ");
+    print_tally(run(whole, parts));
+}
+
+fn two_ports() {
+    let mut record = [0u64; TWO_PORTS];
+    let mut other = [0u64; TWO_PORTS];
+    morning(&mut record, &mut other, 2);
+}
+
+fn eight_ports() {
+    let mut record = [0u64; EIGHT_PORTS];
+    let mut other = [0u64; EIGHT_PORTS];
+    morning(&mut record, &mut other, 8);
+}
+
 fn main() {
+    two_ports();
+    eight_ports();
     let mut record = [0u64; Unit::RECORD_LENGTH];
     let mut other = [0u64; Unit::RECORD_LENGTH];
     let mut short = [0u64; Unit::RECORD_LENGTH - 1];
     let whole: &mut [u64] = &mut record;
     let parts: &mut [u64] = &mut other;
-    key_on(whole);
-    key_on(parts);
-    listed(whole, parts);
-    acted_on(whole, parts);
-    others(whole, parts);
-    text(b"frames by number: ");
-    print_tally(run(whole, parts));
+    morning(whole, parts, 4);
     text(b"refused with, on the record:\n");
     wrong_ports(parts);
     wrong_frames(parts);

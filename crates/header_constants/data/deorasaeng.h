@@ -1,18 +1,19 @@
-/* The C interface of the bridge: one unit of four ports, on a record of words that the caller lends.
+/* The C interface of the bridge: one unit of two to eight ports, on a record of words that the caller lends.
 
-   Link libdeorasaeng.a. Each function gives back 0 for done, or the number that refuses the call; a refusal changes no word of the record.
+   Link libdeorasaeng.a. Each function gives back 0 for done, or the number that refuses the call; a refusal changes no word of the record (27 at power-on aside).
    Nothing is required of arguments and lengths: what is wrong is refused by its number. Of pointers, what C itself asks: each is aligned and good for as many
    elements as the length behind it says; no two overlap; and nobody else uses them during the call. A pointer whose length is 0 may be null, so a frame of no
    bytes may be handed in as NULL, 0; any other may not.
 
    Platform: x86-64 Linux, the System V calling convention, any linker for ELF. Needed are memcpy and memset and nothing else: no heap, no call of the operating
-   system, no data outside the record. SSE registers and the red zone are used. Some 14 KB of code and constants, 9,440 bytes of record, at most 992 bytes of stack
-   (deorasaeng_take_queue 1.1 KB). For other platforms there is no proved library today; the project's reference/, in safe Rust, is an unproved stand-in.
+   system, no data outside the record. SSE registers and the red zone are used. Some 16 KB of code and constants, 9,448 bytes of record for four ports, at most 1.1 KB
+   of stack. For other platforms there is no proved library today; the project's reference/, in safe Rust, is an unproved stand-in.
    docs/INTEGRATION.md has the loop of a box, interrupts, locking and stack.
 
    An answer is lent storage of the length given below, in words; another length is number 2. On a refusal it is left as it was (deorasaeng_message says
    where not). Where several numbers apply the lowest is given, so 1 stands before 2 and 2 before every other; at deorasaeng_start 18 stands before 8.
-   Ports are 1 to 4. Ports in an answer are a mask: bit p - 1 for port p. */
+   A unit has the number of ports that its power-on was given, four where none was: every call reads it in the record. Ports are 1 to that number. Ports in an answer
+   are a mask of eight bits: bit p - 1 for port p. */
 #ifndef DEORASAENG_H
 #define DEORASAENG_H
 
@@ -25,12 +26,12 @@ extern "C" {
 
 /* The version of this interface. A version may add functions, numbers, and words at the end of an answer, whose published length then grows: a call that lends
    the old length is refused with 2. So callers are compiled again with the header of the library that they link. */
-#define DEORASAENG_VERSION 2
+#define DEORASAENG_VERSION 3
 
 /* What a function gives back: 0 for done, else why the call is refused. */
 enum deorasaeng_number {
     DEORASAENG_DONE = 0,
-    DEORASAENG_WRONG_PORT = 1,           /* port not 1 to 4 */
+    DEORASAENG_WRONG_PORT = 1,           /* port not 1 to the number of ports */
     DEORASAENG_WRONG_STORAGE = 2,        /* lent storage not of its published length */
     DEORASAENG_WRONG_IDENTIFIER = 3,     /* identifier 2^29 or more */
     DEORASAENG_WRONG_LENGTH = 4,         /* frame length over 8 */
@@ -39,7 +40,7 @@ enum deorasaeng_number {
     DEORASAENG_WRONG_PAYLOAD = 7,        /* payload not 8 to 1,785 bytes */
     DEORASAENG_WRONG_ADDRESS = 8,        /* requester, or at Start the preferred address, not 0 to 253 */
     DEORASAENG_WRONG_FUNCTION = 9,       /* function not listed */
-    DEORASAENG_WRONG_PAIR = 10,          /* port outside 1 to 4, or From equals To */
+    DEORASAENG_WRONG_PAIR = 10,          /* port outside 1 to the number of ports, or From equals To */
     DEORASAENG_ACCESS_DENIED = 11,       /* pair or port not this tool's */
     DEORASAENG_WRONG_BODY = 12,          /* body wrong: length, entry or filling */
     DEORASAENG_WRONG_MODE = 13,          /* Create mode not 0 or 1 */
@@ -47,22 +48,42 @@ enum deorasaeng_number {
     DEORASAENG_IS_CLEARED = 15,          /* Add, Delete: a named pair cleared */
     DEORASAENG_LIST_FULL = 16,           /* a named pair would pass 32 */
     DEORASAENG_PGN_ABSENT = 17,          /* Delete: a PGN absent from a named pair */
-    DEORASAENG_WRONG_STATE = 18          /* Start not in Unstarted, Quiet not in Claiming */
+    DEORASAENG_WRONG_STATE = 18,         /* Start not in Unstarted, Quiet not in Claiming */
+    DEORASAENG_WRONG_PORT_COUNT = 27     /* port count not 2 to 8 */
 };
 
 /* What a message's answer names as written, and the PGN that a network message comes with. */
 #define DEORASAENG_NETWORK_MESSAGE_PGN 60672
 #define DEORASAENG_ACKNOWLEDGMENT_PGN 59392
 
-/* Published lengths: of the record and of one port's queue in it, in words; of a reply buffer at least, and of a frame's bytes, in bytes. */
-#define DEORASAENG_RECORD_WORDS 1180
+/* How many ports a unit may have. */
+#define DEORASAENG_FEWEST_PORTS 2
+#define DEORASAENG_MOST_PORTS 8
+
+/* Published lengths: of the record of a unit with four ports, of one port's queue in it and of one pair's list, in words; of a reply buffer at least, and of a
+   frame's bytes, in bytes. */
+#define DEORASAENG_RECORD_WORDS 1181
 #define DEORASAENG_QUEUE_WORDS 65
+#define DEORASAENG_PAIR_WORDS 34
 #define DEORASAENG_REPLY_BYTES 1785
 #define DEORASAENG_FRAME_BYTES 8
 
-/* The word of the record where the queues begin, and where that of port 1 to 4 does. */
-#define DEORASAENG_QUEUES_AT 412
+/* The word of the record where the queues begin, and where that of a port does, whatever the number of ports. */
+#define DEORASAENG_QUEUES_AT 513
 #define DEORASAENG_QUEUE_AT(port) (DEORASAENG_QUEUES_AT + DEORASAENG_QUEUE_WORDS * ((port) - 1))
+
+/* The length of the record of a unit with another number of ports, in words, and of one with any number: a constant where `ports` is one. For a number that is not 2 to
+   8 it is four's, which is what power-on is to be lent then. */
+#define DEORASAENG_RECORD_WORDS_2 711
+#define DEORASAENG_RECORD_WORDS_3 912
+#define DEORASAENG_RECORD_WORDS_5 1518
+#define DEORASAENG_RECORD_WORDS_6 1923
+#define DEORASAENG_RECORD_WORDS_7 2396
+#define DEORASAENG_RECORD_WORDS_8 2937
+#define DEORASAENG_RECORD_WORDS_FOR(ports)                                                  \
+    ((ports) == 2 ? DEORASAENG_RECORD_WORDS_2 : (ports) == 3 ? DEORASAENG_RECORD_WORDS_3 :  \
+     (ports) == 5 ? DEORASAENG_RECORD_WORDS_5 : (ports) == 6 ? DEORASAENG_RECORD_WORDS_6 :  \
+     (ports) == 7 ? DEORASAENG_RECORD_WORDS_7 : (ports) == 8 ? DEORASAENG_RECORD_WORDS_8 : DEORASAENG_RECORD_WORDS)
 
 /* Lengths of the answers, in words. */
 #define DEORASAENG_FRAME_ANSWER 7
@@ -132,8 +153,12 @@ enum deorasaeng_event {
     DEORASAENG_BEATEN = 7
 };
 
-/* Power-on: every pair cleared, every queue and the address table empty, the unit Unstarted. Whatever the record held. Number 2. */
+/* Power-on of a unit with four ports: every pair cleared, every queue and the address table empty, the unit Unstarted. Whatever the record held. Number 2. */
 uint32_t deorasaeng_power_on(uint64_t *record, size_t record_len, uint64_t name, uint32_t preferred);
+
+/* The same with 2 to 8 ports, on a record of DEORASAENG_RECORD_WORDS_FOR(ports) words. Another number of ports is refused with 27, and the record is then that of a
+   fresh unit with four ports all the same. Numbers 2, which changes no word, and 27. */
+uint32_t deorasaeng_power_on_ports(uint64_t *record, size_t record_len, uint64_t name, uint32_t preferred, uint32_t ports);
 
 /* A frame arrived at a port. Numbers 1 to 5. */
 uint32_t deorasaeng_frame(uint64_t *record, size_t record_len, uint32_t port, uint32_t id, const uint8_t *bytes, size_t len,

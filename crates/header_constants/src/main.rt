@@ -10,6 +10,7 @@ use queue::Frame;
 use queue::Taken;
 use unit::Claim;
 use unit::Unit;
+ghost use Prim.Native.Nat.{_≤_};
 
 fn text(word: &[u8]) {
     io::write_all(STDOUT_FILENO, word);
@@ -45,12 +46,40 @@ fn sum(a: u64, b: u64) -> u64 {
     std::num::wrapping_add_u64(a, b)
 }
 
-// The published lengths, and where the queues begin.
+// The fewest and the most ports.
+fn port_counts(head: &[u8]) -> u64 {
+    let n = compare(head, b"DEORASAENG_FEWEST_PORTS", Unit::FEWEST_PORTS as u64);
+    sum(
+        n,
+        compare(head, b"DEORASAENG_MOST_PORTS", Unit::MOST_PORTS as u64),
+    )
+}
+
+// A name for the length of the record of a unit with a number of ports.
+fn record_words(head: &[u8], name: &[u8], ports: usize) -> u64
+    requires { ⌜ (1 ≤ ports) × (ports ≤ 8) ⌝ }
+{
+    compare(head, name, Unit::record_length(ports) as u64)
+}
+
+// The length of the record for every number of ports.
+fn record_lengths(head: &[u8]) -> u64 {
+    let mut n = record_words(head, b"DEORASAENG_RECORD_WORDS_2", 2);
+    n = sum(n, record_words(head, b"DEORASAENG_RECORD_WORDS_3", 3));
+    n = sum(n, record_words(head, b"DEORASAENG_RECORD_WORDS", 4));
+    n = sum(n, record_words(head, b"DEORASAENG_RECORD_WORDS_5", 5));
+    n = sum(n, record_words(head, b"DEORASAENG_RECORD_WORDS_6", 6));
+    n = sum(n, record_words(head, b"DEORASAENG_RECORD_WORDS_7", 7));
+    n = sum(n, record_words(head, b"DEORASAENG_RECORD_WORDS_8", 8));
+    n
+}
+
+// The other published lengths, and where the queues begin.
 fn lengths(head: &[u8]) -> u64 {
-    let mut n = compare(head, b"DEORASAENG_RECORD_WORDS", Unit::RECORD_LENGTH as u64);
+    let mut n = compare(head, b"DEORASAENG_QUEUE_WORDS", queue::BLOCK_LENGTH as u64);
     n = sum(
         n,
-        compare(head, b"DEORASAENG_QUEUE_WORDS", queue::BLOCK_LENGTH as u64),
+        compare(head, b"DEORASAENG_PAIR_WORDS", filter::BLOCK_SIZE as u64),
     );
     n = sum(
         n,
@@ -214,8 +243,9 @@ fn unit_words(head: &[u8]) -> u64 {
         address: 4,
         preferred: 5,
         name: 6,
+        ports: 7,
     };
-    flat_answers::tell_unit(&mut answer, told, 7);
+    flat_answers::tell_unit(&mut answer, told);
     let mut n = compare(head, b"DEORASAENG_UNIT_STATE", place_of(&answer, 3));
     n = sum(
         n,
@@ -320,6 +350,12 @@ fn pgn(words: &mut [u64], payload: &[u8]) -> u64 {
     answer[0]
 }
 
+// The number of power-on with nine ports.
+fn count_number(head: &[u8], words: &mut [u64]) -> u64 {
+    let nine = deorasaeng::deorasaeng_power_on_ports(words, 1, 0x50, 9) as u64;
+    compare(head, b"DEORASAENG_WRONG_PORT_COUNT", nine)
+}
+
 // Done, and the numbers of a port and of lent storage.
 fn call_numbers(head: &[u8], words: &mut [u64]) -> u64 {
     let mut short = [0u64; 1];
@@ -409,6 +445,7 @@ fn pgns(head: &[u8], words: &mut [u64]) -> u64 {
 fn numbers(head: &[u8]) -> u64 {
     let mut words = [0u64; Unit::RECORD_LENGTH];
     let mut n = compare(head, b"DEORASAENG_VERSION", deorasaeng::VERSION);
+    n = sum(n, count_number(head, &mut words));
     n = sum(n, call_numbers(head, &mut words));
     n = sum(n, frame_numbers(head, &mut words));
     n = sum(n, state_numbers(head, &mut words));
@@ -424,6 +461,8 @@ fn numbers(head: &[u8]) -> u64 {
 
 fn compare_all(head: &[u8]) -> u64 {
     let mut n = numbers(head);
+    n = sum(n, port_counts(head));
+    n = sum(n, record_lengths(head));
     n = sum(n, lengths(head));
     n = sum(n, answer_lengths(head));
     n = sum(n, frame_words(head));

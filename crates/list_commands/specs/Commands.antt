@@ -44,7 +44,7 @@ changeAt change from to k f = cond (names from to k) (change f) f
 -- word n of the record lies outside the blocks of the pairs that are named
 abbrev pub Beside : ℕ → ℕ → ℕ → ℕ → Type 0
 Beside ports from to n = (k : ℕ) → k < ports - 1 → names from to k ≡ true
-    → (n < pairsFrom + filterLength * (firstPair ports from + k)) ⊎ (pairsFrom + filterLength * (firstPair ports from + k) + filterLength ≤ n)
+    → (n < pairsFrom ports + filterLength * (firstPair ports from + k)) ⊎ (pairsFrom ports + filterLength * (firstPair ports from + k) + filterLength ≤ n)
 
 -- whether a test holds of one of the first n pairs from that port that is named
 unfoldable pub anyNamed : ℕ → ℕ → (Filter → Bool) → ℕ → ℕ → List Filter → Bool

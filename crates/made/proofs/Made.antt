@@ -6,27 +6,28 @@ use Rattle.bridge.specs.declared.TakeAnswer.{TakeAnswer}
 use Rattle.message_answers.specs.declared.MessageAnswer.{MessageAnswer}
 use Rattle.bridge.specs.declared.StartAnswer.{StartAnswer}
 use Rattle.bridge.specs.declared.UnitAnswer.{UnitAnswer}
+use Rattle.unit.specs.Count.{portsOf}
 use Rattle.unit.specs.PowerOn.{PoweringOn}
 use Rattle.bridge.specs.Calls.{Framing, TakingOut, Messaging, Starting, Quieting, Reading}
 use Rattle.made.specs.Made.{Powered, powered, Arrived, arrived, Took, took, Handed, handed, Started, started, Quieted, quieted, Told, told}
 
-pub powering : {words after : List ℕ} {name preferred r : ℕ} → Powered words name preferred r after → PoweringOn 4 words after name preferred r
-powering (powered κs w w′ name preferred r c) = c tt
+pub powering : {words after : List ℕ} {name preferred count r : ℕ} → Powered words name preferred count r after → PoweringOn count words after name preferred r
+powering (powered κs w w′ name preferred count r c) = c tt
 
-pub framing : {words bytes after : List ℕ} {port id : ℕ} {r : FrameAnswer} → Arrived words port id bytes r after → Framing 4 words after port id bytes r
+pub framing : {words bytes after : List ℕ} {port id : ℕ} {r : FrameAnswer} → Arrived words port id bytes r after → Framing (portsOf words) words after port id bytes r
 framing (arrived κs w w′ b b′ port id r c) = c tt
 
-pub taking : {words after : List ℕ} {port : ℕ} {r : TakeAnswer} → Took words port r after → TakingOut 4 words after port r
+pub taking : {words after : List ℕ} {port : ℕ} {r : TakeAnswer} → Took words port r after → TakingOut (portsOf words) words after port r
 taking (took κs w w′ port r c) = c tt
 
-pub messaging : {words payload lent after back : List ℕ} {port requester : ℕ} {r : MessageAnswer} → Handed words port requester payload lent r after back → Messaging 4 words after port requester payload lent back r
+pub messaging : {words payload lent after back : List ℕ} {port requester : ℕ} {r : MessageAnswer} → Handed words port requester payload lent r after back → Messaging (portsOf words) words after port requester payload lent back r
 messaging (handed κs w w′ p p′ b b′ port requester r c) = c tt
 
-pub starting : {words after : List ℕ} {r : StartAnswer} → Started words r after → Starting 4 words after r
+pub starting : {words after : List ℕ} {r : StartAnswer} → Started words r after → Starting (portsOf words) words after r
 starting (started κs w w′ r c) = c tt
 
-pub quieting : {words after : List ℕ} {r : ℕ} → Quieted words r after → Quieting 4 words after r
+pub quieting : {words after : List ℕ} {r : ℕ} → Quieted words r after → Quieting (portsOf words) words after r
 quieting (quieted κs w w′ r c) = c tt
 
-pub reading : {words : List ℕ} {r : UnitAnswer} → Told words r → Reading 4 words r
+pub reading : {words : List ℕ} {r : UnitAnswer} → Told words r → Reading (portsOf words) words r
 reading (told κs w w′ r c) = c tt

@@ -11,7 +11,7 @@ use Rattle.bridge.specs.declared.TakeAnswer.{TakeAnswer}
 use Rattle.message_answers.specs.declared.MessageAnswer.{MessageAnswer}
 use Rattle.bridge.specs.declared.StartAnswer.{StartAnswer}
 use Rattle.bridge.specs.declared.UnitAnswer.{UnitAnswer}
-use Rattle.unit.proofs.Unit.power_on.Reads as power-on
+use Rattle.unit.proofs.Unit.power_on_ports.Reads as power-on
 use Rattle.bridge.proofs.frame.Reads as frame
 use Rattle.bridge.proofs.take.Reads as take
 use Rattle.bridge.proofs.message.Reads as message
@@ -19,11 +19,11 @@ use Rattle.bridge.proofs.start.Reads as start
 use Rattle.bridge.proofs.quiet.Reads as quiet
 use Rattle.bridge.proofs.unit.Reads as unit
 
--- power-on, with a NAME and a preferred address
-pub data Powered : (words : List ℕ) (name preferred r : ℕ) (after : List ℕ) → Type 0 where
-  powered : (κs : Lfts 1) (w w′ : RefT (List ℕ)) (name preferred r : ℕ)
-      → (power-on.Pre κs (w, (name, (preferred, tt))) → power-on.Post κs (w, (name, (preferred, tt))) r (w′, (name, (preferred, tt))))
-      → Powered (w .now) name preferred r (w′ .now)
+-- power-on, with a NAME, a preferred address and a count of ports
+pub data Powered : (words : List ℕ) (name preferred count r : ℕ) (after : List ℕ) → Type 0 where
+  powered : (κs : Lfts 1) (w w′ : RefT (List ℕ)) (name preferred count r : ℕ)
+      → (power-on.Pre κs (w, (name, (preferred, (count, tt)))) → power-on.Post κs (w, (name, (preferred, (count, tt)))) r (w′, (name, (preferred, (count, tt)))))
+      → Powered (w .now) name preferred count r (w′ .now)
 
 -- a frame arrived at a port
 pub data Arrived : (words : List ℕ) (port id : ℕ) (bytes : List ℕ) (r : FrameAnswer) (after : List ℕ) → Type 0 where

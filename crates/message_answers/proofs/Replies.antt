@@ -18,24 +18,24 @@ use Rattle.list_commands.specs.Steps.{Commanding}
 use Rattle.message_answers.specs.Steps.{Telling, Reporting, Replying}
 
 -- a request names one other port
-pub one-port : {from to : ℕ} → Ports 4 from to → to ≤ 4 → 1 ≤ to
-one-port P h = ⊎-elim (λ p. p .0) (λ e. absurd (omega (arith, e))) (P .other)
+pub one-port : {ports from to : ℕ} → ports ≤ 8 → Ports ports from to → to ≤ ports → 1 ≤ to
+one-port few P h = ⊎-elim (λ p. p .0) (λ e. absurd (omega (arith, e))) (P .other)
 
 pub reported-of : {bytes before after : List ℕ} {most n : ℕ} → Writing bytes before after most n → Reporting bytes before after (record { refusal = 0; pgn = 60672; length = n })
 reported-of W = record { answer = rw (W .answer); written = W .written }
 
-module _ {words lent back : List ℕ} {Still : ℕ → Type 0} {r : MessageAnswer} where
-  pub reply-given : (bytes : List ℕ) → Reporting bytes lent back r → Replying 4 words words lent back (replied bytes (modelOf 4 words .rest .pairs)) Still r
+module _ {ports : ℕ} {words lent back : List ℕ} {Still : ℕ → Type 0} {r : MessageAnswer} where
+  pub reply-given : (bytes : List ℕ) → Reporting bytes lent back r → Replying ports words words lent back (replied bytes (modelOf ports words .rest .pairs)) Still r
   reply-given bytes R = record { answer = R .answer; written = R .written; state = refl; refused = λ _. refl; others = λ _ _. refl }
 
-  pub refusal-told : (number requester : ℕ) (payload : List ℕ) → Telling lent back number (functionOf payload) requester r → Replying 4 words words lent back (acknowledged number requester payload (modelOf 4 words .rest .pairs)) Still r
+  pub refusal-told : (number requester : ℕ) (payload : List ℕ) → Telling lent back number (functionOf payload) requester r → Replying ports words words lent back (acknowledged number requester payload (modelOf ports words .rest .pairs)) Still r
   unfolding acknowledgment
   refusal-told number requester payload T = record { answer = T .answer; written = T .written; state = refl; refused = λ _. refl; others = λ _ _. refl }
 
-module _ {words lent back : List ℕ} {r : MessageAnswer} where
+module _ {ports : ℕ} {words lent back : List ℕ} {r : MessageAnswer} where
   pub change-told : {after : List ℕ} {n : ℕ} (requester : ℕ) (payload : List ℕ) (change : Change) (from to start end : ℕ)
-      → Commanding 4 words after from to change (entriesOf (between start end payload)) n → Telling lent back n (functionOf payload) requester r
-      → Replying 4 words after lent back (changedBy 4 (modelOf 4 words .rest) requester payload change from to start end) (Beside 4 from to) r
+      → Commanding ports words after from to change (entriesOf (between start end payload)) n → Telling lent back n (functionOf payload) requester r
+      → Replying ports words after lent back (changedBy ports (modelOf ports words .rest) requester payload change from to start end) (Beside ports from to) r
   unfolding acknowledgment
   change-told requester payload change from to start end C T = record {
     answer = rw (← (C .answer)) (T .answer);

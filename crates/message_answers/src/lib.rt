@@ -2,13 +2,13 @@
 use filter_commands::pairs::Change;
 use network_message::Command;
 ghost use mathlib.Core.Path.{_≡_};
-ghost use Prim.Native.Nat.{_-_, _≤_, _<_};
+ghost use Prim.Native.Nat.{ℕ, _-_, _≤_, _<_};
 ghost use lib.ListN.{length, getD};
 ghost use Rattle.filter.specs.Filter.{clear};
 ghost use Rattle.network_message.specs.Commands.{Good};
 ghost use Rattle.network_message.specs.Decoding.{longest};
 ghost use Rattle.replies.specs.Replies.{listReply, addressReply};
-ghost use Rattle.unit.specs.Model.{modelOf, recordLength, pairAt};
+ghost use Rattle.unit.specs.Model.{modelOf, recordLength, rowsFrom, pairAt};
 ghost use Rattle.list_commands.specs.Commands.{Beside};
 ghost use Rattle.message_answers.specs.Messages.{performedBy, changedBy, Untouched};
 ghost use Rattle.message_answers.specs.Steps.{Telling, Replying, Reporting};
@@ -43,6 +43,7 @@ fn tell(reply: &mut [u8], number: u32, function: u8, requester: u32) -> MessageA
 // A command on the pairs from a port, with the entries from `start` up to `end`.
 fn change(
     words: &mut [u64],
+    ports: usize,
     requester: u32,
     payload: &[u8],
     what: Change,
@@ -52,19 +53,33 @@ fn change(
     end: usize,
     reply: &mut [u8],
 ) -> MessageAnswer
-    requires { ⌜ (length (now words) ≡ recordLength 4) × (longest ≤ length (now reply)) × (requester < 254) × (1 ≤ from) × (from ≤ 4) × (start ≤ end) × (end ≤ length (now payload)) × (8 ≤ length (now payload)) ⌝ }
-    ensures { λ r. ⌜ Replying 4 (now (words .entry)) (now (words .exit)) (now (reply .entry)) (now (reply .exit)) (changedBy 4 (modelOf 4 (now (words .entry)) .rest) requester (now (payload .entry)) what from to start end) (Beside 4 from to) r ⌝ }
+    requires { ⌜ (ports ≤ 8) × (length (now words) ≡ recordLength ports) × (longest ≤ length (now reply)) × (requester < 254) × (1 ≤ from) × (from ≤ ports) × (start ≤ end) × (end ≤ length (now payload)) × (8 ≤ length (now payload)) ⌝ }
+    ensures { λ r. ⌜ Replying ports (now (words .entry)) (now (words .exit)) (now (reply .entry)) (now (reply .exit)) (changedBy ports (modelOf ports (now (words .entry)) .rest) requester (now (payload .entry)) what from to start end) (Beside ports from to) r ⌝ }
 {
-    let number = list_commands::command(words, from, to, what, &payload[start..end]);
+    let number = list_commands::command(words, ports, from, to, what, &payload[start..end]);
     tell(reply, number, payload[0], requester)
 }
 
 // Reports a pair's list.
-fn report(words: &[u64], from: u32, to: u32, pair: u8, reply: &mut [u8]) -> MessageAnswer
-    requires { ⌜ (length (now words) ≡ recordLength 4) × (longest ≤ length (now reply)) × (1 ≤ from) × (from ≤ 4) × (1 ≤ to) × (to ≤ 4) × (from ≡ to → ⊥) ⌝ }
-    ensures { λ r. ⌜ Reporting (listReply pair (getD (modelOf 4 (now (words .entry)) .rest .pairs) (pairAt 4 (from - 1) (to - 1)) clear)) (now (reply .entry)) (now (reply .exit)) r ⌝ }
+fn report(
+    words: &[u64],
+    ports: usize,
+    from: u32,
+    to: u32,
+    pair: u8,
+    reply: &mut [u8],
+) -> MessageAnswer
+    requires { ⌜ (ports ≤ 8) × (length (now words) ≡ recordLength ports) × (longest ≤ length (now reply)) × (1 ≤ from) × (from ≤ ports) × (1 ≤ to) × (to ≤ ports) × (from ≡ to → ⊥) ⌝ }
+    ensures { λ r. ⌜ Reporting (listReply pair (getD (modelOf ports (now (words .entry)) .rest .pairs) (pairAt ports (from - 1) (to - 1)) clear)) (now (reply .entry)) (now (reply .exit)) r ⌝ }
 {
-    let n = record::reply_list(words, from as usize - 1, to as usize - 1, pair, reply);
+    let n = record::reply_list(
+        words,
+        ports,
+        from as usize - 1,
+        to as usize - 1,
+        pair,
+        reply,
+    );
     MessageAnswer {
         refusal: 0,
         pgn: REPLY,
@@ -74,8 +89,8 @@ fn report(words: &[u64], from: u32, to: u32, pair: u8, reply: &mut [u8]) -> Mess
 
 // Reports the addresses on a port.
 fn report_addresses(words: &[u64], port: u32, reply: &mut [u8]) -> MessageAnswer
-    requires { ⌜ (length (now words) ≡ recordLength 4) × (longest ≤ length (now reply)) × (port ≤ 4) ⌝ }
-    ensures { λ r. ⌜ Reporting (addressReply port (modelOf 4 (now (words .entry)) .rest .own .address) (modelOf 4 (now (words .entry)) .rest .table)) (now (reply .entry)) (now (reply .exit)) r ⌝ }
+    requires { ⌜ (rowsFrom ≤ length (now words)) × (longest ≤ length (now reply)) × (port ≤ 8) ⌝ }
+    ensures { λ r. ⌜ ((ports : ℕ) → Reporting (addressReply port (modelOf ports (now (words .entry)) .rest .own .address) (modelOf ports (now (words .entry)) .rest .table)) (now (reply .entry)) (now (reply .exit)) r) ⌝ }
 {
     let unit = unit::read_unit(words);
     let n = record::reply_addresses(words, port, unit.address as usize, reply);
@@ -89,17 +104,18 @@ fn report_addresses(words: &[u64], port: u32, reply: &mut [u8]) -> MessageAnswer
 // What a payload asks is done and answered, or its refusal acknowledged.
 pub fn perform(
     words: &mut [u64],
+    ports: usize,
     requester: u32,
     payload: &[u8],
     command: Command,
     reply: &mut [u8],
 ) -> MessageAnswer
-    requires { ⌜ (length (now words) ≡ recordLength 4) × (longest ≤ length (now reply)) × (requester < 254) × (8 ≤ length (now payload)) × Good 4 (now payload) command ⌝ }
-    ensures { λ r. ⌜ Replying 4 (now (words .entry)) (now (words .exit)) (now (reply .entry)) (now (reply .exit)) (performedBy 4 (modelOf 4 (now (words .entry)) .rest) requester (now (payload .entry)) command) (Untouched 4 command) r ⌝ }
+    requires { ⌜ (ports ≤ 8) × (length (now words) ≡ recordLength ports) × (longest ≤ length (now reply)) × (requester < 254) × (8 ≤ length (now payload)) × Good ports (now payload) command ⌝ }
+    ensures { λ r. ⌜ Replying ports (now (words .entry)) (now (words .exit)) (now (reply .entry)) (now (reply .exit)) (performedBy ports (modelOf ports (now (words .entry)) .rest) requester (now (payload .entry)) command) (Untouched ports command) r ⌝ }
 {
     match command {
         Command::Refused(number) => tell(reply, number, payload[0], requester),
-        Command::Request { from, to } => report(words, from, to, payload[1], reply),
+        Command::Request { from, to } => report(words, ports, from, to, payload[1], reply),
         Command::Add {
             from,
             to,
@@ -107,6 +123,7 @@ pub fn perform(
             end,
         } => change(
             words,
+            ports,
             requester,
             payload,
             Change::Adds,
@@ -123,6 +140,7 @@ pub fn perform(
             end,
         } => change(
             words,
+            ports,
             requester,
             payload,
             Change::Deletes,
@@ -134,6 +152,7 @@ pub fn perform(
         ),
         Command::Clear { from, to } => change(
             words,
+            ports,
             requester,
             payload,
             Change::Clears,
@@ -151,6 +170,7 @@ pub fn perform(
             end,
         } => change(
             words,
+            ports,
             requester,
             payload,
             Change::Creates(pass),

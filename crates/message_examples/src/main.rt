@@ -8,6 +8,9 @@ ghost use lib.ListN.{length};
 ghost use Rattle.filter.specs.Filter.{blockSize};
 ghost use Rattle.addresses.specs.Table.{tableLength};
 
+// The number of ports.
+const PORTS: u32 = 4;
+
 // The six bytes after the pair byte: a good body for each function, filling alone, and a Create of mode 2.
 const GOOD: u32 = 0;
 
@@ -102,7 +105,7 @@ fn print_payload(label: &[u8], port: u32, payload: &[u8])
     print_bytes(payload, payload.len());
     number(b" from port ", port as u64);
     io::write_all(STDOUT_FILENO, b": ");
-    print_command(network_message::decode(port, payload));
+    print_command(network_message::decode(PORTS, port, payload));
 }
 
 // What is written, and the byte after it.
@@ -155,7 +158,7 @@ fn payload_of(function: u8, pair: u8, body: u32) -> [u8; 8] {
 
 // The number that refuses a payload, 0 where it is a command.
 fn refusal(port: u32, payload: &[u8; 8]) -> u32 {
-    match network_message::decode(port, payload) {
+    match network_message::decode(PORTS, port, payload) {
         Command::Refused(n) => n,
         _ => 0,
     }

@@ -3,9 +3,9 @@ use addresses::Place;
 use bridge::FrameAnswer;
 use libc::STDOUT_FILENO;
 use unit::Unit;
-ghost use mathlib.Core.Path.{_≡_};
+ghost use Prim.Native.Nat.{_≤_};
 ghost use lib.ListN.{length};
-ghost use Rattle.unit.specs.Model.{recordLength};
+ghost use Rattle.unit.specs.Model.{rowsFrom};
 
 const NAME: u64 = 0xA000000000000050;
 
@@ -130,7 +130,7 @@ fn print_place(address: usize, place: Place) {
 
 // The addresses that somebody holds, rising.
 fn print_places(words: &[u64])
-    requires { ⌜ length (now words) ≡ recordLength 4 ⌝ }
+    requires { ⌜ rowsFrom ≤ length (now words) ⌝ }
 {
     let mut i: usize = 0;
     while i < 254 {
@@ -141,7 +141,7 @@ fn print_places(words: &[u64])
 
 // How the unit stands.
 fn print_unit(words: &[u64])
-    requires { ⌜ length (now words) ≡ recordLength 4 ⌝ }
+    requires { ⌜ rowsFrom ≤ length (now words) ⌝ }
 {
     let unit = unit::read_unit(words);
     let claim = unit.claim;
@@ -230,7 +230,7 @@ fn third(words: &mut [u64]) {
 }
 
 fn main() {
-    let mut record = [0u64; 1180];
+    let mut record = [0u64; Unit::RECORD_LENGTH];
     let words: &mut [u64] = &mut record;
     first(words);
     print_table(words);

@@ -1,4 +1,4 @@
--- Every command that is decoded: its ports are ports, its entries are entries within the payload, and a tool on a port of 2 to 4 named its own alone.
+-- Every command that is decoded: its ports are ports, its entries are entries within the payload, and a tool on a port other than 1 named its own alone.
 -- From what the payload has passed, function by function. Assumes nothing.
 use mathlib.Core.Path.{_≡_, refl}
 use mathlib.Core.Logic.{_⊎_, inl, inr}
@@ -13,7 +13,7 @@ use Rattle.entries.specs.Entries.{listed}
 use Rattle.checks.proofs.Tests.{both}
 use Rattle.network_message.specs.Decoding.{functionOf, pairOf, fromOf, toOf, allPorts, mayBeAll, isPair, namesPorts, entriesEnd, holdsEntries, hasGoodBody, refusalOf, commandOf, answered, decoded}
 use Rattle.checks.specs.Ports.{isPort}
-use Rattle.network_message.specs.Commands.{named, Own, Ports, Holding, Good}
+use Rattle.network_message.specs.Commands.{named, pairs, Own, Ports, Holding, Good}
 use Rattle.checks.proofs.Ports.{port-bounds}
 use Rattle.network_message.proofs.Naming.{end-bounds}
 use Rattle.network_message.proofs.Passing.{Passed, answered-by, by-function}
@@ -79,6 +79,12 @@ module _ (ports port function from to : ℕ) (payload : List ℕ) (P : Passed po
       here : (function ≡ 64 → ⊥) → Ports ports from to
       here h = pair-ports ports function from to (pairs-named h)
 
+  -- the pairs that a tool names are its own
+  own : 2 ≤ port → port ≤ ports → ports ≤ 8 → (function ≡ 64 → ⊥) → Own ports port (pairs from to)
+  own tool there few h =
+      let named = pair-ports ports function from to (pairs-named h) in
+      own-pairs ports port function from to tool there few (named .least) (named .most) (P .allowed)
+
 -- ---- what is decoded
 module _ (ports port : ℕ) (payload : List ℕ) where
   pub decoded-good : 8 ≤ length payload → Good ports payload (decoded ports port payload)
@@ -91,20 +97,20 @@ module _ (ports port : ℕ) (payload : List ℕ) where
           (λ n r. r)
           (λ P. command-good ports port function from to payload P l)
 
-  pub decoded-own : (port ≡ 1 → ⊥) → (port ≡ allPorts → ⊥) → Own ports port (named (decoded ports port payload))
+  pub decoded-own : 2 ≤ port → port ≤ ports → ports ≤ 8 → Own ports port (named (decoded ports port payload))
   unfolding decoded named
-  decoded-own service real = go (functionOf payload) (fromOf (pairOf payload)) (toOf (pairOf payload))
+  decoded-own tool there few = go (functionOf payload) (fromOf (pairOf payload)) (toOf (pairOf payload))
     where
       go : (function from to : ℕ) → Own ports port (named (answered (refusalOf ports port function from to payload) (commandOf function from to payload)))
       go function from to =
           answered-by ports port function from to payload (λ c. Own ports port (named c))
           (λ n r. tt)
           (λ P.
-          let mine = own-pairs ports port function from to service real (P .allowed) in
+          let mine = own ports port function from to payload P tool there few in
           by-function (λ c. Own ports port (named c)) function from to payload (P .known)
-          (λ _. mine)
-          (λ _. mine)
-          (λ _. mine)
-          (λ _. mine)
-          (λ _ _. mine)
-          (own-port ports port function from to service real (P .allowed)))
+          (λ e. mine (λ h. omega arith))
+          (λ e. mine (λ h. omega arith))
+          (λ e. mine (λ h. omega arith))
+          (λ e. mine (λ h. omega arith))
+          (λ _ e. mine (λ h. omega arith))
+          (own-port ports port function from to tool there few (P .allowed)))

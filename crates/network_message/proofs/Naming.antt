@@ -16,10 +16,10 @@ use Rattle.network_message.specs.Decoding.{allPorts, mayBeAll, isPair, i
 
 -- ---- ports
 -- 15 is no port, so From is another
-pub pair-all : (function from to : ℕ) → isPort 4 from ≡ true → isPort 4 to ≡ false → to ≡ allPorts → isPair 4 function from to ≡ mayBeAll function
+pub pair-all : (ports function from to : ℕ) → ports ≤ 8 → isPort ports from ≡ true → isPort ports to ≡ false → to ≡ allPorts → isPair ports function from to ≡ mayBeAll function
 unfolding isPair
-pair-all function from to f t e =
-    rw (f, t, eq-eqb to allPorts e, ne-eqb from to (λ s. omega (arith, port-bounds 4 from f .1))) (and-true (mayBeAll function))
+pair-all ports function from to few f t e =
+    rw (f, t, eq-eqb to allPorts e, ne-eqb from to (λ s. omega (arith, port-bounds ports from f .1))) (and-true (mayBeAll function))
 
 -- ---- where the entries end
 -- bytes are filling one after the other

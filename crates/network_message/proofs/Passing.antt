@@ -17,7 +17,7 @@ use Rattle.checks.proofs.FirstNumber.{first-in}
 pub record Passed (ports port function from to : ℕ) (payload : List ℕ) : Type 0 where
   pub known : isKnown function ≡ true
   pub ported : namesPorts ports function from to ≡ true
-  pub allowed : mayName port function from to ≡ true
+  pub allowed : mayName ports port function from to ≡ true
   pub bodied : hasGoodBody function payload ≡ true
 
 next : (b : Bool) (n : ℕ) {rest : ℕ} → 0 < n → cond (not b) n rest ≡ 0 → (b ≡ true) × (rest ≡ 0)
@@ -53,7 +53,7 @@ module _ (ports port function from to : ℕ) (payload : List ℕ) where
   passed e =
       let a = next (isKnown function) 9 (omega arith) e in
       let b = next (namesPorts ports function from to) 10 (omega arith) (a .1) in
-      let c = next (mayName port function from to) 11 (omega arith) (b .1) in
+      let c = next (mayName ports port function from to) 11 (omega arith) (b .1) in
       let d = next (hasGoodBody function payload) 12 (omega arith) (c .1) in
       record { known = a .0; ported = b .0; allowed = c .0; bodied = d .0 }
 

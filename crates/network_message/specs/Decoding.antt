@@ -34,7 +34,7 @@ toOf pair = pair % 16
 unfoldable pub isKnown : ℕ → Bool
 isKnown function = listed function (0 ∷ 2 ∷ 3 ∷ 4 ∷ 6 ∷ 64 ∷ [])
 
--- ---- 10: port outside 1 to 4 (and 15 as allowed), or From equals To
+-- ---- 10: port outside 1 to the number of ports (and 15 as allowed), or From equals To
 -- "To may be 15, all pairs from that port, in functions 2, 3, 4 and 6"
 abbrev pub allPorts : ℕ
 allPorts = 15
@@ -52,9 +52,10 @@ namesPorts ports function from to = cond (eqb function 64) (isPort ports to) (is
 
 -- ---- 11: pair or port not this tool's
 -- "A tool on port 1 may name any pair or port. On port p of 2 to 4, every named pair must have p as From or To, and 64 must name p."
--- 15 is no port, so all pairs from a port are those of a tool on that port alone (`right-exact` of the proofs).
-unfoldable pub mayName : ℕ → ℕ → ℕ → ℕ → Bool
-mayName port function from to = eqb port 1 || (eqb to port || (not (eqb function 64) && eqb from port))
+-- All pairs from another port are the tool's where that is one pair, in a unit of two ports (`right-exact` of the proofs).
+unfoldable pub mayName : ℕ → ℕ → ℕ → ℕ → ℕ → Bool
+mayName ports port function from to =
+    eqb port 1 || (eqb to port || (not (eqb function 64) && (eqb from port || (eqb to allPorts && eqb ports 2))))
 
 -- ---- 12: body wrong: length, entry or filling
 -- "entries from byte 3", in Create "from byte 4"; bytes are counted from 0 here
@@ -93,7 +94,7 @@ abbrev pub payloadChecks : ℕ → ℕ → ℕ → ℕ → ℕ → List ℕ → 
 payloadChecks ports port function from to payload =
     check (not (isKnown function)) 9
     ∷ check (not (namesPorts ports function from to)) 10
-    ∷ check (not (mayName port function from to)) 11
+    ∷ check (not (mayName ports port function from to)) 11
     ∷ check (not (hasGoodBody function payload)) 12
     ∷ check (hasWrongMode function payload) 13
     ∷ []

@@ -37,13 +37,14 @@ fn may_be_all(function: u8) -> bool
 }
 
 // Whether From and To are a pair, or all pairs from a port.
-fn is_pair(function: u8, from: u32, to: u32) -> bool
-    ensures { λ r. ⌜ r ≡ isPair 4 function from to ⌝ }
+fn is_pair(ports: u32, function: u8, from: u32, to: u32) -> bool
+    requires { ⌜ ports ≤ 8 ⌝ }
+    ensures { λ r. ⌜ r ≡ isPair ports function from to ⌝ }
 {
-    if !checks::is_port(from) {
+    if !checks::is_port(ports, from) {
         return false;
     }
-    if checks::is_port(to) {
+    if checks::is_port(ports, to) {
         return from != to;
     }
     if to == ALL_PORTS {
@@ -53,18 +54,19 @@ fn is_pair(function: u8, from: u32, to: u32) -> bool
 }
 
 // 10: whether a pair, or for the address list a port, is named.
-fn names_ports(function: u8, from: u32, to: u32) -> bool
-    ensures { λ r. ⌜ r ≡ namesPorts 4 function from to ⌝ }
+fn names_ports(ports: u32, function: u8, from: u32, to: u32) -> bool
+    requires { ⌜ ports ≤ 8 ⌝ }
+    ensures { λ r. ⌜ r ≡ namesPorts ports function from to ⌝ }
 {
     if function == ADDRESS_LIST {
-        return checks::is_port(to);
+        return checks::is_port(ports, to);
     }
-    is_pair(function, from, to)
+    is_pair(ports, function, from, to)
 }
 
 // 11: whether a tool on a port may name that pair or port.
-fn may_name(port: u32, function: u8, from: u32, to: u32) -> bool
-    ensures { λ r. ⌜ r ≡ mayName port function from to ⌝ }
+fn may_name(ports: u32, port: u32, function: u8, from: u32, to: u32) -> bool
+    ensures { λ r. ⌜ r ≡ mayName ports port function from to ⌝ }
 {
     if port == 1 {
         return true;
@@ -75,7 +77,13 @@ fn may_name(port: u32, function: u8, from: u32, to: u32) -> bool
     if function == ADDRESS_LIST {
         return false;
     }
-    from == port
+    if from == port {
+        return true;
+    }
+    if to == ALL_PORTS {
+        return ports == 2;
+    }
+    false
 }
 
 // Whether all bytes are filling.
@@ -147,17 +155,17 @@ fn has_wrong_mode(function: u8, payload: &[u8]) -> bool
 }
 
 // The number that a payload is refused with, or 0.
-pub fn refusal(port: u32, function: u8, from: u32, to: u32, payload: &[u8]) -> u32
-    requires { ⌜ 8 ≤ length (now payload) ⌝ }
-    ensures { λ r. ⌜ r ≡ refusalOf 4 port function from to (now (payload .entry)) ⌝ }
+pub fn refusal(ports: u32, port: u32, function: u8, from: u32, to: u32, payload: &[u8]) -> u32
+    requires { ⌜ (ports ≤ 8) × (8 ≤ length (now payload)) ⌝ }
+    ensures { λ r. ⌜ r ≡ refusalOf ports port function from to (now (payload .entry)) ⌝ }
 {
     if !is_known(function) {
         return 9;
     }
-    if !names_ports(function, from, to) {
+    if !names_ports(ports, function, from, to) {
         return 10;
     }
-    if !may_name(port, function, from, to) {
+    if !may_name(ports, port, function, from, to) {
         return 11;
     }
     let body = body_refusal(function, payload);

@@ -99,15 +99,15 @@ fn command_of(function: u8, from: u32, to: u32, payload: &[u8]) -> Command
     }
 }
 
-// What a payload of at least 8 bytes that arrived at a port asks, or the number that refuses it.
-pub fn decode(port: u32, payload: &[u8]) -> Command
-    requires { ⌜ 8 ≤ length (now payload) ⌝ }
-    ensures { λ r. ⌜ r ≡ decoded 4 port (now (payload .entry)) ⌝ }
+// What a payload of at least 8 bytes that arrived at a port of a unit with so many asks, or the number that refuses it.
+pub fn decode(ports: u32, port: u32, payload: &[u8]) -> Command
+    requires { ⌜ (ports ≤ 8) × (8 ≤ length (now payload)) ⌝ }
+    ensures { λ r. ⌜ r ≡ decoded ports port (now (payload .entry)) ⌝ }
 {
     let function = payload[0];
     let from = from_port(payload[1]);
     let to = to_port(payload[1]);
-    let number = judging::refusal(port, function, from, to, payload);
+    let number = judging::refusal(ports, port, function, from, to, payload);
     if number != 0 {
         return Command::Refused(number);
     }

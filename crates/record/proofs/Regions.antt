@@ -18,7 +18,8 @@ use Rattle.queue.specs.Queue.{rowOf, Joining, Taking}
 use Rattle.addresses.specs.declared.Place.{Place}
 use Rattle.address_claims.specs.declared.Event.{Event}
 use Rattle.addresses.specs.Table.{tableOf}
-use Rattle.unit.specs.Model.{modelOf, rowsFrom, tableFrom, recordLength, pairAt, rowAt, withRow, withRest, withPairs, withTable}
+use Rattle.unit.specs.Count.{pairCount}
+use Rattle.unit.specs.Model.{modelOf, tableFrom, rowsFrom, pairsFrom, recordLength, pairAt, rowAt, withRow, withRest, withPairs, withTable}
 use Rattle.filter_commands.specs.Steps.{BlockChanging}
 use Rattle.record.specs.Steps.{PairChanging, PairAsking, RowJoining, RowTaking, TableChanging, TableClaiming}
 use Rattle.filter.specs.Filter.{blockSize as filterLength}
@@ -26,9 +27,9 @@ use Rattle.addresses.specs.Table.{tableLength}
 use Rattle.queue.specs.Queue.{blockLength as queueLength}
 
 -- there is a row for each port
-pub rows-four : (words : List ℕ) → length (modelOf 4 words .rows) ≡ 4
+pub rows-long : (ports : ℕ) (words : List ℕ) → length (modelOf ports words .rows) ≡ ports
 unfolding modelOf
-rows-four words = length-blocks rowOf queueLength (rowsFrom 4) 4 words
+rows-long ports words = length-blocks rowOf queueLength rowsFrom ports words
 
 -- a word outside a part that was lent is as it was
 word-apart : (a k : ℕ) (words ys : List ℕ) → length ys ≡ k → a + k ≤ length words → (n : ℕ) → (n < a) ⊎ (a + k ≤ n) → getD (back a k words ys) n 0 ≡ getD words n 0
@@ -41,86 +42,88 @@ word-apart a k words ys long fits n h =
     one xs = getD-take 1 (drop n xs) 0 0 (omega arith) ∙ getD-drop n xs 0 0 ∙ ap (λ i. getD xs i 0) (omega arith)
 
 -- ---- the queue of port q
-module _ (words : List ℕ) (q : ℕ) (full : length words ≡ recordLength 4) (port : q < 4) where
-  row-of : rowAt (modelOf 4 words) q ≡ rowOf (take queueLength (drop (rowsFrom 4 + queueLength * q) words))
+module _ (words : List ℕ) (q : ℕ) (inside : rowsFrom + queueLength * q + queueLength ≤ length words) (ports : ℕ) (port : q < ports) where
+  row-of : rowAt (modelOf ports words) q ≡ rowOf (take queueLength (drop (rowsFrom + queueLength * q) words))
   unfolding modelOf blockAt
-  row-of = blocks-at rowOf queueLength (rowsFrom 4) 4 words q [] port
+  row-of = blocks-at rowOf queueLength rowsFrom ports words q [] port
 
   module _ (ys : List ℕ) (long : length ys ≡ queueLength) where
-    row-back : modelOf 4 (back (rowsFrom 4 + queueLength * q) queueLength words ys) ≡ withRow (modelOf 4 words) q (rowOf ys)
+    row-back : modelOf ports (back (rowsFrom + queueLength * q) queueLength words ys) ≡ withRow (modelOf ports words) q (rowOf ys)
     unfolding modelOf
     row-back =
         rw (
-          part-before (rowsFrom 4 + queueLength * q) queueLength words ys long (omega arith) 0 4 (omega arith),
-          blocks-apart (rowsFrom 4 + queueLength * q) queueLength words ys long (omega arith) filterOf filterLength 4 12 (inl (omega arith)),
-          blocks-set (rowsFrom 4) queueLength words ys q long (omega arith) rowOf 4 port,
-          part-apart (rowsFrom 4 + queueLength * q) queueLength words ys long (omega arith) (tableFrom 4) tableLength (inr (omega arith)),
+          part-before (rowsFrom + queueLength * q) queueLength words ys long (omega arith) 0 5 (omega arith),
+          blocks-apart (rowsFrom + queueLength * q) queueLength words ys long (omega arith) filterOf filterLength (pairsFrom ports) (pairCount ports) (inr (omega arith)),
+          blocks-set rowsFrom queueLength words ys q long (omega arith) rowOf ports port,
+          part-apart (rowsFrom + queueLength * q) queueLength words ys long (omega arith) tableFrom tableLength (inl (omega arith)),
         )
 
-    pub row-joined : (f : Frame) (r : Bool) → Joining (take queueLength (drop (rowsFrom 4 + queueLength * q) words)) ys f r → RowJoining 4 words (back (rowsFrom 4 + queueLength * q) queueLength words ys) q f r
+    pub row-joined : (f : Frame) (r : Bool) → Joining (take queueLength (drop (rowsFrom + queueLength * q) words)) ys f r → RowJoining ports words (back (rowsFrom + queueLength * q) queueLength words ys) q f r
     row-joined f r J = record { answer = rw row-of (J .answer); state = rw (row-back, row-of, J .row) }
 
-    pub row-taken : (r : Taken) → Taking (take queueLength (drop (rowsFrom 4 + queueLength * q) words)) ys r → RowTaking 4 words (back (rowsFrom 4 + queueLength * q) queueLength words ys) q r
+    pub row-taken : (r : Taken) → Taking (take queueLength (drop (rowsFrom + queueLength * q) words)) ys r → RowTaking ports words (back (rowsFrom + queueLength * q) queueLength words ys) q r
     row-taken r T = record {
       answer = rw row-of (T .answer);
       state = rw (row-back, row-of, T .row);
-      ahead = part-before (rowsFrom 4 + queueLength * q) queueLength words ys long (omega arith) 0 (rowsFrom 4 + queueLength * q) (omega arith);
-      behind = part-after (rowsFrom 4 + queueLength * q) queueLength words ys long (omega arith) (rowsFrom 4 + queueLength * q + queueLength) (omega arith);
+      ahead = part-before (rowsFrom + queueLength * q) queueLength words ys long (omega arith) 0 (rowsFrom + queueLength * q) (omega arith);
+      behind = part-after (rowsFrom + queueLength * q) queueLength words ys long (omega arith) (rowsFrom + queueLength * q + queueLength) (omega arith);
     }
 
 -- ---- the filter of a pair
-pair-lent : (words ys : List ℕ) (i : ℕ) → length words ≡ recordLength 4 → i < 12 → length ys ≡ filterLength
-    → modelOf 4 (back (4 + filterLength * i) filterLength words ys) ≡ withRest (modelOf 4 words) (withPairs (modelOf 4 words .rest) (set (modelOf 4 words .rest .pairs) i (filterOf ys)))
+pair-lent : (ports : ℕ) (words ys : List ℕ) (i : ℕ) → length words ≡ recordLength ports → i < pairCount ports → length ys ≡ filterLength
+    → modelOf ports (back (pairsFrom ports + filterLength * i) filterLength words ys) ≡ withRest (modelOf ports words) (withPairs (modelOf ports words .rest) (set (modelOf ports words .rest .pairs) i (filterOf ys)))
 unfolding modelOf
-pair-lent words ys i full pair long =
+pair-lent ports words ys i full pair long =
     rw (
-      part-before (4 + filterLength * i) filterLength words ys long (omega arith) 0 4 (omega arith),
-      blocks-set 4 filterLength words ys i long (omega arith) filterOf 12 pair,
-      blocks-apart (4 + filterLength * i) filterLength words ys long (omega arith) rowOf queueLength (rowsFrom 4) 4 (inr (omega arith)),
-      part-apart (4 + filterLength * i) filterLength words ys long (omega arith) (tableFrom 4) tableLength (inr (omega arith)),
+      part-before (pairsFrom ports + filterLength * i) filterLength words ys long (omega arith) 0 5 (omega arith),
+      blocks-set (pairsFrom ports) filterLength words ys i long (omega arith) filterOf (pairCount ports) pair,
+      blocks-apart (pairsFrom ports + filterLength * i) filterLength words ys long (omega arith) rowOf queueLength rowsFrom ports (inl (omega arith)),
+      part-apart (pairsFrom ports + filterLength * i) filterLength words ys long (omega arith) tableFrom tableLength (inl (omega arith)),
     )
 
-pub pair-asked : (words : List ℕ) (p q pgn i : ℕ) (r : Asked) → i ≡ pairAt 4 p q → i < 12 → Asking (take filterLength (drop (4 + filterLength * i) words)) pgn r → PairAsking 4 words p q pgn r
+pub pair-asked : (ports : ℕ) (words : List ℕ) (p q pgn i : ℕ) (r : Asked) → i ≡ pairAt ports p q → i < pairCount ports → Asking (take filterLength (drop (pairsFrom ports + filterLength * i) words)) pgn r
+    → PairAsking ports words p q pgn r
 unfolding modelOf blockAt
-pair-asked words p q pgn i r e h A = record {
-  answer = rw (← e, blocks-at filterOf filterLength 4 12 words i clear h) (A .answer);
+pair-asked ports words p q pgn i r e h A = record {
+  answer = rw (← e, blocks-at filterOf filterLength (pairsFrom ports) (pairCount ports) words i clear h) (A .answer);
   small = A .small;
 }
 
-module _ (words : List ℕ) (i : ℕ) (full : length words ≡ recordLength 4) (pair : i < 12) where
-  pub pair-of : getD (modelOf 4 words .rest .pairs) i clear ≡ filterOf (take filterLength (drop (4 + filterLength * i) words))
+module _ (ports : ℕ) (words : List ℕ) (i : ℕ) (full : length words ≡ recordLength ports) (pair : i < pairCount ports) where
+  pub pair-of : getD (modelOf ports words .rest .pairs) i clear ≡ filterOf (take filterLength (drop (pairsFrom ports + filterLength * i) words))
   unfolding modelOf blockAt
-  pair-of = blocks-at filterOf filterLength 4 12 words i clear pair
+  pair-of = blocks-at filterOf filterLength (pairsFrom ports) (pairCount ports) words i clear pair
 
-  pub pair-changed : (ys : List ℕ) (change : Filter → Filter) → length ys ≡ filterLength → BlockChanging (take filterLength (drop (4 + filterLength * i) words)) ys change → PairChanging 4 words (back (4 + filterLength * i) filterLength words ys) i change
+  pub pair-changed : (ys : List ℕ) (change : Filter → Filter) → length ys ≡ filterLength → BlockChanging (take filterLength (drop (pairsFrom ports + filterLength * i) words)) ys change
+      → PairChanging ports words (back (pairsFrom ports + filterLength * i) filterLength words ys) i change
   pair-changed ys change long C = record {
     state = pair-back ∙ rw (C .state, pair-of);
-    others = word-apart (4 + filterLength * i) filterLength words ys long (omega arith);
+    others = word-apart (pairsFrom ports + filterLength * i) filterLength words ys long (omega arith);
   }
     where
-      pair-back : modelOf 4 (back (4 + filterLength * i) filterLength words ys) ≡ withRest (modelOf 4 words) (withPairs (modelOf 4 words .rest) (set (modelOf 4 words .rest .pairs) i (filterOf ys)))
-      pair-back = pair-lent words ys i full pair long
+      pair-back : modelOf ports (back (pairsFrom ports + filterLength * i) filterLength words ys) ≡ withRest (modelOf ports words) (withPairs (modelOf ports words .rest) (set (modelOf ports words .rest .pairs) i (filterOf ys)))
+      pair-back = pair-lent ports words ys i full pair long
 
 -- ---- the address table
-module _ (words ys : List ℕ) (full : length words ≡ recordLength 4) (long : length ys ≡ tableLength) where
-  pub table-back : modelOf 4 (back (tableFrom 4) tableLength words ys) ≡ withRest (modelOf 4 words) (withTable (modelOf 4 words .rest) (tableOf ys))
+module _ (words ys : List ℕ) (inside : rowsFrom ≤ length words) (long : length ys ≡ tableLength) (ports : ℕ) where
+  pub table-back : modelOf ports (back tableFrom tableLength words ys) ≡ withRest (modelOf ports words) (withTable (modelOf ports words .rest) (tableOf ys))
   unfolding modelOf
   table-back =
       rw (
-        part-before (tableFrom 4) tableLength words ys long (omega arith) 0 4 (omega arith),
-        blocks-apart (tableFrom 4) tableLength words ys long (omega arith) filterOf filterLength 4 12 (inl (omega arith)),
-        blocks-apart (tableFrom 4) tableLength words ys long (omega arith) rowOf queueLength (rowsFrom 4) 4 (inl (omega arith)),
-        part-in (tableFrom 4) tableLength words ys long (omega arith),
+        part-before tableFrom tableLength words ys long (omega arith) 0 5 (omega arith),
+        blocks-apart tableFrom tableLength words ys long (omega arith) filterOf filterLength (pairsFrom ports) (pairCount ports) (inr (omega arith)),
+        blocks-apart tableFrom tableLength words ys long (omega arith) rowOf queueLength rowsFrom ports (inr (omega arith)),
+        part-in tableFrom tableLength words ys long (omega arith),
       )
 
-  module _ (change : List Place → List Place) (e : tableOf ys ≡ change (tableOf (take tableLength (drop (tableFrom 4) words)))) where
-    changed : modelOf 4 (back (tableFrom 4) tableLength words ys) ≡ withRest (modelOf 4 words) (withTable (modelOf 4 words .rest) (change (modelOf 4 words .rest .table)))
+  module _ (change : List Place → List Place) (e : tableOf ys ≡ change (tableOf (take tableLength (drop tableFrom words)))) where
+    changed : modelOf ports (back tableFrom tableLength words ys) ≡ withRest (modelOf ports words) (withTable (modelOf ports words .rest) (change (modelOf ports words .rest .table)))
     unfolding modelOf
     changed = table-back ∙ rw e
 
-    pub table-changed : TableChanging 4 words (back (tableFrom 4) tableLength words ys) change
+    pub table-changed : TableChanging ports words (back tableFrom tableLength words ys) change
     table-changed = record { state = changed }
 
-    pub table-claimed : (came : List Place → Event) (r : Event) → r ≡ came (tableOf (take tableLength (drop (tableFrom 4) words))) → TableClaiming 4 words (back (tableFrom 4) tableLength words ys) change came r
+    pub table-claimed : (came : List Place → Event) (r : Event) → r ≡ came (tableOf (take tableLength (drop tableFrom words))) → TableClaiming ports words (back tableFrom tableLength words ys) change came r
     unfolding modelOf
     table-claimed came r h = record { state = changed; event = h }

@@ -34,7 +34,7 @@ pub record PairAsking (ports : ℕ) (words : List ℕ) (p q pgn : ℕ) (r : Aske
 pub record PairChanging (ports : ℕ) (before after : List ℕ) (i : ℕ) (change : Filter → Filter) : Type 0 where
   pub state : modelOf ports after
       ≡ withRest (modelOf ports before) (withPairs (modelOf ports before .rest) (set (modelOf ports before .rest .pairs) i (change (getD (modelOf ports before .rest .pairs) i clear))))
-  pub others : (n : ℕ) → (n < pairsFrom + filterLength * i) ⊎ (pairsFrom + filterLength * i + filterLength ≤ n) → getD after n 0 ≡ getD before n 0
+  pub others : (n : ℕ) → (n < pairsFrom ports + filterLength * i) ⊎ (pairsFrom ports + filterLength * i + filterLength ≤ n) → getD after n 0 ≡ getD before n 0
 
 -- a frame was sent to port q
 pub record RowJoining (ports : ℕ) (before after : List ℕ) (q : ℕ) (f : Frame) (r : Bool) : Type 0 where
@@ -45,5 +45,5 @@ pub record RowJoining (ports : ℕ) (before after : List ℕ) (q : ℕ) (f : Fra
 pub record RowTaking (ports : ℕ) (before after : List ℕ) (q : ℕ) (r : Taken) : Type 0 where
   pub answer : r ≡ takenOf (given (pull priority (rowAt (modelOf ports before) q)))
   pub state : modelOf ports after ≡ withRow (modelOf ports before) q (kept (pull priority (rowAt (modelOf ports before) q)))
-  pub ahead : take (rowsFrom ports + queueLength * q) after ≡ take (rowsFrom ports + queueLength * q) before
-  pub behind : drop (rowsFrom ports + queueLength * q + queueLength) after ≡ drop (rowsFrom ports + queueLength * q + queueLength) before
+  pub ahead : take (rowsFrom + queueLength * q) after ≡ take (rowsFrom + queueLength * q) before
+  pub behind : drop (rowsFrom + queueLength * q + queueLength) after ≡ drop (rowsFrom + queueLength * q + queueLength) before

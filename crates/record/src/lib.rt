@@ -8,64 +8,99 @@ use queue::Frame;
 use queue::Taken;
 use unit::Unit;
 ghost use mathlib.Core.Path.{_≡_};
-ghost use Prim.Native.Nat.{_≤_, _<_};
+ghost use Prim.Native.Nat.{ℕ, _+_, _-_, _*_, _≤_, _<_};
 ghost use lib.ListN.{length, getD, set};
 ghost use Rattle.address_claims.specs.Claims.{claimed, claimEvent, withdrawn, withdrawEvent, othersDropped, settled};
-ghost use Rattle.filter.specs.Filter.{clear};
+ghost use Rattle.filter.specs.Filter.{clear, blockSize as filterLength};
 ghost use Rattle.entries.specs.Entries.{entriesOf};
 ghost use Rattle.network_message.specs.Decoding.{longest};
+ghost use Rattle.queue.specs.Queue.{blockLength as queueLength};
 ghost use Rattle.replies.specs.Replies.{listReply, addressReply, Writing};
 ghost use Rattle.filter_commands.specs.Pairs.{holdsOf, changeOf};
-ghost use Rattle.unit.specs.Model.{modelOf, recordLength, pairAt};
+ghost use Rattle.unit.specs.Count.{pairCount};
+ghost use Rattle.unit.specs.Model.{modelOf, recordLength, rowsFrom, pairsFrom, pairAt};
 ghost use Rattle.record.specs.Steps.{PairChanging, PairAsking, RowJoining, RowTaking, TableChanging, TableClaiming};
 
-// The place of a pair among the pairs.
-fn pair_at(from: usize, to: usize) -> usize
-    requires { ⌜ (from < 4) × (to < 4) × (from ≡ to → ⊥) ⌝ }
-    ensures { λ r. ⌜ (r ≡ pairAt 4 from to) × (r < 12) ⌝ }
+// The place of a port's first pair among the pairs.
+fn first_pair(ports: usize, from: usize) -> usize
+    requires { ⌜ (ports ≤ 8) × (from < ports) ⌝ }
+    ensures { λ r. ⌜ r ≡ (ports - 1) * from ⌝ }
 {
-    if to < from {
-        3 * from + to
-    } else {
-        3 * from + (to - 1)
-    }
+    (ports - 1) * from
 }
 
-// Whether a pair permits a PGN.
-pub fn ask_pair(words: &[u64], from: usize, to: usize, pgn: u32) -> Asked
-    requires { ⌜ (length (now words) ≡ recordLength 4) × (from < 4) × (to < 4) × (from ≡ to → ⊥) ⌝ }
-    ensures { λ r. ⌜ PairAsking 4 (now (words .entry)) from to pgn r ⌝ }
+// The place of a pair among the pairs.
+fn pair_at(ports: usize, from: usize, to: usize) -> usize
+    requires { ⌜ (ports ≤ 8) × (from < ports) × (to < ports) × (from ≡ to → ⊥) ⌝ }
+    ensures { λ r. ⌜ (r ≡ pairAt ports from to) × (r < pairCount ports) ⌝ }
 {
-    let i = pair_at(from, to);
-    let a = Unit::FILTERS_AT + filter::BLOCK_SIZE * i;
+    let first = first_pair(ports, from);
+    if to < from {
+        return first + to;
+    }
+    first + (to - 1)
+}
+
+// Where the filter of pair i begins.
+fn filter_at(ports: usize, i: usize) -> usize
+    requires { ⌜ (ports ≤ 8) × (i ≤ pairCount ports) ⌝ }
+    ensures { λ r. ⌜ r ≡ pairsFrom ports + filterLength * i ⌝ }
+{
+    Unit::QUEUES_AT + queue::BLOCK_LENGTH * ports + filter::BLOCK_SIZE * i
+}
+
+// Where the filters of the pairs from a port begin: they stand side by side, in order of the ports that the pairs lead to.
+pub fn filters_from(ports: usize, from: usize) -> usize
+    requires { ⌜ (ports ≤ 8) × (from < ports) ⌝ }
+    ensures { λ r. ⌜ r ≡ pairsFrom ports + filterLength * ((ports - 1) * from) ⌝ }
+{
+    let i = first_pair(ports, from);
+    filter_at(ports, i)
+}
+
+// Whether the pair whose filter begins at a word permits a PGN.
+pub fn ask_filter(words: &[u64], a: usize, pgn: u32) -> Asked
+    requires { ⌜ a + filterLength ≤ length (now words) ⌝ }
+    ensures { λ r. ⌜ ((ports p q : ℕ) → pairAt ports p q < pairCount ports → a ≡ pairsFrom ports + filterLength * pairAt ports p q → PairAsking ports (now (words .entry)) p q pgn r) ⌝ }
+{
     let e = a + filter::BLOCK_SIZE;
     filter::ask(&words[a..e], pgn)
 }
 
-// A question to pair i, before a command with these entries.
-pub fn question(words: &[u64], i: usize, question: Question, entries: &[u8]) -> bool
-    requires { ⌜ (length (now words) ≡ recordLength 4) × (i < 12) ⌝ }
-    ensures { λ r. ⌜ r ≡ holdsOf question (entriesOf (now (entries .entry))) (getD (modelOf 4 (now (words .entry)) .rest .pairs) i clear) ⌝ }
+// Whether the pair from one port to another does.
+pub fn ask_pair(words: &[u64], ports: usize, from: usize, to: usize, pgn: u32) -> Asked
+    requires { ⌜ (ports ≤ 8) × (length (now words) ≡ recordLength ports) × (from < ports) × (to < ports) × (from ≡ to → ⊥) ⌝ }
+    ensures { λ r. ⌜ PairAsking ports (now (words .entry)) from to pgn r ⌝ }
 {
-    let a = Unit::FILTERS_AT + filter::BLOCK_SIZE * i;
+    let i = pair_at(ports, from, to);
+    let a = filter_at(ports, i);
+    ask_filter(words, a, pgn)
+}
+
+// A question to pair i, before a command with these entries.
+pub fn question(words: &[u64], ports: usize, i: usize, question: Question, entries: &[u8]) -> bool
+    requires { ⌜ (ports ≤ 8) × (length (now words) ≡ recordLength ports) × (i < pairCount ports) ⌝ }
+    ensures { λ r. ⌜ r ≡ holdsOf question (entriesOf (now (entries .entry))) (getD (modelOf ports (now (words .entry)) .rest .pairs) i clear) ⌝ }
+{
+    let a = filter_at(ports, i);
     let e = a + filter::BLOCK_SIZE;
     filter_commands::pairs::answer(&words[a..e], question, entries)
 }
 
 // A command changes pair i.
-pub fn change(words: &mut [u64], i: usize, change: Change, entries: &[u8])
-    requires { ⌜ (length (now words) ≡ recordLength 4) × (i < 12) ⌝ }
-    ensures { λ _. ⌜ PairChanging 4 (now (words .entry)) (now (words .exit)) i (changeOf change (entriesOf (now (entries .entry)))) ⌝ }
+pub fn change(words: &mut [u64], ports: usize, i: usize, change: Change, entries: &[u8])
+    requires { ⌜ (ports ≤ 8) × (length (now words) ≡ recordLength ports) × (i < pairCount ports) ⌝ }
+    ensures { λ _. ⌜ PairChanging ports (now (words .entry)) (now (words .exit)) i (changeOf change (entriesOf (now (entries .entry)))) ⌝ }
 {
-    let a = Unit::FILTERS_AT + filter::BLOCK_SIZE * i;
+    let a = filter_at(ports, i);
     let e = a + filter::BLOCK_SIZE;
     filter_commands::pairs::apply(&mut words[a..e], change, entries);
 }
 
-// A frame joins a port's queue, or is lost there.
+// A frame joins a port's queue, or is lost there. The place of a queue, as that of the table, does not depend on the number of ports.
 pub fn join_row(words: &mut [u64], q: usize, f: Frame) -> bool
-    requires { ⌜ (length (now words) ≡ recordLength 4) × (q < 4) ⌝ }
-    ensures { λ r. ⌜ RowJoining 4 (now (words .entry)) (now (words .exit)) q f r ⌝ }
+    requires { ⌜ rowsFrom + queueLength * q + queueLength ≤ length (now words) ⌝ }
+    ensures { λ r. ⌜ ((ports : ℕ) → q < ports → RowJoining ports (now (words .entry)) (now (words .exit)) q f r) ⌝ }
 {
     let a = Unit::QUEUES_AT + queue::BLOCK_LENGTH * q;
     let e = a + queue::BLOCK_LENGTH;
@@ -74,8 +109,8 @@ pub fn join_row(words: &mut [u64], q: usize, f: Frame) -> bool
 
 // A frame leaves a port's queue.
 pub fn take_row(words: &mut [u64], q: usize) -> Taken
-    requires { ⌜ (length (now words) ≡ recordLength 4) × (q < 4) ⌝ }
-    ensures { λ r. ⌜ RowTaking 4 (now (words .entry)) (now (words .exit)) q r ⌝ }
+    requires { ⌜ rowsFrom + queueLength * q + queueLength ≤ length (now words) ⌝ }
+    ensures { λ r. ⌜ ((ports : ℕ) → q < ports → RowTaking ports (now (words .entry)) (now (words .exit)) q r) ⌝ }
 {
     let a = Unit::QUEUES_AT + queue::BLOCK_LENGTH * q;
     let e = a + queue::BLOCK_LENGTH;
@@ -84,81 +119,88 @@ pub fn take_row(words: &mut [u64], q: usize) -> Taken
 
 // Who holds an address.
 pub fn holder(words: &[u64], address: usize) -> Place
-    requires { ⌜ (length (now words) ≡ recordLength 4) × (address < 254) ⌝ }
-    ensures { λ r. ⌜ r ≡ getD (modelOf 4 (now (words .entry)) .rest .table) address Place.Free ⌝ }
+    requires { ⌜ (rowsFrom ≤ length (now words)) × (address < 254) ⌝ }
+    ensures { λ r. ⌜ ((ports : ℕ) → r ≡ getD (modelOf ports (now (words .entry)) .rest .table) address Place.Free) ⌝ }
 {
     let a = Unit::TABLE_AT;
-    let e = Unit::RECORD_LENGTH;
+    let e = Unit::QUEUES_AT;
     addresses::holder(&words[a..e], address)
 }
 
 // An address becomes free.
 pub fn release(words: &mut [u64], address: usize)
-    requires { ⌜ (length (now words) ≡ recordLength 4) × (address < 254) ⌝ }
-    ensures { λ _. ⌜ TableChanging 4 (now (words .entry)) (now (words .exit)) (λ t. set t address Place.Free) ⌝ }
+    requires { ⌜ (rowsFrom ≤ length (now words)) × (address < 254) ⌝ }
+    ensures { λ _. ⌜ ((ports : ℕ) → TableChanging ports (now (words .entry)) (now (words .exit)) (λ t. set t address Place.Free)) ⌝ }
 {
     let a = Unit::TABLE_AT;
-    let e = Unit::RECORD_LENGTH;
+    let e = Unit::QUEUES_AT;
     addresses::release(&mut words[a..e], address);
 }
 
 // Every address of a NAME but one becomes free.
 pub fn drop_others(words: &mut [u64], name: u64, keep: usize)
-    requires { ⌜ length (now words) ≡ recordLength 4 ⌝ }
-    ensures { λ _. ⌜ TableChanging 4 (now (words .entry)) (now (words .exit)) (othersDropped name keep) ⌝ }
+    requires { ⌜ rowsFrom ≤ length (now words) ⌝ }
+    ensures { λ _. ⌜ ((ports : ℕ) → TableChanging ports (now (words .entry)) (now (words .exit)) (othersDropped name keep)) ⌝ }
 {
     let a = Unit::TABLE_AT;
-    let e = Unit::RECORD_LENGTH;
+    let e = Unit::QUEUES_AT;
     address_claims::drop_others(&mut words[a..e], name, keep);
 }
 
 // A NAME that displaces the unit is recorded.
 pub fn settle(words: &mut [u64], port: u64, address: usize, name: u64)
-    requires { ⌜ (length (now words) ≡ recordLength 4) × (address < 254) ⌝ }
-    ensures { λ _. ⌜ TableChanging 4 (now (words .entry)) (now (words .exit)) (settled port address name) ⌝ }
+    requires { ⌜ (rowsFrom ≤ length (now words)) × (address < 254) ⌝ }
+    ensures { λ _. ⌜ ((ports : ℕ) → TableChanging ports (now (words .entry)) (now (words .exit)) (settled port address name)) ⌝ }
 {
     let a = Unit::TABLE_AT;
-    let e = Unit::RECORD_LENGTH;
+    let e = Unit::QUEUES_AT;
     address_claims::settle(&mut words[a..e], port, address, name);
 }
 
 // A claim of an address that is not the unit's.
 pub fn claim(words: &mut [u64], port: u64, address: usize, name: u64) -> Event
-    requires { ⌜ (length (now words) ≡ recordLength 4) × (address < 254) ⌝ }
-    ensures { λ r. ⌜ TableClaiming 4 (now (words .entry)) (now (words .exit)) (claimed port address name) (claimEvent address name) r ⌝ }
+    requires { ⌜ (rowsFrom ≤ length (now words)) × (address < 254) ⌝ }
+    ensures { λ r. ⌜ ((ports : ℕ) → TableClaiming ports (now (words .entry)) (now (words .exit)) (claimed port address name) (claimEvent address name) r) ⌝ }
 {
     let a = Unit::TABLE_AT;
-    let e = Unit::RECORD_LENGTH;
+    let e = Unit::QUEUES_AT;
     address_claims::claim(&mut words[a..e], port, address, name)
 }
 
 // A claim from no address.
 pub fn withdraw(words: &mut [u64], name: u64) -> Event
-    requires { ⌜ length (now words) ≡ recordLength 4 ⌝ }
-    ensures { λ r. ⌜ TableClaiming 4 (now (words .entry)) (now (words .exit)) (withdrawn name) (withdrawEvent name) r ⌝ }
+    requires { ⌜ rowsFrom ≤ length (now words) ⌝ }
+    ensures { λ r. ⌜ ((ports : ℕ) → TableClaiming ports (now (words .entry)) (now (words .exit)) (withdrawn name) (withdrawEvent name) r) ⌝ }
 {
     let a = Unit::TABLE_AT;
-    let e = Unit::RECORD_LENGTH;
+    let e = Unit::QUEUES_AT;
     address_claims::withdraw(&mut words[a..e], name)
 }
 
 // Writes the reply that reports a pair's list, and tells its length.
-pub fn reply_list(words: &[u64], from: usize, to: usize, pair: u8, reply: &mut [u8]) -> usize
-    requires { ⌜ (length (now words) ≡ recordLength 4) × (from < 4) × (to < 4) × (from ≡ to → ⊥) × (longest ≤ length (now reply)) ⌝ }
-    ensures { λ r. ⌜ Writing (listReply pair (getD (modelOf 4 (now (words .entry)) .rest .pairs) (pairAt 4 from to) clear)) (now (reply .entry)) (now (reply .exit)) longest r ⌝ }
+pub fn reply_list(
+    words: &[u64],
+    ports: usize,
+    from: usize,
+    to: usize,
+    pair: u8,
+    reply: &mut [u8],
+) -> usize
+    requires { ⌜ (ports ≤ 8) × (length (now words) ≡ recordLength ports) × (from < ports) × (to < ports) × (from ≡ to → ⊥) × (longest ≤ length (now reply)) ⌝ }
+    ensures { λ r. ⌜ Writing (listReply pair (getD (modelOf ports (now (words .entry)) .rest .pairs) (pairAt ports from to) clear)) (now (reply .entry)) (now (reply .exit)) longest r ⌝ }
 {
-    let i = pair_at(from, to);
-    let a = Unit::FILTERS_AT + filter::BLOCK_SIZE * i;
+    let i = pair_at(ports, from, to);
+    let a = filter_at(ports, i);
     let e = a + filter::BLOCK_SIZE;
     replies::reply_list(&words[a..e], pair, reply)
 }
 
 // Writes the reply that reports the addresses on a port, and tells its length.
 pub fn reply_addresses(words: &[u64], port: u32, except: usize, reply: &mut [u8]) -> usize
-    requires { ⌜ (length (now words) ≡ recordLength 4) × (port < 256) × (longest ≤ length (now reply)) ⌝ }
-    ensures { λ r. ⌜ Writing (addressReply port except (modelOf 4 (now (words .entry)) .rest .table)) (now (reply .entry)) (now (reply .exit)) longest r ⌝ }
+    requires { ⌜ (rowsFrom ≤ length (now words)) × (port < 256) × (longest ≤ length (now reply)) ⌝ }
+    ensures { λ r. ⌜ ((ports : ℕ) → Writing (addressReply port except (modelOf ports (now (words .entry)) .rest .table)) (now (reply .entry)) (now (reply .exit)) longest r) ⌝ }
 {
     let a = Unit::TABLE_AT;
-    let e = Unit::RECORD_LENGTH;
+    let e = Unit::QUEUES_AT;
     replies::reply_addresses(&words[a..e], port, except, reply)
 }

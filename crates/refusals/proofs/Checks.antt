@@ -36,8 +36,8 @@ passed-first false false rest n e z = refl
 pub port-in : (ports port : ℕ) → noPort ports port ≡ false → (1 ≤ port) × (port ≤ ports)
 port-in ports port h = port-bounds ports port (not-false (isPort ports port) h)
 
-pub long-in : (lent : ℕ) → notLong 4 lent ≡ false → lent ≡ recordLength 4
-long-in lent h = eqb-true lent (recordLength 4) (not-false (eqb lent (recordLength 4)) h)
+pub long-in : (ports lent : ℕ) → notLong ports lent ≡ false → lent ≡ recordLength ports
+long-in ports lent h = eqb-true lent (recordLength ports) (not-false (eqb lent (recordLength ports)) h)
 
 pub source-in : (id : ℕ) → wrongSource id ≡ false → saOf id < 255
 unfolding wrongSource
@@ -53,24 +53,24 @@ source-in id h =
     elim-lt : (x : ℕ) → x < 256 → (x ≡ 255 → ⊥) → x < 255
     elim-lt x l h = omega arith
 
-pub take-goes : (lent port : ℕ) → takeRefusal 4 lent port ≡ 0 → (lent ≡ recordLength 4) × (1 ≤ port) × (port ≤ 4)
+pub take-goes : (ports lent port : ℕ) → takeRefusal ports lent port ≡ 0 → (lent ≡ recordLength ports) × (1 ≤ port) × (port ≤ ports)
 unfolding takeRefusal
-take-goes lent port e =
-    let a = none (noPort 4 port) 1 (omega arith) e in
-    let b = none (notLong 4 lent) 2 (omega arith) (a .1) in
-    let p = port-in 4 port (a .0) in
-    (long-in lent (b .0), p .0, p .1)
+take-goes ports lent port e =
+    let a = none (noPort ports port) 1 (omega arith) e in
+    let b = none (notLong ports lent) 2 (omega arith) (a .1) in
+    let p = port-in ports port (a .0) in
+    (long-in ports lent (b .0), p .0, p .1)
 
-pub frame-goes : (lent port id len : ℕ) → frameRefusal 4 lent port id len ≡ 0 → (lent ≡ recordLength 4) × (1 ≤ port) × (port ≤ 4) × (len ≤ 8) × (saOf id < 255)
+pub frame-goes : (ports lent port id len : ℕ) → frameRefusal ports lent port id len ≡ 0 → (lent ≡ recordLength ports) × (1 ≤ port) × (port ≤ ports) × (len ≤ 8) × (saOf id < 255)
 unfolding frameRefusal
-frame-goes lent port id len e =
-    let a = none (noPort 4 port) 1 (omega arith) e in
-    let b = none (notLong 4 lent) 2 (omega arith) (a .1) in
+frame-goes ports lent port id len e =
+    let a = none (noPort ports port) 1 (omega arith) e in
+    let b = none (notLong ports lent) 2 (omega arith) (a .1) in
     let d = none (tooWide id) 3 (omega arith) (b .1) in
     let f = none (ltb 8 len) 4 (omega arith) (d .1) in
     let g = none (wrongSource id) 5 (omega arith) (f .1) in
-    let p = port-in 4 port (a .0) in
-    (long-in lent (b .0), p .0, p .1, ltb-false 8 len (f .0), source-in id (g .0))
+    let p = port-in ports port (a .0) in
+    (long-in ports lent (b .0), p .0, p .1, ltb-false 8 len (f .0), source-in id (g .0))
 
 pub start-goes : (own : Unit) → first (startChecks own) ≡ 0 → own .preferred < 254
 start-goes own e =
@@ -94,15 +94,15 @@ either true b e = let z : _≡_ {A = ℕ} 0 1 = cc in absurd (omega arith)
 either false b e = (refl, e)
 
 -- where none of 1, 2, 6, 7, 8 applies
-pub message-goes : (lent lentReply : ℕ) (rest : Rest) (port requester size : ℕ) → messageRefusal 4 lent lentReply rest port requester size ≡ 0
-    → (lent ≡ recordLength 4) × (longest ≤ lentReply) × (8 ≤ size) × (requester < 254)
+pub message-goes : (ports lent lentReply : ℕ) (rest : Rest) (port requester size : ℕ) → messageRefusal ports lent lentReply rest port requester size ≡ 0
+    → (lent ≡ recordLength ports) × (longest ≤ lentReply) × (8 ≤ size) × (requester < 254)
 unfolding messageRefusal
-message-goes lent lentReply rest port requester size e =
-    let a = none (noPort 4 port) 1 (omega arith) e in
-    let b = none (notLong 4 lent || ltb lentReply longest) 2 (omega arith) (a .1) in
-    let two = either (notLong 4 lent) (ltb lentReply longest) (b .0) in
+message-goes ports lent lentReply rest port requester size e =
+    let a = none (noPort ports port) 1 (omega arith) e in
+    let b = none (notLong ports lent || ltb lentReply longest) 2 (omega arith) (a .1) in
+    let two = either (notLong ports lent) (ltb lentReply longest) (b .0) in
     let d = none (not (isClaimed (rest .own .claim))) 6 (omega arith) (b .1) in
     let f = none (not (leb 8 size && leb size longest)) 7 (omega arith) (d .1) in
     let sizes = both (leb 8 size) (leb size longest) (not-false (leb 8 size && leb size longest) (f .0)) in
     let g = none (ltb 253 requester) 8 (omega arith) (f .1) in
-    (long-in lent (two .0), ltb-false lentReply longest (two .1), leb-true 8 size (sizes .0), omega (arith, ltb-false 253 requester (g .0)))
+    (long-in ports lent (two .0), ltb-false lentReply longest (two .1), leb-true 8 size (sizes .0), omega (arith, ltb-false 253 requester (g .0)))

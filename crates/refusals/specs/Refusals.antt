@@ -13,7 +13,7 @@ use Rattle.unit.specs.PowerOn.{notLong}
 use Rattle.unit.specs.Own.{isClaiming, startChecks, isClaimed}
 use Rattle.unit.specs.Model.{Rest}
 
--- 1: port not 1 to 4; 3: identifier 2^29 or more; 4: frame length over 8; 5: the source address
+-- 1: port not 1 to the number of ports; 3: identifier 2^29 or more; 4: frame length over 8; 5: the source address
 unfoldable pub frameRefusal : ℕ → ℕ → ℕ → ℕ → ℕ → ℕ
 frameRefusal ports lent port id len =
     first
@@ -24,6 +24,10 @@ frameRefusal ports lent port id len =
     ∷ check (wrongSource id) 5
     ∷ [])
 
+-- of a call that has no other number
+unfoldable pub lengthRefusal : ℕ → ℕ → ℕ
+lengthRefusal ports lent = first (check (notLong ports lent) 2 ∷ [])
+
 unfoldable pub takeRefusal : ℕ → ℕ → ℕ → ℕ
 takeRefusal ports lent port = first (check (noPort ports port) 1 ∷ check (notLong ports lent) 2 ∷ [])
 
@@ -33,10 +37,6 @@ startRefusal ports lent own = first (check (notLong ports lent) 2 ∷ startCheck
 -- 18: Quiet not in Claiming
 unfoldable pub quietRefusal : ℕ → ℕ → Unit → ℕ
 quietRefusal ports lent own = first (check (notLong ports lent) 2 ∷ check (not (isClaiming (own .claim))) 18 ∷ [])
-
--- the call that reads the unit: 2 alone
-unfoldable pub unitRefusal : ℕ → ℕ → ℕ
-unitRefusal ports lent = first (check (notLong ports lent) 2 ∷ [])
 
 -- ---- 1, 2, 6, 7, 8 of a message: before the payload is read
 -- 7: payload not 8 to 1,785 bytes; 8: requester not 0 to 253

@@ -18,8 +18,8 @@ use unit::Unit;
 ghost use Prim.Native.Nat.{_≤_};
 ghost use lib.ListN.{length};
 
-// How many words the unit's record takes.
-pub const RECORD_LENGTH: usize = Unit::RECORD_LENGTH;
+// How many words the record of the largest unit takes, one of eight ports.
+pub const MOST_WORDS: usize = 2937;
 
 // A line that is no call, or a call without a unit: its number and why.
 fn no_call(counts: &mut [u64], why: Wrong, out: &mut [u8]) -> usize
@@ -37,11 +37,13 @@ fn power_on(
     counts: &mut [u64],
     name: u64,
     preferred: u32,
+    count: u32,
     out: &mut [u8],
 ) -> usize
     ensures { λ r. ⌜ r ≤ length (now (out .entry)) ⌝ }
 {
-    let number = Unit::power_on(words, name, preferred);
+    let number = Unit::power_on_ports(words, name, preferred, count);
+    tally::unit(counts, unit::ports_of(words));
     tally::call(counts, tally::POWER_ON, number);
     if number != 0 {
         return print::count(out, 0, b"P R ", number as u64);
@@ -101,18 +103,26 @@ fn address(out: &mut [u8], at: usize, own: u8) -> usize
     print::count(out, at, b" ", own as u64)
 }
 
-// The unit: claim state, address, preferred address, NAME, number of ports.
-fn told(out: &mut [u8], own: Unit, ports: u32) -> usize
+// What power-on gave it: preferred address, NAME, number of ports.
+fn given_at_power_on(out: &mut [u8], at: usize, own: Unit) -> usize
+    requires { ⌜ at ≤ length (now out) ⌝ }
+    ensures { λ r. ⌜ r ≤ length (now (out .entry)) ⌝ }
+{
+    let at = print::count(out, at, b" ", own.preferred as u64);
+    let at = print::byte(out, at, b' ');
+    let at = print::hex(out, at, own.name, 16);
+    print::count(out, at, b" ", own.ports as u64)
+}
+
+// The unit: claim state, address, and what power-on gave it.
+fn told(out: &mut [u8], own: Unit) -> usize
     ensures { λ r. ⌜ r ≤ length (now (out .entry)) ⌝ }
 {
     let at = print::text(out, 0, b"U");
     let is = own.claim;
     let at = claim(out, at, is);
     let at = address(out, at, own.address);
-    let at = print::count(out, at, b" ", own.preferred as u64);
-    let at = print::byte(out, at, b' ');
-    let at = print::hex(out, at, own.name, 16);
-    print::count(out, at, b" ", ports as u64)
+    given_at_power_on(out, at, own)
 }
 
 // The unit is read.
@@ -124,15 +134,24 @@ fn read_unit(words: &[u64], counts: &mut [u64], out: &mut [u8]) -> usize
             tally::call(counts, tally::UNIT, number);
             print::count(out, 0, b"U R ", number as u64)
         }
-        UnitAnswer::Told { unit, ports } => {
+        UnitAnswer::Told(own) => {
             tally::call(counts, tally::UNIT, 0);
-            told(out, unit, ports)
+            told(out, own)
         }
     }
 }
 
+// How many ports the unit has.
+fn ports_of(words: &[u64]) -> usize
+    ensures { λ r. ⌜ (2 ≤ r) × (r ≤ 8) ⌝ }
+{
+    unit::ports_of(words) as usize
+}
+
 // A frame's answer, counted.
-fn count_frame(counts: &mut [u64], port: u32, a: FrameAnswer) {
+fn count_frame(counts: &mut [u64], ports: usize, port: u32, a: FrameAnswer)
+    requires { ⌜ ports ≤ 8 ⌝ }
+{
     tally::call(counts, tally::FRAME, a.refusal);
     tally::ports(counts, tally::OWN_LOST, a.unsent);
     if a.consumed {
@@ -140,7 +159,7 @@ fn count_frame(counts: &mut [u64], port: u32, a: FrameAnswer) {
         return;
     }
     if a.refusal == 0 {
-        tally::offered(counts, port, a.accepted, a.lost);
+        tally::offered(counts, ports, port, a.accepted, a.lost);
     }
 }
 
@@ -211,7 +230,7 @@ fn frame(
     let mut space = [0u8; 2048];
     let n = script::read_bytes(line, &mut space);
     let a = bridge::frame(words, port, id, &space[0..n]);
-    count_frame(counts, port, a);
+    count_frame(counts, ports_of(words), port, a);
     frame_answer(out, a)
 }
 
@@ -301,6 +320,7 @@ fn is_power_on(call: Call) -> bool {
     if let Call::PowerOn {
         name: _,
         preferred: _,
+        ports: _,
     } = call {
         true
     } else {
@@ -313,7 +333,11 @@ fn make(words: &mut [u64], counts: &mut [u64], line: &[u8], call: Call, out: &mu
     ensures { λ r. ⌜ r ≤ length (now (out .entry)) ⌝ }
 {
     match call {
-        Call::PowerOn { name, preferred } => power_on(words, counts, name, preferred, out),
+        Call::PowerOn {
+            name,
+            preferred,
+            ports,
+        } => power_on(words, counts, name, preferred, ports, out),
         Call::Start => start(words, counts, out),
         Call::Quiet => quiet(words, counts, out),
         Call::ReadUnit => read_unit(words, counts, out),
@@ -321,6 +345,52 @@ fn make(words: &mut [u64], counts: &mut [u64], line: &[u8], call: Call, out: &mu
         Call::Take { port } => take(words, counts, port, out),
         Call::Message { port, requester } => message(words, counts, line, port, requester, out),
     }
+}
+
+// How many ports a unit has that is given a count.
+fn ports_given(count: u32) -> usize
+    ensures { λ r. ⌜ (2 ≤ r) × (r ≤ 8) ⌝ }
+{
+    Unit::count_of(count as u64) as usize
+}
+
+// How many ports the unit has that a call is for: at power-on the one that is made, else the one that there is.
+fn ports_for(words: &[u64], call: Call) -> usize
+    ensures { λ r. ⌜ (2 ≤ r) × (r ≤ 8) ⌝ }
+{
+    match call {
+        Call::PowerOn {
+            name: _,
+            preferred: _,
+            ports,
+        } => ports_given(ports),
+        _ => ports_of(words),
+    }
+}
+
+// How much of the storage is the record of that unit.
+fn record_length(words: &[u64], call: Call) -> usize
+    ensures { λ r. ⌜ r ≤ length (now (words .entry)) ⌝ }
+{
+    let n = Unit::record_length(ports_for(words, call));
+    if n < words.len() {
+        return n;
+    }
+    words.len()
+}
+
+// Makes a line's call on the record.
+fn make_on_record(
+    words: &mut [u64],
+    counts: &mut [u64],
+    line: &[u8],
+    call: Call,
+    out: &mut [u8],
+) -> usize
+    ensures { λ r. ⌜ r ≤ length (now (out .entry)) ⌝ }
+{
+    let n = record_length(words, call);
+    make(&mut words[0..n], counts, line, call, out)
 }
 
 // The answer to a line without blanks at its ends: it is in `out`, and its length comes back. Before the first power-on there is no unit to call.
@@ -333,7 +403,7 @@ pub fn answer(words: &mut [u64], counts: &mut [u64], line: &[u8], out: &mut [u8]
     }
     let call = script::read_call(line);
     if is_power_on(call) || tally::is_on(counts) {
-        return make(words, counts, line, call, out);
+        return make_on_record(words, counts, line, call, out);
     }
     no_call(counts, Wrong::NoUnit, out)
 }

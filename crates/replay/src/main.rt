@@ -158,7 +158,7 @@ fn tell(counts: &[u64]) {
 
 // A script, whether its last line is ended or not, and the summary. A line has room for one byte more than it may have, by which a longer line is known.
 fn run(is_plain: bool) {
-    let mut record = [0u64; calls::RECORD_LENGTH];
+    let mut record = [0u64; calls::MOST_WORDS];
     let mut tallied = [0u64; tally::LENGTH];
     let mut space = [0u8; script::LONGEST_LINE + 1];
     let words: &mut [u64] = &mut record;

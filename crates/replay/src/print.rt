@@ -128,7 +128,7 @@ pub fn ports(out: &mut [u8], at: usize, mask: u32) -> usize
     }
     let mut rest = mask;
     let mut port: u8 = 0;
-    while port < 4 {
+    while port < 8 {
         port += 1;
         if rest % 2 == 1 {
             next = byte(out, next, b'0' + port);

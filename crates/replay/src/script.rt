@@ -1,4 +1,5 @@
 // The script format: whether a line is a call and what is wrong with it if not, the call that it is, and the bytes that its last word stands for.
+use unit::Unit;
 ghost use Prim.Native.Nat.{_≤_};
 ghost use lib.ListN.{length};
 
@@ -7,19 +8,32 @@ pub const LONGEST_LINE: usize = 4096;
 
 // One call of a script. The bytes of a frame or a message are the line's last word.
 pub enum Call {
-    PowerOn { name: u64, preferred: u32 },
+    PowerOn {
+        name: u64,
+        preferred: u32,
+        ports: u32,
+    },
     Start,
     Quiet,
     ReadUnit,
-    Frame { port: u32, id: u32 },
-    Take { port: u32 },
-    Message { port: u32, requester: u32 },
+    Frame {
+        port: u32,
+        id: u32,
+    },
+    Take {
+        port: u32,
+    },
+    Message {
+        port: u32,
+        requester: u32,
+    },
 }
 
 // What a word after the letter stands for; `End` where a call has no more.
 pub enum Field {
     Name,
     Preferred,
+    Ports,
     Port,
     Identifier,
     Bytes,
@@ -116,6 +130,20 @@ fn next_word(line: &[u8], from: usize) -> Word
     Word { start, end }
 }
 
+// A line's word: 0 is the letter.
+fn word_at(line: &[u8], k: usize) -> Word
+    ensures { λ r. ⌜ (r .start ≤ r .end) × (r .end ≤ length (now (line .entry))) ⌝ }
+{
+    let mut found = next_word(line, 0);
+    let mut i = 0;
+    while i < k {
+        let end = found.end;
+        found = next_word(line, end);
+        i += 1;
+    }
+    found
+}
+
 // The value of a hex digit, 16 where a byte is none.
 fn digit(byte: u8) -> u8
     ensures { λ r. ⌜ r ≤ 16 ⌝ }
@@ -206,6 +234,7 @@ fn is_good(word: &[u8], field: Field) -> bool {
     match field {
         Field::Name => is_hex(word, 16),
         Field::Preferred => is_decimal(word),
+        Field::Ports => is_decimal(word),
         Field::Port => is_decimal(word),
         Field::Identifier => is_hex(word, 8),
         Field::Bytes => is_bytes(word),
@@ -215,16 +244,21 @@ fn is_good(word: &[u8], field: Field) -> bool {
     }
 }
 
+// What is wrong where there is no word for a field; the number of ports may be left out.
+fn missing(field: Field) -> Wrong {
+    match field {
+        Field::Ports | Field::End => Wrong::Nothing,
+        _ => Wrong::Missing(field),
+    }
+}
+
 // What is wrong with a word that is to stand for a field.
 fn judged(word: &[u8], field: Field) -> Wrong {
-    if let Field::End = field {
-        if 0 < word.len() {
-            return Wrong::MoreWords;
-        }
-        return Wrong::Nothing;
-    }
     if word.len() == 0 {
-        return Wrong::Missing(field);
+        return missing(field);
+    }
+    if let Field::End = field {
+        return Wrong::MoreWords;
     }
     if is_good(word, field) {
         return Wrong::Nothing;
@@ -240,25 +274,19 @@ fn first_wrong(a: Wrong, b: Wrong) -> Wrong {
     a
 }
 
-// The words from a place on against three fields, the first that is wrong; the fields are the last that a call has, filled up with `End`.
-fn fields(line: &[u8], from: usize, a: Field, b: Field, c: Field) -> Wrong
-    requires { ⌜ from ≤ length (now line) ⌝ }
-{
-    let first = next_word(line, from);
-    let s1 = first.start;
-    let e1 = first.end;
-    let second = next_word(line, e1);
-    let s2 = second.start;
-    let e2 = second.end;
-    let third = next_word(line, e2);
-    let s3 = third.start;
-    let e3 = third.end;
-    let more = past_blanks(line, e3);
-    let w1 = judged(&line[s1..e1], a);
-    let w2 = judged(&line[s2..e2], b);
-    let w3 = judged(&line[s3..e3], c);
-    let w4 = judged(&line[more..], Field::End);
-    first_wrong(w1, first_wrong(w2, first_wrong(w3, w4)))
+// The same of a word of a line.
+fn judged_at(line: &[u8], k: usize, field: Field) -> Wrong {
+    let found = word_at(line, k);
+    let start = found.start;
+    let end = found.end;
+    judged(&line[start..end], field)
+}
+
+// The words after the letter against three fields, the first that is wrong; the fields are filled up with `End`.
+fn fields(line: &[u8], a: Field, b: Field, c: Field) -> Wrong {
+    let wrong = first_wrong(judged_at(line, 1, a), judged_at(line, 2, b));
+    let wrong = first_wrong(wrong, judged_at(line, 3, c));
+    first_wrong(wrong, judged_at(line, 4, Field::End))
 }
 
 // Why a line, without blanks at its ends, is no call.
@@ -276,91 +304,74 @@ pub fn what_is_wrong(line: &[u8]) -> Wrong {
     }
     let letter = line[0];
     match letter {
-        b'P' => fields(line, 1, Field::Name, Field::Preferred, Field::End),
-        b'S' | b'Q' | b'U' => fields(line, 1, Field::End, Field::End, Field::End),
-        b'F' => fields(line, 1, Field::Port, Field::Identifier, Field::Bytes),
-        b'T' => fields(line, 1, Field::Port, Field::End, Field::End),
-        b'M' => fields(line, 1, Field::Port, Field::Requester, Field::Payload),
+        b'P' => fields(line, Field::Name, Field::Preferred, Field::Ports),
+        b'S' | b'Q' | b'U' => fields(line, Field::End, Field::End, Field::End),
+        b'F' => fields(line, Field::Port, Field::Identifier, Field::Bytes),
+        b'T' => fields(line, Field::Port, Field::End, Field::End),
+        b'M' => fields(line, Field::Port, Field::Requester, Field::Payload),
         _ => Wrong::NoLetter,
     }
 }
 
 // The number that a word of a line stands for; 0 where it stands for none, which `what_is_wrong` has told.
-fn decimal_at(line: &[u8], start: usize, end: usize) -> u32
-    requires { ⌜ (start ≤ end) × (end ≤ length (now line)) ⌝ }
-{
+fn decimal_at(line: &[u8], k: usize) -> u32 {
+    let found = word_at(line, k);
+    let start = found.start;
+    let end = found.end;
     let Narrow::Number(n) = decimal(&line[start..end]) else {
         return 0;
     };
     n
 }
 
-fn hex_at(line: &[u8], start: usize, end: usize, longest: usize) -> u64
-    requires { ⌜ (start ≤ end) × (end ≤ length (now line)) ⌝ }
-{
+fn hex_at(line: &[u8], k: usize, longest: usize) -> u64 {
+    let found = word_at(line, k);
+    let start = found.start;
+    let end = found.end;
     let Wide::Number(n) = hex(&line[start..end], longest) else {
         return 0;
     };
     n
 }
 
-// P NAME PREFERRED
-fn power_on(line: &[u8]) -> Call
-    requires { ⌜ 1 ≤ length (now line) ⌝ }
-{
-    let first = next_word(line, 1);
-    let s1 = first.start;
-    let e1 = first.end;
-    let second = next_word(line, e1);
-    let s2 = second.start;
-    let e2 = second.end;
+// The number of ports, the third word; four where it is left out.
+fn ports_at(line: &[u8]) -> u32 {
+    let found = word_at(line, 3);
+    if found.start == found.end {
+        return Unit::PORTS;
+    }
+    decimal_at(line, 3)
+}
+
+// P NAME PREFERRED [PORTS]
+fn power_on(line: &[u8]) -> Call {
     Call::PowerOn {
-        name: hex_at(line, s1, e1, 16),
-        preferred: decimal_at(line, s2, e2),
+        name: hex_at(line, 1, 16),
+        preferred: decimal_at(line, 2),
+        ports: ports_at(line),
     }
 }
 
 // F PORT ID BYTES. An identifier has eight digits at most, so that the remainder is the number.
-fn frame(line: &[u8]) -> Call
-    requires { ⌜ 1 ≤ length (now line) ⌝ }
-{
-    let first = next_word(line, 1);
-    let s1 = first.start;
-    let e1 = first.end;
-    let second = next_word(line, e1);
-    let s2 = second.start;
-    let e2 = second.end;
+fn frame(line: &[u8]) -> Call {
     Call::Frame {
-        port: decimal_at(line, s1, e1),
-        id: (hex_at(line, s2, e2, 8) % 4294967296) as u32,
+        port: decimal_at(line, 1),
+        id: (hex_at(line, 2, 8) % 4294967296) as u32,
     }
 }
 
 // M PORT REQUESTER PAYLOAD
-fn message(line: &[u8]) -> Call
-    requires { ⌜ 1 ≤ length (now line) ⌝ }
-{
-    let first = next_word(line, 1);
-    let s1 = first.start;
-    let e1 = first.end;
-    let second = next_word(line, e1);
-    let s2 = second.start;
-    let e2 = second.end;
+fn message(line: &[u8]) -> Call {
     Call::Message {
-        port: decimal_at(line, s1, e1),
-        requester: decimal_at(line, s2, e2),
+        port: decimal_at(line, 1),
+        requester: decimal_at(line, 2),
     }
 }
 
 // T PORT
-fn take(line: &[u8]) -> Call
-    requires { ⌜ 1 ≤ length (now line) ⌝ }
-{
-    let first = next_word(line, 1);
-    let s1 = first.start;
-    let e1 = first.end;
+fn take(line: &[u8]) -> Call {
     Call::Take {
-        port: decimal_at(line, s1, e1),
+        port: decimal_at(line, 1),
     }
 }
 

@@ -59,6 +59,7 @@ fn power_ons(counts: &mut [u64], out: &mut [u8]) {
         others,
     );
     print::finish(counts, out, at);
+    by_number(counts, out, tally::POWER_ON);
 }
 
 // Calls of a kind that were done or refused.
@@ -92,7 +93,7 @@ fn frames(counts: &mut [u64], out: &mut [u8]) {
 
 // What became of frames at a port, by its index from 0.
 fn port(counts: &mut [u64], out: &mut [u8], index: usize)
-    requires { ⌜ index < 4 ⌝ }
+    requires { ⌜ index < 8 ⌝ }
 {
     let accepted = tally::get(counts, tally::ACCEPTED + index);
     let stopped = tally::get(counts, tally::STOPPED + index);
@@ -105,12 +106,14 @@ fn port(counts: &mut [u64], out: &mut [u8], index: usize)
     print::finish(counts, out, at);
 }
 
-// All four ports.
+// As many ports as the largest unit had.
 fn ports(counts: &mut [u64], out: &mut [u8]) {
-    port(counts, out, 0);
-    port(counts, out, 1);
-    port(counts, out, 2);
-    port(counts, out, 3);
+    let n = tally::most_ports(counts);
+    let mut index = 0;
+    while index < n {
+        port(counts, out, index);
+        index += 1;
+    }
 }
 
 // Takes: how many gave a frame, and how many found nothing waiting.

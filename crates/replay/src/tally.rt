@@ -3,7 +3,7 @@ use std::num::wrapping_add_u64;
 ghost use Prim.Native.Nat.{_≤_, _<_};
 
 // A word for each number of a kind of call: 0 for those that were done, else what refused them.
-pub const NUMBERS: usize = 19;
+pub const NUMBERS: usize = 28;
 
 pub const POWER_ON: usize = 0;
 
@@ -22,29 +22,32 @@ pub const UNIT: usize = 6 * NUMBERS;
 // A word for each port: frames that it accepted, that a pair stopped on the way to it, that it lost, and the unit's own that it lost.
 pub const ACCEPTED: usize = 7 * NUMBERS;
 
-pub const STOPPED: usize = ACCEPTED + 4;
+pub const STOPPED: usize = ACCEPTED + 8;
 
-pub const LOST: usize = ACCEPTED + 8;
+pub const LOST: usize = ACCEPTED + 16;
 
-pub const OWN_LOST: usize = ACCEPTED + 12;
+pub const OWN_LOST: usize = ACCEPTED + 24;
 
 // Frames that were consumed, takes that gave a frame, lines that are no call.
-pub const CONSUMED: usize = ACCEPTED + 16;
+pub const CONSUMED: usize = ACCEPTED + 32;
 
-pub const GIVEN: usize = ACCEPTED + 17;
+pub const GIVEN: usize = ACCEPTED + 33;
 
-pub const NO_CALL: usize = ACCEPTED + 18;
+pub const NO_CALL: usize = ACCEPTED + 34;
 
 // Lines read, and reads and writes that failed.
-pub const LINES: usize = ACCEPTED + 19;
+pub const LINES: usize = ACCEPTED + 35;
 
-pub const FAILED: usize = ACCEPTED + 20;
+pub const FAILED: usize = ACCEPTED + 36;
 
 // The number that refused the last call, 0 for none.
-pub const LAST: usize = ACCEPTED + 21;
+pub const LAST: usize = ACCEPTED + 37;
+
+// The most ports that a unit had, 0 before the first power-on.
+pub const MOST_PORTS: usize = ACCEPTED + 38;
 
 // How many words the counts take.
-pub const LENGTH: usize = ACCEPTED + 22;
+pub const LENGTH: usize = ACCEPTED + 39;
 
 // One more.
 pub fn count(counts: &mut [u64], place: usize) {
@@ -80,13 +83,22 @@ pub fn no_call(counts: &mut [u64]) {
     keep_last(counts, 0);
 }
 
-// One more at each port of a mask.
-pub fn ports(counts: &mut [u64], place: usize, mask: u32)
-    requires { ⌜ place < 1000 ⌝ }
+// A unit of so many ports.
+pub fn unit(counts: &mut [u64], ports: u32) {
+    if MOST_PORTS < counts.len() {
+        if counts[MOST_PORTS] < ports as u64 {
+            counts[MOST_PORTS] = ports as u64;
+        }
+    }
+}
+
+// One more at each port of a mask, of the first `ports`.
+fn first_ports(counts: &mut [u64], place: usize, mask: u32, ports: usize)
+    requires { ⌜ (place < 1000) × (ports ≤ 8) ⌝ }
 {
     let mut rest = mask;
     let mut i = 0;
-    while i < 4 {
+    while i < ports {
         if rest % 2 == 1 {
             count(counts, place + i);
         }
@@ -95,25 +107,36 @@ pub fn ports(counts: &mut [u64], place: usize, mask: u32)
     }
 }
 
-// A port as a mask.
-fn mask_of(port: u32) -> u32
-    ensures { λ r. ⌜ r ≤ 8 ⌝ }
+// One more at each port of a mask.
+pub fn ports(counts: &mut [u64], place: usize, mask: u32)
+    requires { ⌜ place < 1000 ⌝ }
 {
+    first_ports(counts, place, mask, 8);
+}
+
+// A port as a mask.
+fn mask_of(port: u32) -> u32 {
     match port {
         1 => 1,
         2 => 2,
         3 => 4,
         4 => 8,
+        5 => 16,
+        6 => 32,
+        7 => 64,
+        8 => 128,
         _ => 0,
     }
 }
 
-// A frame that was offered to the ports it did not arrive at: those that neither accepted nor lost it are those that a pair stopped it from.
-pub fn offered(counts: &mut [u64], port: u32, accepted: u32, lost: u32) {
-    let reached = (mask_of(port) | accepted | lost) % 16;
+// A frame that was offered to the ports of a unit, `count` of them, that it did not arrive at: those that neither accepted nor lost it are those that a pair stopped it from.
+pub fn offered(counts: &mut [u64], count: usize, port: u32, accepted: u32, lost: u32)
+    requires { ⌜ count ≤ 8 ⌝ }
+{
+    let reached = (mask_of(port) | accepted | lost) % 256;
     ports(counts, ACCEPTED, accepted);
     ports(counts, LOST, lost);
-    ports(counts, STOPPED, 15 - reached);
+    first_ports(counts, STOPPED, 255 - reached, count);
 }
 
 // A count.
@@ -137,9 +160,20 @@ pub fn sum(counts: &[u64], kind: usize, from: usize) -> u64
     total
 }
 
-// Whether there is a unit: a power-on was done.
+// How many ports the summary is for: the most that a unit had, four if there was none.
+pub fn most_ports(counts: &[u64]) -> usize
+    ensures { λ r. ⌜ r ≤ 8 ⌝ }
+{
+    let most = get(counts, MOST_PORTS);
+    match most {
+        2..=8 => most as usize,
+        _ => 4,
+    }
+}
+
+// Whether there is a unit: a power-on was made.
 pub fn is_on(counts: &[u64]) -> bool {
-    0 < get(counts, POWER_ON)
+    0 < get(counts, MOST_PORTS)
 }
 
 // Whether a read or a write failed; nothing is done after that.

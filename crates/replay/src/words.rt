@@ -11,7 +11,7 @@ fn of_call(out: &mut [u8], at: usize, number: u64) -> usize
     ensures { λ r. ⌜ r ≤ length (now (out .entry)) ⌝ }
 {
     match number {
-        1 => print::text(out, at, b"port not 1 to 4"),
+        1 => print::text(out, at, b"port not 1 to the number of ports"),
         2 => print::text(out, at, b"lent storage not of its published length"),
         3 => print::text(out, at, b"identifier 2^29 or more"),
         4 => print::text(out, at, b"frame length over 8"),
@@ -31,14 +31,18 @@ fn of_call(out: &mut [u8], at: usize, number: u64) -> usize
     }
 }
 
-// Numbers 9 to 18: what is wrong with a message's payload, and Start or Quiet in another state than theirs.
+// Numbers 9 to 27: what is wrong with a message's payload, Start or Quiet in another state than theirs, and power-on with a count that is none.
 fn of_message(out: &mut [u8], at: usize, number: u64) -> usize
     requires { ⌜ at ≤ length (now out) ⌝ }
     ensures { λ r. ⌜ r ≤ length (now (out .entry)) ⌝ }
 {
     match number {
         9 => print::text(out, at, b"function not listed"),
-        10 => print::text(out, at, b"port outside 1 to 4, or From equals To"),
+        10 => print::text(
+            out,
+            at,
+            b"port outside 1 to the number of ports, or From equals To",
+        ),
         11 => print::text(out, at, b"pair or port not this tool's"),
         12 => print::text(out, at, b"body wrong: length, entry or filling"),
         13 => print::text(out, at, b"Create mode not 0 or 1"),
@@ -47,6 +51,7 @@ fn of_message(out: &mut [u8], at: usize, number: u64) -> usize
         16 => print::text(out, at, b"a named pair would pass 32"),
         17 => print::text(out, at, b"Delete: a PGN absent from a named pair"),
         18 => print::text(out, at, b"Start not in Unstarted, Quiet not in Claiming"),
+        27 => print::text(out, at, b"port count not 2 to 8"),
         _ => at,
     }
 }
@@ -72,6 +77,7 @@ fn field(out: &mut [u8], at: usize, f: Field) -> usize
     match f {
         Field::Name => print::text(out, at, b"NAME"),
         Field::Preferred => print::text(out, at, b"preferred address"),
+        Field::Ports => print::text(out, at, b"number of ports"),
         Field::Port => print::text(out, at, b"port"),
         Field::Identifier => print::text(out, at, b"identifier"),
         Field::Bytes => print::text(out, at, b"bytes"),

@@ -61,12 +61,12 @@ module _ (pair mode : ℕ) (es : List ℕ) (some : 1 ≤ length es) (pgns : ever
         eq-eqb (length (reported es) % 3) 0 (omega (arith, reported-long es)),
       )
 
-  sent-passes : (ports port : ℕ) → isPair ports 6 (fromOf pair) (toOf pair) ≡ true → mayName port 6 (fromOf pair) (toOf pair) ≡ true → ltb 1 mode ≡ false → refusalOf ports port 6 (fromOf pair) (toOf pair) (sent pair mode es) ≡ 0
+  sent-passes : (ports port : ℕ) → isPair ports 6 (fromOf pair) (toOf pair) ≡ true → mayName ports port 6 (fromOf pair) (toOf pair) ≡ true → ltb 1 mode ≡ false → refusalOf ports port 6 (fromOf pair) (toOf pair) (sent pair mode es) ≡ 0
   unfolding refusalOf isKnown listed namesPorts hasGoodBody hasWrongMode
   sent-passes ports port named may good = rw (named, may, sent-holds, good)
 
 -- for a tool that may name the pair
-pub round-trip : (ports port pair : ℕ) (f : Filter) → isPair ports 6 (fromOf pair) (toOf pair) ≡ true → mayName port 6 (fromOf pair) (toOf pair) ≡ true → 1 ≤ length (f .entries) → every isPgn (f .entries) ≡ true → SentBack ports port pair f (asCreate (listReply pair f))
+pub round-trip : (ports port pair : ℕ) (f : Filter) → isPair ports 6 (fromOf pair) (toOf pair) ≡ true → mayName ports port 6 (fromOf pair) (toOf pair) ≡ true → 1 ≤ length (f .entries) → every isPgn (f .entries) ≡ true → SentBack ports port pair f (asCreate (listReply pair f))
 unfolding decoded commandOf
 round-trip ports port pair f named may some pgns =
     let es = f .entries in

@@ -1,30 +1,30 @@
 -- The unit's own words: read, stored, and as power-on leaves them. Assumes nothing.
-use mathlib.Core.Path.{_≡_, refl, _∙_}
+use mathlib.Core.Path.{_≡_, refl, sym, _∙_}
+use mathlib.Core.Bool.{Bool, true, false, not, cond}
 use mathlib.Core.Logic.{inr}
 use mathlib.Core.List.{List, [], _∷_}
 use Prim.Native.Nat.{ℕ, zero, suc, _%_, _^_, _≤_, _<_}
 use native.Mathlib.Nat.{mod-lt, mod-eq-of-lt}
 use native.Mathlib.Omega.{arith}
+use borrow.Author.Tests.{eq-eqb, ne-eqb}
 use lib.ListN.{length, getD, set, take, replicate}
 use lib.Seq.{getD-take}
 use Rattle.storage.proofs.Parts.{back, part-in, part-apart}
 use Rattle.storage.proofs.Blocks.{blocks-apart, blocks-filled, part-filled}
 use Rattle.filter.specs.Filter.{filterOf, meant, clear}
+use Rattle.filter.specs.Filter.{blockSize as filterLength}
 use Rattle.queue.specs.Queue.{rowOf}
+use Rattle.queue.specs.Queue.{blockLength as queueLength}
 use Rattle.addresses.specs.declared.Place.the-variants.{Free}
-use Rattle.addresses.specs.Table.{places, placeFrom, placeOf, tableOf}
+use Rattle.addresses.specs.Table.{places, placeFrom, placeOf, tableOf, tableLength}
 use Rattle.unit.specs.declared.Claim.{Claim}
 use Rattle.unit.specs.declared.Claim.the-variants.{Unstarted, Claiming, Claimed, Lost}
 use Rattle.unit.specs.declared.Unit.{Unit}
-use Rattle.unit.specs.Model.{recordLength, claimFrom, unitOf, modelOf, withOwn, withRest}
-use Rattle.unit.specs.Own.{claimWord, freshUnit}
-use borrow.Author.Tests.{eq-eqb, ne-eqb}
+use Rattle.unit.specs.Count.{isCount, countOf, portsOf, pairCount}
+use Rattle.unit.specs.Model.{tableFrom, rowsFrom, pairsFrom, recordLength, claimFrom, unitOf, modelOf, withOwn, withRest}
+use Rattle.unit.specs.Own.{claimWord, freshUnit, moved}
 use Rattle.unit.specs.PowerOn.{powerOnRefusal, PoweringOn}
-use Rattle.filter.specs.Filter.{blockSize as filterLength}
-use Rattle.unit.specs.Model.{rowsFrom}
-use Rattle.queue.specs.Queue.{blockLength as queueLength}
-use Rattle.addresses.specs.Table.{tableLength}
-use Rattle.unit.specs.Model.{tableFrom}
+use Rattle.unit.proofs.Count.{count-same, count-taken, count-refused, ports-bounds, ports-taken}
 
 -- ---- reading
 pub lost-from : (word : ℕ) → (word ≡ 0 → ⊥) → (word ≡ 1 → ⊥) → (word ≡ 2 → ⊥) → Lost ≡ claimFrom word
@@ -34,21 +34,39 @@ lost-from (suc zero) a b c = absurd (b refl)
 lost-from (suc (suc zero)) a b c = absurd (c refl)
 lost-from (suc (suc (suc n))) a b c = refl
 
-pub own-read : (words : List ℕ)
-    → record { claim = claimFrom (getD words 0 0); address = getD words 1 0 % 256; preferred = getD words 2 0 % 2 ^ 32; name = getD words 3 0 }
-    ≡ modelOf 4 words .rest .own
-unfolding modelOf unitOf
-own-read words =
-    rw (
-      getD-take 4 words 0 0 (omega arith),
-      getD-take 4 words 1 0 (omega arith),
-      getD-take 4 words 2 0 (omega arith),
-      getD-take 4 words 3 0 (omega arith),
-    )
+module _ (ports : ℕ) (words : List ℕ) where
+  pub own-read : record {
+    claim = claimFrom (getD words 0 0);
+    address = getD words 1 0 % 256;
+    preferred = getD words 2 0 % 2 ^ 32;
+    name = getD words 3 0;
+    ports = countOf (getD words 4 0);
+  } ≡ modelOf ports words .rest .own
+  unfolding modelOf unitOf portsOf
+  own-read =
+      rw (
+        getD-take 5 words 0 0 (omega arith),
+        getD-take 5 words 1 0 (omega arith),
+        getD-take 5 words 2 0 (omega arith),
+        getD-take 5 words 3 0 (omega arith),
+        getD-take 5 words 4 0 (omega arith),
+      )
 
-pub address-small : (words : List ℕ) → modelOf 4 words .rest .own .address < 256
-unfolding modelOf unitOf
-address-small words = mod-lt (getD (take 4 words) 1 0) (omega arith)
+  pub address-small : modelOf ports words .rest .own .address < 256
+  unfolding modelOf unitOf
+  address-small = mod-lt (getD (take 5 words) 1 0) (omega arith)
+
+  -- the unit's number of ports is the record's
+  pub own-ports : modelOf ports words .rest .own .ports ≡ portsOf words
+  unfolding modelOf unitOf
+  own-ports = ports-taken words
+
+  pub own-count : (2 ≤ modelOf ports words .rest .own .ports) × (modelOf ports words .rest .own .ports ≤ 8)
+  own-count = rw own-ports (ports-bounds words)
+
+-- a unit in another claim state has as many ports
+pub moved-count : (ports : ℕ) (words : List ℕ) {u v : Unit} {claim : Claim} {address : ℕ} → u ≡ modelOf ports words .rest .own → v ≡ moved u claim address → (2 ≤ v .ports) × (v .ports ≤ 8)
+moved-count ports words own m = rw (m, own) (own-count ports words)
 
 -- ---- storing
 back-word : (claim : Claim) → claimFrom (claimWord claim) ≡ claim
@@ -58,30 +76,31 @@ back-word Claiming = refl
 back-word Claimed = refl
 back-word Lost = refl
 
-four-stores : (words : List ℕ) (a b c d : ℕ) → 4 ≤ length words → set (set (set (set words 0 a) 1 b) 2 c) 3 d ≡ back 0 4 words (a ∷ b ∷ c ∷ d ∷ [])
-four-stores [] a b c d h = absurd (omega arith)
-four-stores (x ∷ []) a b c d h = absurd (omega arith)
-four-stores (x ∷ y ∷ []) a b c d h = absurd (omega arith)
-four-stores (x ∷ y ∷ z ∷ []) a b c d h = absurd (omega arith)
-four-stores (x ∷ y ∷ z ∷ t ∷ rest) a b c d h = refl
+five-stores : (words : List ℕ) (a b c d e : ℕ) → 5 ≤ length words → set (set (set (set (set words 0 a) 1 b) 2 c) 3 d) 4 e ≡ back 0 5 words (a ∷ b ∷ c ∷ d ∷ e ∷ [])
+five-stores [] a b c d e h = absurd (omega arith)
+five-stores (x ∷ []) a b c d e h = absurd (omega arith)
+five-stores (x ∷ y ∷ []) a b c d e h = absurd (omega arith)
+five-stores (x ∷ y ∷ z ∷ []) a b c d e h = absurd (omega arith)
+five-stores (x ∷ y ∷ z ∷ t ∷ []) a b c d e h = absurd (omega arith)
+five-stores (x ∷ y ∷ z ∷ t ∷ u ∷ rest) a b c d e h = refl
 
-unit-of-four : (u : Unit) → u .address < 256 → u .preferred < 2 ^ 32 → unitOf (claimWord (u .claim) ∷ u .address ∷ u .preferred ∷ u .name ∷ []) ≡ u
-unfolding unitOf
-unit-of-four u a p = rw (back-word (u .claim), mod-eq-of-lt a, mod-eq-of-lt p)
+unit-of-five : (u : Unit) → u .address < 256 → u .preferred < 2 ^ 32 → 2 ≤ u .ports → u .ports ≤ 8 → unitOf (claimWord (u .claim) ∷ u .address ∷ u .preferred ∷ u .name ∷ u .ports ∷ []) ≡ u
+unfolding unitOf portsOf
+unit-of-five u a p l m = rw (back-word (u .claim), mod-eq-of-lt a, mod-eq-of-lt p, count-same l m)
 
-pub own-stored : (words : List ℕ) (u : Unit) (w : ℕ) → length words ≡ recordLength 4 → u .address < 256 → u .preferred < 2 ^ 32 → w ≡ claimWord (u .claim)
-    → modelOf 4 (set (set (set (set words 0 w) 1 (u .address)) 2 (u .preferred)) 3 (u .name)) ≡ withRest (modelOf 4 words) (withOwn (modelOf 4 words .rest) u)
+pub own-stored : (words : List ℕ) (u : Unit) (w : ℕ) → 5 ≤ length words → u .address < 256 → u .preferred < 2 ^ 32 → 2 ≤ u .ports → u .ports ≤ 8 → w ≡ claimWord (u .claim) → (ports : ℕ)
+    → modelOf ports (set (set (set (set (set words 0 w) 1 (u .address)) 2 (u .preferred)) 3 (u .name)) 4 (u .ports)) ≡ withRest (modelOf ports words) (withOwn (modelOf ports words .rest) u)
 unfolding modelOf
-own-stored words u w full a p e =
-    let ys = claimWord (u .claim) ∷ u .address ∷ u .preferred ∷ u .name ∷ [] in
+own-stored words u w full a p l m e ports =
+    let ys = claimWord (u .claim) ∷ u .address ∷ u .preferred ∷ u .name ∷ u .ports ∷ [] in
     rw (
       e,
-      four-stores words (claimWord (u .claim)) (u .address) (u .preferred) (u .name) (omega arith),
-      part-in 0 4 words ys refl (omega arith),
-      unit-of-four u a p,
-      blocks-apart 0 4 words ys refl (omega arith) filterOf filterLength 4 12 (inr (omega arith)),
-      blocks-apart 0 4 words ys refl (omega arith) rowOf queueLength (rowsFrom 4) 4 (inr (omega arith)),
-      part-apart 0 4 words ys refl (omega arith) (tableFrom 4) tableLength (inr (omega arith)),
+      five-stores words (claimWord (u .claim)) (u .address) (u .preferred) (u .name) (u .ports) full,
+      part-in 0 5 words ys refl (omega arith),
+      unit-of-five u a p l m,
+      blocks-apart 0 5 words ys refl (omega arith) filterOf filterLength (pairsFrom ports) (pairCount ports) (inr (omega arith)),
+      blocks-apart 0 5 words ys refl (omega arith) rowOf queueLength rowsFrom ports (inr (omega arith)),
+      part-apart 0 5 words ys refl (omega arith) tableFrom tableLength (inr (omega arith)),
     )
 
 -- ---- power-on: a record of zeros, with the fresh unit
@@ -101,38 +120,50 @@ no-table : (n : ℕ) → n ≡ tableLength → tableOf (replicate n 0) ≡ repli
 unfolding tableOf
 no-table n e = rw (blocks-filled n 0 placeOf 2 0 254 (omega arith), no-place)
 
-pub wiped : (n : ℕ) (u : Unit) → n ≡ recordLength 4 → withRest (modelOf 4 (replicate n 0)) (withOwn (modelOf 4 (replicate n 0) .rest) u) ≡ record {
-  rest = record { own = u; pairs = replicate 12 clear; table = replicate places Free };
-  rows = replicate 4 [];
+pub wiped : (n ports : ℕ) (u : Unit) → n ≡ recordLength ports → withRest (modelOf ports (replicate n 0)) (withOwn (modelOf ports (replicate n 0) .rest) u) ≡ record {
+  rest = record { own = u; pairs = replicate (pairCount ports) clear; table = replicate places Free };
+  rows = replicate ports [];
   seen = record {};
 }
 unfolding modelOf
-wiped n u e =
+wiped n ports u e =
     rw (
-      blocks-filled n 0 filterOf filterLength 4 12 (omega arith),
-      blocks-filled n 0 rowOf queueLength (rowsFrom 4) 4 (omega arith),
-      part-filled n 0 (tableFrom 4) tableLength (omega arith),
+      blocks-filled n 0 filterOf filterLength (pairsFrom ports) (pairCount ports) (omega arith),
+      blocks-filled n 0 rowOf queueLength rowsFrom ports (omega arith),
+      part-filled n 0 tableFrom tableLength (omega arith),
       no-table tableLength refl,
       no-filter,
       no-row,
     )
 
-module _ {words : List ℕ} {name preferred : ℕ} where
-  pub powered : {zeros after : List ℕ} {u : Unit} → length words ≡ recordLength 4 → length after ≡ length words → zeros ≡ replicate (length words) 0
-      → u ≡ freshUnit name preferred → modelOf 4 after ≡ withRest (modelOf 4 zeros) (withOwn (modelOf 4 zeros .rest) u) → PoweringOn 4 words after name preferred 0
-  unfolding powerOnRefusal
-  powered full long z u state = record {
-    long = long;
-    answer = rw (eq-eqb (length words) (recordLength 4) full);
-    state = λ _. state ∙ rw (z, u) (wiped (length words) (freshUnit name preferred) full);
-    refused = λ h. absurd (h refl);
-  }
+module _ {words : List ℕ} {count name preferred : ℕ} where
+  -- the record was of its length, with the number that the count is answered with
+  module _ {zeros after : List ℕ} {ports : ℕ} {u : Unit} (is : ports ≡ countOf count) (full : length words ≡ recordLength ports) (long : length after ≡ length words) (z : zeros ≡ replicate (length words) 0)
+      (fresh : u ≡ freshUnit name preferred ports) (state : modelOf ports after ≡ withRest (modelOf ports zeros) (withOwn (modelOf ports zeros .rest) u)) where
+    made : (r : ℕ) → r ≡ cond (not (isCount count)) 27 0 → PoweringOn count words after name preferred r
+    unfolding powerOnRefusal
+    made r e = record {
+      long = long;
+      answer = e ∙ rw (← is, eq-eqb (length words) (recordLength ports) full);
+      state = λ _. rw (← is) (state ∙ rw (z, fresh) (wiped (length words) ports (freshUnit name preferred ports) full));
+      refused = λ h. absurd (neither (isCount count) (sym e ∙ h));
+    }
+      where
+        neither : (b : Bool) → _≡_ {A = ℕ} (cond (not b) 27 0) 2 → ⊥
+        neither true h = omega arith
+        neither false h = omega arith
 
-  pub not-powered : (length words ≡ recordLength 4 → ⊥) → PoweringOn 4 words words name preferred 2
+    pub powered : ports ≡ count → PoweringOn count words after name preferred 0
+    powered same = made 0 (rw (count-taken count (sym is ∙ same)))
+
+    pub powered-with-four : (ports ≡ count → ⊥) → PoweringOn count words after name preferred 27
+    powered-with-four other = made 27 (rw (count-refused count (λ e. other (is ∙ e))))
+
+  pub not-powered : {ports : ℕ} → ports ≡ countOf count → (length words ≡ recordLength ports → ⊥) → PoweringOn count words words name preferred 2
   unfolding powerOnRefusal
-  not-powered h = record {
+  not-powered {ports} is h = record {
     long = refl;
-    answer = rw (ne-eqb (length words) (recordLength 4) h);
-    state = λ z. absurd (omega arith);
+    answer = rw (← is, ne-eqb (length words) (recordLength ports) h);
+    state = λ z. absurd (z refl);
     refused = λ _. refl;
   }

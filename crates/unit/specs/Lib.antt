@@ -1,4 +1,5 @@
 pub mod Ports
+pub mod Count
 pub mod Model
 pub mod Own
 pub mod PowerOn

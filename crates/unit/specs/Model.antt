@@ -17,6 +17,7 @@ use Rattle.addresses.specs.Table.{tableLength, tableOf}
 use Rattle.unit.specs.declared.Claim.{Claim}
 use Rattle.unit.specs.declared.Claim.the-variants.{Unstarted, Claiming, Claimed, Lost}
 use Rattle.unit.specs.declared.Unit.{Unit}
+use Rattle.unit.specs.Count.{portsOf, pairCount}
 
 -- ---- the model
 -- what the rules keep besides the rows: no row has a say in it
@@ -61,9 +62,9 @@ abbrev pub withRow : Model → ℕ → List Frame → Model
 withRow m q row = withRows m (set (m .rows) q row)
 
 -- ---- the record
--- the unit's own words: claim state, address, preferred address, NAME
+-- the unit's own words: claim state, address, preferred address, NAME, number of ports
 abbrev pub ownLength : ℕ
-ownLength = 4
+ownLength = 5
 
 unfoldable pub claimFrom : ℕ → Claim
 claimFrom zero = Unstarted
@@ -77,28 +78,29 @@ unitOf words = record {
   address = getD words 1 0 % 256;
   preferred = getD words 2 0 % 2 ^ 32;
   name = getD words 3 0;
+  ports = portsOf words;
 }
 
--- the regions: own, a filter for each pair, a queue for each port, the address table
-abbrev pub pairsFrom : ℕ
-pairsFrom = ownLength
+-- the regions: own, the address table, a queue for each port, a filter for each pair; so a queue's place does not depend on the number of ports
+abbrev pub tableFrom : ℕ
+tableFrom = ownLength
 
-abbrev pub rowsFrom : ℕ → ℕ
-rowsFrom ports = pairsFrom + filterLength * (ports * (ports - 1))
+abbrev pub rowsFrom : ℕ
+rowsFrom = tableFrom + tableLength
 
-abbrev pub tableFrom : ℕ → ℕ
-tableFrom ports = rowsFrom ports + queueLength * ports
+abbrev pub pairsFrom : ℕ → ℕ
+pairsFrom ports = rowsFrom + queueLength * ports
 
 abbrev pub recordLength : ℕ → ℕ
-recordLength ports = tableFrom ports + tableLength
+recordLength ports = pairsFrom ports + filterLength * pairCount ports
 
 unfoldable pub modelOf : ℕ → List ℕ → Model
 modelOf ports words = record {
   rest = record {
     own = unitOf (take ownLength words);
-    pairs = blocksOf pairsFrom filterLength (ports * (ports - 1)) filterOf words;
-    table = tableOf (take tableLength (drop (tableFrom ports) words));
+    pairs = blocksOf (pairsFrom ports) filterLength (pairCount ports) filterOf words;
+    table = tableOf (take tableLength (drop tableFrom words));
   };
-  rows = blocksOf (rowsFrom ports) queueLength ports rowOf words;
+  rows = blocksOf rowsFrom queueLength ports rowOf words;
   seen = record {};
 }

@@ -54,13 +54,13 @@ unfoldable pub consumes : Unit → ℕ → Bool
 consumes own id = hasDestination id && isOwn own (psOf id)
 
 -- ---- the unit as calls leave it
--- power-on: Unstarted, with its NAME and preferred address; 254 is no address
-abbrev pub freshUnit : ℕ → ℕ → Unit
-freshUnit name preferred = record { claim = Unstarted; address = 254; preferred = preferred; name = name }
+-- power-on: Unstarted, with its NAME, preferred address and number of ports; 254 is no address
+abbrev pub freshUnit : ℕ → ℕ → ℕ → Unit
+freshUnit name preferred ports = record { claim = Unstarted; address = 254; preferred = preferred; name = name; ports = ports }
 
 -- the unit in another claim state, with another address
 abbrev pub moved : Unit → Claim → ℕ → Unit
-moved own claim address = record { claim = claim; address = address; preferred = own .preferred; name = own .name }
+moved own claim address = record { claim = claim; address = address; preferred = own .preferred; name = own .name; ports = own .ports }
 
 -- ---- its frames
 -- "18EEFF00 (hex) plus its address, or 18EEFFFE, length 8, its NAME"

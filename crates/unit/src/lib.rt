@@ -2,10 +2,13 @@
 mod words;
 
 use queue::Frame;
+pub use words::ports_of;
 pub use words::read_unit;
 pub use words::store_unit;
 ghost use mathlib.Core.Path.{_≡_};
-ghost use Rattle.unit.specs.Model.{claimFrom};
+ghost use Prim.Native.Nat.{_≤_};
+ghost use Rattle.unit.specs.Count.{countOf};
+ghost use Rattle.unit.specs.Model.{claimFrom, recordLength};
 ghost use Rattle.unit.specs.Own.{isUnstarted, isClaiming, startChecks, holdsAddress, isOwn, consumes, freshUnit, moved, claimFrame, cannotClaimFrame, requestAnswer, isClaimed, claimWord};
 ghost use Rattle.checks.specs.Checks.{first};
 ghost use Rattle.unit.specs.PowerOn.{PoweringOn};
@@ -32,6 +35,7 @@ pub struct Unit {
     pub address: u8,
     pub preferred: u32,
     pub name: u64,
+    pub ports: u32,
 }
 
 impl Claim {
@@ -110,47 +114,85 @@ impl Claim {
 }
 
 impl Unit {
-    pub const PORTS: usize = 4;
+    // The number of ports where no other is chosen at power-on, and the fewest and the most that can be.
+    pub const PORTS: u32 = 4;
+
+    pub const FEWEST_PORTS: u32 = 2;
+
+    pub const MOST_PORTS: u32 = 8;
 
     pub const LIST_SIZE: usize = pgn_list::LIST_SIZE;
 
     pub const QUEUE_SIZE: usize = queue::SIZE;
 
-    // The directed pairs, in order of From, then To.
-    pub const PAIRS: usize = Self::PORTS * (Self::PORTS - 1);
+    // Where the record's regions begin: the unit's own words, the address table, a queue for each port; then a filter for each pair, in order of From, then To.
+    pub const TABLE_AT: usize = 5;
 
-    // Where the record's regions begin: the unit's own words, a filter for each pair, a queue for each port, the address table.
-    pub const FILTERS_AT: usize = 4;
+    pub const QUEUES_AT: usize = Self::TABLE_AT + addresses::TABLE_LENGTH;
 
-    pub const QUEUES_AT: usize = Self::FILTERS_AT + filter::BLOCK_SIZE * Self::PAIRS;
+    // The record's length with four ports.
+    pub const RECORD_LENGTH: usize = Self::QUEUES_AT
+        + queue::BLOCK_LENGTH * 4
+        + filter::BLOCK_SIZE * 12;
 
-    pub const TABLE_AT: usize = Self::QUEUES_AT + queue::BLOCK_LENGTH * Self::PORTS;
+    // The record's length.
+    pub fn record_length(ports: usize) -> usize
+        requires { ⌜ (1 ≤ ports) × (ports ≤ 8) ⌝ }
+        ensures { λ r. ⌜ r ≡ recordLength ports ⌝ }
+    {
+        let pairs = ports * (ports - 1);
+        Self::QUEUES_AT + queue::BLOCK_LENGTH * ports + filter::BLOCK_SIZE * pairs
+    }
 
-    pub const RECORD_LENGTH: usize = Self::TABLE_AT + addresses::TABLE_LENGTH;
+    // The number of ports of a unit that was given a count.
+    pub fn count_of(count: u64) -> u32
+        ensures { λ r. ⌜ r ≡ countOf count ⌝ }
+    {
+        if count < (Self::FEWEST_PORTS as u64) {
+            return Self::PORTS;
+        }
+        if (Self::MOST_PORTS as u64) < count {
+            return Self::PORTS;
+        }
+        count as u32
+    }
 
     // The unit as power-on makes it.
-    pub fn fresh(name: u64, preferred: u32) -> Unit
-        ensures { λ r. ⌜ r ≡ freshUnit name preferred ⌝ }
+    pub fn fresh(name: u64, preferred: u32, ports: u32) -> Unit
+        ensures { λ r. ⌜ r ≡ freshUnit name preferred ports ⌝ }
     {
         Unit {
             claim: Claim::Unstarted,
             address: NO_ADDRESS,
             preferred,
             name,
+            ports,
         }
     }
 
-    // Power-on: the record becomes that of a fresh unit. Refused with 2 where it is not of its length, else 0.
-    pub fn power_on(words: &mut [u64], name: u64, preferred: u32) -> u32
-        ensures { λ r. ⌜ PoweringOn 4 (now (words .entry)) (now (words .exit)) name preferred r ⌝ }
+    // Power-on with a number of ports: the record becomes that of a fresh unit, of four ports where it can't have so many, which is told with 27. Refused
+    // with 2 where it is not of its length.
+    pub fn power_on_ports(words: &mut [u64], name: u64, preferred: u32, count: u32) -> u32
+        ensures { λ r. ⌜ PoweringOn count (now (words .entry)) (now (words .exit)) name preferred r ⌝ }
     {
-        if words.len() != Self::RECORD_LENGTH {
+        let ports = Unit::count_of(count as u64);
+        if words.len() != Unit::record_length(ports as usize) {
             return 2;
         }
         words::wipe(words);
-        let unit = Unit::fresh(name, preferred);
+        let unit = Unit::fresh(name, preferred, ports);
         words::store_unit(words, unit);
+        if ports != count {
+            return 27;
+        }
         0
+    }
+
+    // Power-on with four ports.
+    pub fn power_on(words: &mut [u64], name: u64, preferred: u32) -> u32
+        ensures { λ r. ⌜ PoweringOn 4 (now (words .entry)) (now (words .exit)) name preferred r ⌝ }
+    {
+        Unit::power_on_ports(words, name, preferred, Self::PORTS)
     }
 
     // The unit in another claim state, with another address.
@@ -162,6 +204,7 @@ impl Unit {
             address,
             preferred: self.preferred,
             name: self.name,
+            ports: self.ports,
         }
     }
 

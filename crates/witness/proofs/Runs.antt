@@ -16,9 +16,11 @@ use Rattle.queue.specs.declared.Taken.the-variants.{Given, Nothing}
 use Rattle.bridge.specs.declared.TakeAnswer.the-variants.{Refused, Took}
 use Rattle.bridge.specs.declared.UnitAnswer.{UnitAnswer}
 use Rattle.bridge.specs.declared.UnitAnswer.the-variants.{Told}
-use Rattle.unit.specs.Model.{modelOf, recordLength}
+use Rattle.unit.specs.Count.{countOf, portsOf}
+use Rattle.unit.specs.Model.{Model, modelOf, recordLength}
 use Rattle.unit.specs.PowerOn.{PoweringOn}
 use Rattle.demand_3.specs.Demand3.{Answer, ToFrame, ToTake, ToMessage, ToStart, ToQuiet, ToUnit, next, answer}
+use Rattle.unit.proofs.Own.{own-ports}
 use Rattle.demand_3.proofs.Demand3.{power-on-goes}
 use Rattle.witness.specs.Encoding.{callWords, answerWords, callOf, code, codes}
 use Rattle.witness.specs.Replay.{Stepping, callsOf, Running, count, Replaying}
@@ -34,7 +36,7 @@ code-long (ToMessage r reply) = refl
 code-long (ToStart r) = refl
 code-long (ToQuiet number) = refl
 code-long (ToUnit (UnitAnswer.Refused number)) = refl
-code-long (ToUnit (Told own ports)) = refl
+code-long (ToUnit (Told own)) = refl
 
 codes-long : (xs : List Answer) → length (codes xs) ≡ answerWords * length xs
 codes-long [] = refl
@@ -76,45 +78,51 @@ behind f out lent i l =
 module _ {words₀ calls bytes : List ℕ} {lentReply : ℕ} {lent : List ℕ} where
   pub running-start : Running words₀ words₀ calls bytes lentReply lent lent 0
   unfolding blocksOf
-  running-start = record { state = refl; answers = refl }
+  running-start = record { state = refl; answers = refl; ports = refl }
 
   pub running-step : {words words′ answers out : List ℕ} {i : ℕ} → Running words₀ words calls bytes lentReply lent answers i
       → Stepping words words′ (callOf bytes lentReply (take callWords (drop (callWords * i) calls))) out
       → Running words₀ words′ calls bytes lentReply lent (back (answerWords * i) answerWords answers out) (i + 1)
   running-step {words} {words′} {answers} {out} {i} r s =
-      let m = modelOf 4 words₀ in
+      let ports = portsOf words₀ in
+      let m = modelOf ports words₀ in
       let ks = callsOf calls bytes lentReply i in
       let k = callOf bytes lentReply (take callWords (drop (callWords * i) calls)) in
-      let long : length (codes (answersOf next answer m ks)) ≡ answerWords * i =
-      codes-long (answersOf next answer m ks) ∙ rw (length-answers next answer m ks, length-blocks (callOf bytes lentReply) callWords 0 i calls) in
-      let told : out ≡ code (answer (afterCalls next m ks) k) = rw (r .state) at (s .answer) in
+      let long : length (codes (answersOf (next ports) (answer ports) m ks)) ≡ answerWords * i =
+      codes-long (answersOf (next ports) (answer ports) m ks) ∙ rw (length-answers (next ports) (answer ports) m ks, length-blocks (callOf bytes lentReply) callWords 0 i calls) in
+      let told : out ≡ code (answer ports (afterCalls (next ports) m ks) k) = rw (r .ports, r .state) at (s .answer) in
       record {
-        state = s .state ∙ rw (r .state, more calls bytes lentReply i) (sym (after-append next m ks (k ∷ [])));
+        state = (rw (r .ports) at (s .state)) ∙ rw (r .state, more calls bytes lentReply i) (sym (after-append (next ports) m ks (k ∷ [])));
         answers =
             rw (
               r .answers,
               more calls bytes lentReply i,
-              answers-append next answer m ks (k ∷ []),
-              codes-append (answersOf next answer m ks) (answer (afterCalls next m ks) k ∷ []),
-              append-nil (code (answer (afterCalls next m ks) k)),
+              answers-append (next ports) (answer ports) m ks (k ∷ []),
+              codes-append (answersOf (next ports) (answer ports) m ks) (answer ports (afterCalls (next ports) m ks) k ∷ []),
+              append-nil (code (answer ports (afterCalls (next ports) m ks) k)),
               ← told,
             )
-            (behind (codes (answersOf next answer m ks)) out lent i long);
+            (behind (codes (answersOf (next ports) (answer ports) m ks)) out lent i long);
+        ports = s .ports ∙ r .ports;
       }
 
 -- ---- from power-on on
-module _ {w u : List ℕ} {name preferred r : ℕ} (p : PoweringOn 4 w u name preferred r) where
-  pub powered-long : r ≡ 0 → length u ≡ recordLength 4
-  powered-long z = p .long ∙ power-on-goes (length w) (sym (p .answer) ∙ z)
+module _ {w u : List ℕ} {name preferred ports r : ℕ} (p : PoweringOn ports w u name preferred r) where
+  -- the record has the ports that power-on gave it, and is of their length
+  powered-ports : (r ≡ 2 → ⊥) → portsOf u ≡ countOf ports
+  powered-ports n = sym (own-ports (countOf ports) u) ∙ ap (λ (m : Model). m .rest .own .ports) (p .state n)
 
-  pub not-replayed : {calls bytes : List ℕ} {lentReply : ℕ} {lent : List ℕ} → (r ≡ 0 → ⊥) → Replaying w u name preferred calls bytes lentReply lent lent r
-  not-replayed n = record { number = p .answer; state = λ z. absurd (n z); answers = λ z. absurd (n z); refused = λ z. (p .refused z, refl) }
+  pub powered-long : (r ≡ 2 → ⊥) → length u ≡ recordLength (portsOf u)
+  powered-long n = rw (powered-ports n) (p .long ∙ power-on-goes ports (length w) (λ e. n (p .answer ∙ e)))
 
-  pub replayed : {v calls bytes : List ℕ} {lentReply : ℕ} {lent back : List ℕ} {k : ℕ} → r ≡ 0 → k ≡ count calls lent
-      → Running u v calls bytes lentReply lent back k → Replaying w v name preferred calls bytes lentReply lent back 0
-  replayed z e l = record {
-    number = sym z ∙ p .answer;
-    state = λ y. rw (p .state z, e) at (l .state);
-    answers = λ y. rw (p .state z, e) at (l .answers);
-    refused = λ n. absurd (n refl);
+  pub not-replayed : {calls bytes : List ℕ} {lentReply : ℕ} {lent : List ℕ} → r ≡ 2 → Replaying w u name preferred ports calls bytes lentReply lent lent r
+  not-replayed z = record { number = p .answer; state = λ n. absurd (n z); answers = λ n. absurd (n z); refused = λ z. (p .refused z, refl) }
+
+  pub replayed : {v calls bytes : List ℕ} {lentReply : ℕ} {lent back : List ℕ} {k : ℕ} → (r ≡ 2 → ⊥) → k ≡ count calls lent
+      → Running u v calls bytes lentReply lent back k → Replaying w v name preferred ports calls bytes lentReply lent back r
+  replayed n e l = record {
+    number = p .answer;
+    state = λ _. rw (powered-ports n, p .state n, e) at (l .state);
+    answers = λ _. rw (powered-ports n, p .state n, e) at (l .answers);
+    refused = λ z. absurd (n z);
   }

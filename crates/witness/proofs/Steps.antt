@@ -12,6 +12,7 @@ use Rattle.message_answers.specs.declared.MessageAnswer.{MessageAnswer}
 use Rattle.bridge.specs.declared.StartAnswer.{StartAnswer}
 use Rattle.bridge.specs.declared.UnitAnswer.{UnitAnswer}
 use Rattle.unit.specs.Own.{claimWord}
+use Rattle.unit.specs.Count.{portsOf}
 use Rattle.unit.specs.Model.{recordLength}
 use Rattle.bridge.specs.Calls.{FrameIn, TakeOut, Message, Start, Quiet, ReadUnit, Framing, TakingOut, Messaging, Starting, Quieting, Reading}
 use Rattle.demand_3.specs.Demand3.{ToFrame, ToTake, ToUnit, answer}
@@ -60,38 +61,41 @@ part-is bytes from to a e h k =
     part-in bytes a e (omega arith) (omega arith) ∙ start ∙ end
 
 -- ---- one call, by its contract
-module _ {w w′ out : List ℕ} (long : length w ≡ recordLength 4) where
-  pub frame-step : {port id : ℕ} {bytes : List ℕ} {r : FrameAnswer} → Framing 4 w w′ port id bytes r → out ≡ code (ToFrame r) → Stepping w w′ (FrameIn port id bytes) out
+module _ {w w′ out : List ℕ} (long : length w ≡ recordLength (portsOf w)) where
+  pub frame-step : {port id : ℕ} {bytes : List ℕ} {r : FrameAnswer} → Framing (portsOf w) w w′ port id bytes r → out ≡ code (ToFrame r) → Stepping w w′ (FrameIn port id bytes) out
   unfolding answer
-  frame-step l o = record { state = rw long at (l .call .state); answer = o ∙ ap (λ r. code (ToFrame r)) (rw long at (l .answer)) }
+  frame-step l o = record { state = rw long at (l .call .state); answer = o ∙ ap (λ r. code (ToFrame r)) (rw long at (l .answer)); ports = l .call .count }
 
-  pub take-step : {port : ℕ} {r : TakeAnswer} → TakingOut 4 w w′ port r → out ≡ code (ToTake r) → Stepping w w′ (TakeOut port) out
+  pub take-step : {port : ℕ} {r : TakeAnswer} → TakingOut (portsOf w) w w′ port r → out ≡ code (ToTake r) → Stepping w w′ (TakeOut port) out
   unfolding answer
-  take-step l o = record { state = rw long at (l .call .state); answer = o ∙ ap (λ r. code (ToTake r)) (rw long at (l .answer)) }
+  take-step l o = record { state = rw long at (l .call .state); answer = o ∙ ap (λ r. code (ToTake r)) (rw long at (l .answer)); ports = l .call .count }
 
-  pub message-step : {port requester : ℕ} {payload lent back : List ℕ} {r : MessageAnswer} → Messaging 4 w w′ port requester payload lent back r
+  pub message-step : {port requester : ℕ} {payload lent back : List ℕ} {r : MessageAnswer} → Messaging (portsOf w) w w′ port requester payload lent back r
       → out ≡ r .refusal ∷ r .pgn ∷ r .length ∷ 0 ∷ 0 ∷ 0 ∷ 0 ∷ 0 ∷ [] → Stepping w w′ (Message port requester payload (length lent)) out
   unfolding answer code
   message-step {r} l o = record {
     state = rw long at (l .call .state);
     answer = o ∙ ap (λ (r : MessageAnswer). r .refusal ∷ r .pgn ∷ r .length ∷ 0 ∷ 0 ∷ 0 ∷ 0 ∷ 0 ∷ []) (rw long at (l .answer));
+    ports = l .call .count;
   }
 
-  pub start-step : {r : StartAnswer} → Starting 4 w w′ r → out ≡ r .refusal ∷ r .unsent ∷ claimWord (r .claim) ∷ 0 ∷ 0 ∷ 0 ∷ 0 ∷ 0 ∷ [] → Stepping w w′ Start out
+  pub start-step : {r : StartAnswer} → Starting (portsOf w) w w′ r → out ≡ r .refusal ∷ r .unsent ∷ claimWord (r .claim) ∷ 0 ∷ 0 ∷ 0 ∷ 0 ∷ 0 ∷ [] → Stepping w w′ Start out
   unfolding answer code
   start-step l o = record {
     state = rw long at (l .call .state);
     answer = o ∙ ap (λ (r : StartAnswer). r .refusal ∷ r .unsent ∷ claimWord (r .claim) ∷ 0 ∷ 0 ∷ 0 ∷ 0 ∷ 0 ∷ []) (rw long at (l .answer));
+    ports = l .call .count;
   }
 
-  pub quiet-step : {r : ℕ} → Quieting 4 w w′ r → out ≡ r ∷ 0 ∷ 0 ∷ 0 ∷ 0 ∷ 0 ∷ 0 ∷ 0 ∷ [] → Stepping w w′ Quiet out
+  pub quiet-step : {r : ℕ} → Quieting (portsOf w) w w′ r → out ≡ r ∷ 0 ∷ 0 ∷ 0 ∷ 0 ∷ 0 ∷ 0 ∷ 0 ∷ [] → Stepping w w′ Quiet out
   unfolding answer code
   quiet-step l o = record {
     state = rw long at (l .call .state);
     answer = o ∙ ap (λ r. r ∷ 0 ∷ 0 ∷ 0 ∷ 0 ∷ 0 ∷ 0 ∷ 0 ∷ []) (rw long at (l .answer));
+    ports = l .call .count;
   }
 
 -- the unit is read: the record stays
-pub unit-step : {w out : List ℕ} {r : UnitAnswer} → length w ≡ recordLength 4 → Reading 4 w r → out ≡ code (ToUnit r) → Stepping w w ReadUnit out
+pub unit-step : {w out : List ℕ} {r : UnitAnswer} → length w ≡ recordLength (portsOf w) → Reading (portsOf w) w r → out ≡ code (ToUnit r) → Stepping w w ReadUnit out
 unfolding answer
-unit-step long l o = record { state = rw long at (l .call .state); answer = o ∙ ap (λ r. code (ToUnit r)) (rw long at (l .answer)) }
+unit-step long l o = record { state = rw long at (l .call .state); answer = o ∙ ap (λ r. code (ToUnit r)) (rw long at (l .answer)); ports = l .call .count }

@@ -53,7 +53,7 @@ code (ToMessage r reply) = r .refusal ∷ r .pgn ∷ r .length ∷ 0 ∷ 0 ∷ 0
 code (ToStart r) = r .refusal ∷ r .unsent ∷ claimWord (r .claim) ∷ 0 ∷ 0 ∷ 0 ∷ 0 ∷ 0 ∷ []
 code (ToQuiet number) = number ∷ 0 ∷ 0 ∷ 0 ∷ 0 ∷ 0 ∷ 0 ∷ 0 ∷ []
 code (ToUnit (UnitAnswer.Refused number)) = number ∷ 0 ∷ 0 ∷ 0 ∷ 0 ∷ 0 ∷ 0 ∷ 0 ∷ []
-code (ToUnit (Told own ports)) = 0 ∷ claimWord (own .claim) ∷ own .address ∷ own .preferred ∷ own .name ∷ ports ∷ 0 ∷ 0 ∷ []
+code (ToUnit (Told own)) = 0 ∷ claimWord (own .claim) ∷ own .address ∷ own .preferred ∷ own .name ∷ own .ports ∷ 0 ∷ 0 ∷ []
 
 -- the words of several answers
 abbrev pub codes : List Answer → List ℕ

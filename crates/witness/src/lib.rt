@@ -10,6 +10,7 @@ ghost use mathlib.Core.Bool.{cond};
 ghost use mathlib.Core.List.{[], _∷_};
 ghost use Prim.Native.Nat.{_*_, _≤_, min};
 ghost use lib.ListN.{length};
+ghost use Rattle.unit.specs.Count.{portsOf};
 ghost use Rattle.unit.specs.Model.{recordLength};
 ghost use Rattle.bridge.specs.Calls.{FrameIn, TakeOut, Message, Start, Quiet, ReadUnit};
 ghost use Rattle.demand_3.specs.Demand3.{ToFrame, ToTake, ToUnit};
@@ -89,7 +90,7 @@ fn write_unit(r: UnitAnswer, out: &mut [u64])
 {
     match r {
         UnitAnswer::Refused(number) => put(out, number as u64, 0, 0, 0, 0, 0, 0, 0),
-        UnitAnswer::Told { unit, ports } => {
+        UnitAnswer::Told(unit) => {
             let claim = unit.claim;
             put(
                 out,
@@ -98,7 +99,7 @@ fn write_unit(r: UnitAnswer, out: &mut [u64])
                 unit.address as u64,
                 unit.preferred as u64,
                 unit.name,
-                ports as u64,
+                unit.ports as u64,
                 0,
                 0,
             );
@@ -108,7 +109,7 @@ fn write_unit(r: UnitAnswer, out: &mut [u64])
 
 // The calls, each with its answer written down.
 fn frame(words: &mut [u64], port: u32, id: u32, bytes: &[u8], out: &mut [u64])
-    requires { ⌜ (length (now words) ≡ recordLength 4) × (length (now out) ≡ answerWords) ⌝ }
+    requires { ⌜ (length (now words) ≡ recordLength (portsOf (now words))) × (length (now out) ≡ answerWords) ⌝ }
     ensures { λ _. ⌜ Stepping (now (words .entry)) (now (words .exit)) (FrameIn port id (now (bytes .entry))) (now (out .exit)) ⌝ }
 {
     let r = bridge::frame(words, port, id, bytes);
@@ -116,7 +117,7 @@ fn frame(words: &mut [u64], port: u32, id: u32, bytes: &[u8], out: &mut [u64])
 }
 
 fn take(words: &mut [u64], port: u32, out: &mut [u64])
-    requires { ⌜ (length (now words) ≡ recordLength 4) × (length (now out) ≡ answerWords) ⌝ }
+    requires { ⌜ (length (now words) ≡ recordLength (portsOf (now words))) × (length (now out) ≡ answerWords) ⌝ }
     ensures { λ _. ⌜ Stepping (now (words .entry)) (now (words .exit)) (TakeOut port) (now (out .exit)) ⌝ }
 {
     let r = bridge::take(words, port);
@@ -131,7 +132,7 @@ fn message(
     reply: &mut [u8],
     out: &mut [u64],
 )
-    requires { ⌜ (length (now words) ≡ recordLength 4) × (length (now out) ≡ answerWords) ⌝ }
+    requires { ⌜ (length (now words) ≡ recordLength (portsOf (now words))) × (length (now out) ≡ answerWords) ⌝ }
     ensures { λ _. ⌜ Stepping (now (words .entry)) (now (words .exit)) (Message port requester (now (payload .entry)) (length (now (reply .entry)))) (now (out .exit)) ⌝ }
 {
     let r = bridge::message(words, port, requester, payload, reply);
@@ -149,7 +150,7 @@ fn message(
 }
 
 fn start(words: &mut [u64], out: &mut [u64])
-    requires { ⌜ (length (now words) ≡ recordLength 4) × (length (now out) ≡ answerWords) ⌝ }
+    requires { ⌜ (length (now words) ≡ recordLength (portsOf (now words))) × (length (now out) ≡ answerWords) ⌝ }
     ensures { λ _. ⌜ Stepping (now (words .entry)) (now (words .exit)) Start (now (out .exit)) ⌝ }
 {
     let r = bridge::start(words);
@@ -168,7 +169,7 @@ fn start(words: &mut [u64], out: &mut [u64])
 }
 
 fn quiet(words: &mut [u64], out: &mut [u64])
-    requires { ⌜ (length (now words) ≡ recordLength 4) × (length (now out) ≡ answerWords) ⌝ }
+    requires { ⌜ (length (now words) ≡ recordLength (portsOf (now words))) × (length (now out) ≡ answerWords) ⌝ }
     ensures { λ _. ⌜ Stepping (now (words .entry)) (now (words .exit)) Quiet (now (out .exit)) ⌝ }
 {
     let number = bridge::quiet(words);
@@ -176,7 +177,7 @@ fn quiet(words: &mut [u64], out: &mut [u64])
 }
 
 fn read_unit(words: &[u64], out: &mut [u64])
-    requires { ⌜ (length (now words) ≡ recordLength 4) × (length (now out) ≡ answerWords) ⌝ }
+    requires { ⌜ (length (now words) ≡ recordLength (portsOf (now words))) × (length (now out) ≡ answerWords) ⌝ }
     ensures { λ _. ⌜ Stepping (now (words .entry)) (now (words .entry)) ReadUnit (now (out .exit)) ⌝ }
 {
     let r = bridge::unit(words);
@@ -193,7 +194,7 @@ fn perform(
     reply: &mut [u8],
     out: &mut [u64],
 )
-    requires { ⌜ (length (now words) ≡ recordLength 4) × (length (now out) ≡ answerWords) ⌝ }
+    requires { ⌜ (length (now words) ≡ recordLength (portsOf (now words))) × (length (now out) ≡ answerWords) ⌝ }
     ensures { λ _. ⌜ Stepping (now (words .entry)) (now (words .exit)) (callFrom kind port argument (now (bytes .entry)) (length (now (reply .entry)))) (now (out .exit)) ⌝ }
 {
     if kind == 0 {
@@ -231,7 +232,7 @@ fn least(a: usize, b: usize) -> usize
 
 // One call, as its words say.
 fn step(words: &mut [u64], call: &[u64], bytes: &[u8], reply: &mut [u8], out: &mut [u64])
-    requires { ⌜ (length (now words) ≡ recordLength 4) × (length (now call) ≡ callWords) × (length (now out) ≡ answerWords) ⌝ }
+    requires { ⌜ (length (now words) ≡ recordLength (portsOf (now words))) × (length (now call) ≡ callWords) × (length (now out) ≡ answerWords) ⌝ }
     ensures { λ _. ⌜ Stepping (now (words .entry)) (now (words .exit)) (callOf (now (bytes .entry)) (length (now (reply .entry))) (now (call .entry))) (now (out .exit)) ⌝ }
 {
     let kind = call[0];
@@ -251,7 +252,7 @@ fn run(
     answers: &mut [u64],
     count: usize,
 )
-    requires { ⌜ (length (now words) ≡ recordLength 4) × (callWords * count ≤ length (now calls)) × (answerWords * count ≤ length (now answers)) ⌝ }
+    requires { ⌜ (length (now words) ≡ recordLength (portsOf (now words))) × (callWords * count ≤ length (now calls)) × (answerWords * count ≤ length (now answers)) ⌝ }
     ensures { λ _. ⌜ Running (now (words .entry)) (now (words .exit)) (now (calls .entry)) (now (bytes .entry)) (length (now (reply .entry))) (now (answers .entry)) (now (answers .exit)) count ⌝ }
 {
     let mut i: usize = 0;
@@ -265,23 +266,24 @@ fn run(
     }
 }
 
-// Power-on, and every call for which there are words and room for the answer. The reply buffer is lent to every message; other calls lend none.
+// Power-on, and every call for which there are words and room for the answer; refused with 2 it makes none. The reply buffer is lent to every message; other calls lend none.
 pub fn replay(
     words: &mut [u64],
     name: u64,
     preferred: u32,
+    ports: u32,
     calls: &[u64],
     bytes: &[u8],
     reply: &mut [u8],
     answers: &mut [u64],
 ) -> u32
-    ensures { λ r. ⌜ Replaying (now (words .entry)) (now (words .exit)) name preferred (now (calls .entry)) (now (bytes .entry)) (length (now (reply .entry))) (now (answers .entry)) (now (answers .exit)) r ⌝ }
+    ensures { λ r. ⌜ Replaying (now (words .entry)) (now (words .exit)) name preferred ports (now (calls .entry)) (now (bytes .entry)) (length (now (reply .entry))) (now (answers .entry)) (now (answers .exit)) r ⌝ }
 {
-    let number = Unit::power_on(words, name, preferred);
-    if number != 0 {
+    let number = Unit::power_on_ports(words, name, preferred, ports);
+    if number == 2 {
         return number;
     }
     let count = least(calls.len() / CALL_WORDS, answers.len() / ANSWER_WORDS);
     run(words, calls, bytes, reply, answers, count);
-    0
+    number
 }

@@ -1,17 +1,24 @@
-// Any encoded list of calls, run by `witness::replay`. Standard input has numbers in hex: the NAME, the preferred address, how many calls there are, five words for each
-// call, and the bytes of all calls; what stands behind a # is passed over. A line for each call, its answer's eight words, and how many frames wait at each port.
-use bridge::Unit;
+// Any encoded list of calls, run by `witness::replay`. Standard input has numbers in hex: the NAME, the preferred address, the number of ports, how many calls there
+// are, five words for each call, and the bytes of all calls; what stands behind a # is passed over. A line for each call, its answer's eight words, and how many frames
+// wait at each port.
 use libc::STDIN_FILENO;
 use libc::STDOUT_FILENO;
+use unit::Unit;
 ghost use Prim.Native.Nat.{_+_, _*_, _≤_};
 ghost use lib.ListN.{length};
 
 // How many numbers, bytes and calls there is room for.
-const NUMBERS: usize = 16384;
+const NUMBERS: usize = 32768;
 
-const BYTES: usize = 8192;
+const BYTES: usize = 16384;
 
 const CALLS: usize = 1024;
+
+// How many numbers come before the calls.
+const HEAD: usize = 4;
+
+// The words of the largest unit's record, one of eight ports.
+const MOST_WORDS: usize = 2937;
 
 // A number that is being read, whether it has a digit, and whether a comment goes on.
 struct Reading {
@@ -124,7 +131,7 @@ fn number(n: u64, behind: &[u8]) {
     io::write_all(STDOUT_FILENO, behind);
 }
 
-// A word of an answer; the eighth ends its line.
+// A number of a line; the last ends it.
 fn print_word(n: u64, is_last: bool) {
     if is_last {
         number(n, b"\n");
@@ -142,19 +149,26 @@ fn print_answers(answers: &[u64]) {
     }
 }
 
-// How many frames wait at a port, by the place of its queue in the record.
-fn print_waiting(words: &[u64], place: usize, behind: &[u8]) {
+// How many frames wait at a port, by its index from 0: the first word of its queue.
+fn print_waiting(words: &[u64], index: usize, is_last: bool)
+    requires { ⌜ index ≤ 8 ⌝ }
+{
+    let place = Unit::QUEUES_AT + queue::BLOCK_LENGTH * index;
     if place < words.len() {
-        number(words[place], behind);
+        print_word(words[place], is_last);
     }
 }
 
-fn print_record(words: &[u64]) {
+// How many frames wait at each port.
+fn print_record(words: &[u64], ports: usize)
+    requires { ⌜ ports ≤ 8 ⌝ }
+{
     io::write_all(STDOUT_FILENO, b"waiting ");
-    print_waiting(words, 412, b" ");
-    print_waiting(words, 477, b" ");
-    print_waiting(words, 542, b" ");
-    print_waiting(words, 607, b"\n");
+    let mut i = 0;
+    while i < ports {
+        print_waiting(words, i, i + 1 == ports);
+        i += 1;
+    }
 }
 
 // The lesser of two numbers.
@@ -169,38 +183,64 @@ fn least(a: usize, b: usize) -> usize
 
 // How many calls are made: as many as were said, have their words, and there is room for.
 fn calls_made(said: u64, numbers: usize) -> usize
-    requires { ⌜ 3 ≤ numbers ⌝ }
-    ensures { λ r. ⌜ (3 + 5 * r ≤ numbers) × (r ≤ 1024) ⌝ }
+    requires { ⌜ 4 ≤ numbers ⌝ }
+    ensures { λ r. ⌜ (4 + 5 * r ≤ numbers) × (r ≤ 1024) ⌝ }
 {
-    let most = least((numbers - 3) / 5, CALLS);
+    let most = least((numbers - HEAD) / 5, CALLS);
     least(said as usize, most)
 }
 
-// Power-on and the calls.
-fn run(numbers: &[u64])
-    requires { ⌜ 3 ≤ length (now numbers) ⌝ }
+// How many ports a unit has that is given a count.
+fn ports_given(count: u64) -> usize
+    ensures { λ r. ⌜ (2 ≤ r) × (r ≤ 8) ⌝ }
 {
-    let n = calls_made(numbers[2], numbers.len());
-    let end = 3 + 5 * n;
-    let mut record = [0u64; Unit::RECORD_LENGTH];
-    let mut space = [0u64; 8 * CALLS];
+    Unit::count_of(count) as usize
+}
+
+// How much of the storage is the record of a unit with so many ports.
+fn record_length(ports: usize) -> usize
+    requires { ⌜ (2 ≤ ports) × (ports ≤ 8) ⌝ }
+    ensures { λ r. ⌜ r ≤ 2937 ⌝ }
+{
+    least(Unit::record_length(ports), MOST_WORDS)
+}
+
+// Power-on and the calls; how many frames wait is told from the record after them.
+fn make_calls(words: &mut [u64], numbers: &[u64], answers: &mut [u64], n: usize)
+    requires { ⌜ 4 + 5 * n ≤ length (now numbers) ⌝ }
+{
+    let end = HEAD + 5 * n;
     let mut bytes = [0u8; BYTES];
     let mut reply = [0u8; 1785];
-    let answers: &mut [u64] = &mut space;
     let k = copy_bytes(&numbers[end..], &mut bytes);
     let refused = witness::replay(
-        &mut record,
+        words,
         numbers[0],
         (numbers[1] % 4294967296) as u32,
-        &numbers[3..end],
+        (numbers[2] % 4294967296) as u32,
+        &numbers[HEAD..end],
         &bytes[0..k],
         &mut reply,
         answers,
     );
     number(refused as u64, b"\n");
+}
+
+// A unit, its calls and their answers.
+fn run(numbers: &[u64])
+    requires { ⌜ 4 ≤ length (now numbers) ⌝ }
+{
+    let n = calls_made(numbers[3], numbers.len());
+    let ports = ports_given(numbers[2]);
+    let length = record_length(ports);
+    let mut record = [0u64; MOST_WORDS];
+    let mut space = [0u64; 8 * CALLS];
+    let words: &mut [u64] = &mut record;
+    let answers: &mut [u64] = &mut space;
+    make_calls(&mut words[0..length], numbers, answers, n);
     let written = &answers[..];
     print_answers(&written[0..8 * n]);
-    print_record(&record);
+    print_record(words, ports);
 }
 
 fn main() {
@@ -209,10 +249,10 @@ fn main() {
     let mut space = [0u64; NUMBERS];
     let numbers: &mut [u64] = &mut space;
     let count = read_numbers(&text[..n], numbers);
-    if count < 3 {
+    if count < HEAD {
         io::write_all(
             STDOUT_FILENO,
-            b"a NAME, a preferred address and a number of calls come first\n",
+            b"a NAME, a preferred address, a number of ports and of calls come first\n",
         );
         return;
     }

@@ -10,7 +10,7 @@ use reference::generate::{generate, Random};
 use reference::linked::*;
 use reference::message::LONGEST_MESSAGE;
 use reference::script::{print_answer, write_call, Answer, Call};
-use reference::unit::{FrameAnswer, Unit};
+use reference::unit::{FrameAnswer, Unit, USUAL_PORTS};
 
 /// Guard elements before and behind whatever is lent.
 const GUARDS: usize = 16;
@@ -20,6 +20,7 @@ const SCRIPT: usize = 100_000;
 /// Storage between guards.
 struct Lent<T> {
     all: Vec<T>,
+    length: usize,
     guard: T,
 }
 
@@ -27,23 +28,29 @@ impl<T: Copy + PartialEq> Lent<T> {
     fn new(length: usize, fill: T, guard: T) -> Lent<T> {
         let mut all = vec![guard; length + 2 * GUARDS];
         all[GUARDS..GUARDS + length].fill(fill);
-        Lent { all, guard }
+        Lent { all, length, guard }
+    }
+
+    /// The same room with another length; guards stand behind it.
+    fn shorten(&mut self, length: usize, fill: T) {
+        self.all.fill(self.guard);
+        self.length = length;
+        self.contents().fill(fill);
     }
 
     fn contents(&mut self) -> &mut [T] {
-        let end = self.all.len() - GUARDS;
-        &mut self.all[GUARDS..end]
+        &mut self.all[GUARDS..GUARDS + self.length]
     }
 
     fn guards_hold(&self) -> bool {
-        let end = self.all.len() - GUARDS;
-        self.all[..GUARDS].iter().chain(&self.all[end..]).all(|guard| *guard == self.guard)
+        let behind = &self.all[GUARDS + self.length..];
+        self.all[..GUARDS].iter().chain(behind).all(|guard| *guard == self.guard)
     }
 
     /// As it was made.
     fn untouched(&self, fill: T) -> bool {
-        let end = self.all.len() - GUARDS;
-        self.guards_hold() && self.all[GUARDS..end].iter().all(|element| *element == fill)
+        let contents = &self.all[GUARDS..GUARDS + self.length];
+        self.guards_hold() && contents.iter().all(|element| *element == fill)
     }
 }
 
@@ -70,7 +77,7 @@ impl Both {
     fn new(seed: u64) -> Both {
         Both {
             reference: Unit::power_on(0, 0),
-            record: Lent::new(RECORD_WORDS, 0, 0xDEAD_BEEF_DEAD_BEEF),
+            record: Lent::new(record_words(8), 0, 0xDEAD_BEEF_DEAD_BEEF),
             random: Random::new(!seed),
             coverage: Coverage::default(),
             tried: BTreeMap::new(),
@@ -90,10 +97,13 @@ impl Both {
         if self.random.once_in(8) {
             self.wrong_lengths(call)?;
         }
+        if self.random.once_in(500) {
+            self.lose_count();
+        }
         let before = self.reference.clone();
         let words = self.record.contents().to_vec();
         let answer = match call {
-            Call::PowerOn { name, preferred } => self.power_on(*name, *preferred)?,
+            Call::PowerOn { name, preferred, ports } => self.power_on(*name, *preferred, *ports)?,
             Call::Start => self.start()?,
             Call::Quiet => self.quiet()?,
             Call::Frame { port, id, bytes } => self.frame(*port, *id, bytes)?,
@@ -102,7 +112,7 @@ impl Both {
             Call::Unit => self.unit()?,
         };
         let after = self.record.contents();
-        if answer.number() != 0 && after != words {
+        if answer.number() != 0 && answer.number() != 27 && after != words {
             return Err(format!("{}: the record changed", print_answer(&answer)));
         }
         if let Some(difference) = difference(after, &self.reference) {
@@ -113,13 +123,30 @@ impl Both {
         Ok(())
     }
 
-    fn power_on(&mut self, name: u64, preferred: u32) -> Result<Answer, String> {
+    /// On a record of junk; with four ports by either function.
+    fn power_on(&mut self, name: u64, preferred: u32, ports: u32) -> Result<Answer, String> {
         let junk = self.random.number();
-        self.record.contents().fill(junk);
-        let number = Record(self.record.contents()).power_on(name, preferred);
-        self.reference = Unit::power_on(name, preferred);
-        same("number", number, 0)?;
-        Ok(Answer::PowerOn)
+        self.record.shorten(record_words(ports), junk);
+        let mut record = Record(self.record.contents());
+        let number = if ports == USUAL_PORTS && self.random.once_in(2) {
+            record.power_on(name, preferred)
+        } else {
+            record.power_on_ports(name, preferred, ports)
+        };
+        let (unit, result) = Unit::power_on_ports(name, preferred, ports);
+        self.reference = unit;
+        same("number", number, result.err().unwrap_or(0))?;
+        same("count", self.record.contents()[PORTS_AT], u64::from(self.reference.ports))?;
+        Ok(Answer::PowerOn(result))
+    }
+
+    /// A word that is no count says four ports: in the record of a unit with four it makes no difference.
+    fn lose_count(&mut self) {
+        if self.reference.ports == USUAL_PORTS {
+            let any = self.random.number();
+            self.record.contents()[PORTS_AT] = self.random.pick(&[0, 1, 9, 16, any, (1 << 32) + 8, u64::MAX]);
+            self.count("records whose count was made none");
+        }
     }
 
     fn start(&mut self) -> Result<Answer, String> {
@@ -223,11 +250,16 @@ impl Both {
         } else {
             lent(&mut self.random, bytes.unwrap_or(0), wrong_bytes)
         };
-        let length = lent(&mut self.random, RECORD_WORDS, wrong_record);
+        let right = match call {
+            Call::PowerOn { ports, .. } => record_words(*ports),
+            _ => self.record.length,
+        };
+        let length = if wrong_record { self.wrong_record(right) } else { right };
         let mut told = self.told(words, bytes);
         let before = self.record.all.clone();
         told.number = self.lend(call, length, &mut told);
-        let expected = if port.is_some_and(|port| !(1..=4).contains(&port)) { 1 } else { 2 };
+        let ports = ports_of(&before[GUARDS..GUARDS + length]);
+        let expected = if port.is_some_and(|port| !(1..=ports).contains(&port)) { 1 } else { 2 };
         same("number of a wrong length", told.number, expected)?;
         check(self.record.all == before, "a wrong length changed the record")?;
         // A message whose answer is of its length is told that nothing was written.
@@ -238,13 +270,29 @@ impl Both {
         Ok(())
     }
 
+    /// Another length of a record: that of another count, or too short to have a count, or any.
+    fn wrong_record(&mut self, right: usize) -> usize {
+        let other = record_words(2 + self.random.below(7));
+        let short = self.random.below(7) as usize;
+        let any = another(&mut self.random, right);
+        let length = self.random.pick(&[other, other, short, any]);
+        if length == right {
+            right - 1
+        } else {
+            length
+        }
+    }
+
     /// The call with so many words of the record, which may reach into its guards.
     fn lend(&mut self, call: &Call, length: usize, told: &mut Told) -> u32 {
         let start = GUARDS;
         let mut record = Record(&mut self.record.all[start..start + length]);
         let (words, bytes) = (told.words.contents(), told.bytes.contents());
         match call {
-            Call::PowerOn { name, preferred } => record.power_on(*name, *preferred),
+            Call::PowerOn { name, preferred, ports: USUAL_PORTS } if name % 2 == 0 => {
+                record.power_on(*name, *preferred)
+            }
+            Call::PowerOn { name, preferred, ports } => record.power_on_ports(*name, *preferred, *ports),
             Call::Start => record.start(words),
             Call::Quiet => record.quiet(),
             Call::Frame { port, id, bytes } => record.frame(*port, *id, bytes, words),
@@ -322,7 +370,8 @@ fn frame_words(answer: &FrameAnswer) -> Vec<u64> {
 /// The address is 254 for none.
 fn unit_words(answer: &UnitAnswer) -> Vec<u64> {
     let address = answer.address.unwrap_or(NULL);
-    let [state, address, preferred, ports] = [answer.state.number(), address, answer.preferred, answer.ports].map(u64::from);
+    let [state, address, preferred, ports] =
+        [answer.state.number(), address, answer.preferred, answer.ports].map(u64::from);
     vec![state, address, preferred, answer.name, ports]
 }
 

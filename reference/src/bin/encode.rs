@@ -14,14 +14,15 @@ fn main() -> io::Result<ExitCode> {
     io::stdin().read_to_end(&mut script)?;
     let lines: Vec<&[u8]> = lines_of(&script).into_iter().filter(|line| !is_passed_over(line)).collect();
     let calls: Vec<Call> = lines.iter().filter_map(|line| read_call(line).ok()).collect();
-    let [Call::PowerOn { name, preferred }, calls @ ..] = &calls[..] else {
+    let [Call::PowerOn { name, preferred, ports }, calls @ ..] = &calls[..] else {
         eprintln!("encode: a power-on comes first");
         return Ok(ExitCode::from(2));
     };
     if std::env::args().nth(1).is_some_and(|word| word == "--answers") {
         print_answers(&lines);
     } else {
-        println!("# NAME, preferred address, how many calls\n{name:X} {preferred:X} {:X}", calls.len());
+        println!("# NAME, preferred address, number of ports, how many calls");
+        println!("{name:X} {preferred:X} {ports:X} {:X}", calls.len());
         print_calls(calls);
     }
     Ok(ExitCode::SUCCESS)
@@ -54,15 +55,16 @@ fn print_calls(calls: &[Call]) {
 /// Power-on's number, a line for each answer, and how many frames wait at each port.
 fn print_answers(lines: &[&[u8]]) {
     let mut unit: Option<Unit> = None;
-    println!("0");
     for (i, line) in lines.iter().enumerate() {
         let (_, answer) = made(&mut unit, line).expect("encode: a line that is no call");
-        if i > 0 {
-            println!("{}", words(&answer).map(|word| format!("{word:x}")).join(" "));
+        match i {
+            0 => println!("{:x}", answer.number()),
+            _ => println!("{}", words(&answer).map(|word| format!("{word:x}")).join(" ")),
         }
     }
     let unit = unit.expect("a power-on comes first");
-    println!("waiting {}", [1, 2, 3, 4].map(|port| format!("{:x}", unit.queues[&port].len())).join(" "));
+    let waiting: Vec<String> = unit.queues.values().map(|queue| format!("{:x}", queue.len())).collect();
+    println!("waiting {}", waiting.join(" "));
 }
 
 /// An answer's eight words.
@@ -72,7 +74,16 @@ fn words(answer: &Answer) -> [u64; 8] {
         Answer::Frame(Ok(told)) => {
             let (event, old) = event_words(&told.event);
             let compared = told.compared as u64;
-            [0, u64::from(told.consumed), mask(&told.accepted), mask(&told.lost), mask(&told.own_lost), compared, event, old]
+            [
+                0,
+                u64::from(told.consumed),
+                mask(&told.accepted),
+                mask(&told.lost),
+                mask(&told.own_lost),
+                compared,
+                event,
+                old,
+            ]
         }
         Answer::Take(Ok(Some(frame))) => {
             let bytes = frame.bytes.iter().rev().fold(0, |word, &byte| word << 8 | u64::from(byte));
@@ -82,7 +93,16 @@ fn words(answer: &Answer) -> [u64; 8] {
         Answer::Start(Ok(told)) => [0, mask(&told.own_lost), u64::from(told.state.number()), 0, 0, 0, 0, 0],
         Answer::Unit(told) => {
             let address = u64::from(told.address.unwrap_or(NULL));
-            [0, u64::from(told.state.number()), address, u64::from(told.preferred), told.name, u64::from(told.ports), 0, 0]
+            [
+                0,
+                u64::from(told.state.number()),
+                address,
+                u64::from(told.preferred),
+                told.name,
+                u64::from(told.ports),
+                0,
+                0,
+            ]
         }
         _ => [number, 0, 0, 0, 0, 0, 0, 0],
     }

@@ -5,8 +5,10 @@
 use reference::address::{ClaimState, Event, Holder, StartAnswer};
 use reference::frame::Frame;
 use reference::pair::Pair;
-use reference::unit::{FrameAnswer, Unit, PORTS};
+use reference::unit::{FrameAnswer, Unit};
 
+/// The ports of a unit with four.
+pub const PORTS: [u32; 4] = [1, 2, 3, 4];
 /// The unit's NAME in the tests; some NAMEs are above it and some below.
 pub const NAME: u64 = 0x20001C000AC00123;
 /// An address that no example uses.
@@ -22,6 +24,15 @@ pub fn hex(text: &str) -> Vec<u8> {
 
 pub fn unstarted() -> Unit {
     Unit::power_on(NAME, ADDRESS)
+}
+
+/// A unit that is Claimed, with so many ports.
+pub fn claimed_with(ports: u32) -> Unit {
+    let (mut unit, result) = Unit::power_on_ports(NAME, ADDRESS, ports);
+    assert_eq!((result, unit.start()), (Ok(()), started(ClaimState::Claiming, &[])));
+    drain(&mut unit);
+    assert_eq!(unit.quiet(), Ok(()));
+    unit
 }
 
 /// Start's answer where it is not refused.
@@ -51,7 +62,7 @@ pub fn lost() -> Unit {
 }
 
 pub fn drain(unit: &mut Unit) {
-    for port in PORTS {
+    for port in unit.all_ports() {
         while unit.take(port).expect("a good port").is_some() {}
     }
 }

@@ -1,6 +1,6 @@
 -- `bridge::is_for_unit` meets its contract: no frame without a destination is consumed. Assumes nothing.
-use borrow.Author.Needs.{needs}
 use Rattle.unit.specs.Own.{consumes}
+use borrow.Author.Needs.{needs}
 use Rattle.bridge.proofs.is_for_unit.Statement.{statement}
 use Rattle.bridge.proofs.is_for_unit.Tie as tie
 
@@ -14,11 +14,11 @@ consumes-requires : tie.Need-consumes-requires
 consumes-requires c κs = search needs
 
 returns : tie.Need-returns
-returns c = rw (← (c .before .read-unit .ensures)) (c .consumes .ensures)
+returns c = λ ports. rw (← (c .before .read-unit .ensures ports)) (c .consumes .ensures)
 
 returns-2 : tie.Need-returns-2
 unfolding consumes
-returns-2 c = rw (← (c .before .has-destination .ensures), c .if1 .left)
+returns-2 c = λ ports. rw (← (c .before .has-destination .ensures), c .if1 .left)
 
 pub is-for-unit-spec : {M : Type 1} → statement M
 is-for-unit-spec =

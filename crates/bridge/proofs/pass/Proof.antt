@@ -22,7 +22,8 @@ returns c =
     let at-share = at-respond .before .before .before .before in
     let at-for = at-share .before .before in
     let args = at-for .before .before .before .args in
-    passed (args .port) (args .f) (at-for .is-for-unit .result) (at-share .share .result) (at-respond .respond .result) (at-for .is-for-unit .ensures) (at-share .share .ensures) (at-respond .respond .ensures)
+    passed (args .port) (args .f) (at-for .is-for-unit .result) (at-share .share .result) (at-respond .respond .result) (at-for .is-for-unit .ensures _) (at-share .share .ensures) (at-respond .respond .ensures)
 
 pub pass-spec : {M : Type 1} → statement M
-pass-spec = tie.close (tie.spec is-for-unit-requires share-requires respond-requires same-length returns)
+pass-spec =
+    tie.close (tie.spec is-for-unit-requires share-requires respond-requires same-length returns)

@@ -1,13 +1,28 @@
 -- `bridge::quiet` meets its contract, by the way that the code went. Assumes nothing.
 use mathlib.Core.Path.{sym, _∙_}
 use native.Mathlib.Omega.{arith}
+use Rattle.unit.proofs.Own.{moved-count}
 use Rattle.bridge.proofs.Answers.{quiet-short, quiet-wrong, quieted}
 use borrow.Author.Needs.{needs}
 use Rattle.bridge.proofs.quiet.Statement.{statement}
 use Rattle.bridge.proofs.quiet.Tie as tie
 
+ports-of-requires : tie.Need-ports-of-requires
+ports-of-requires c κs = search needs
+
+cast-record-length : tie.Need-cast-record-length
+cast-record-length c = search needs
+
+record-length-requires : tie.Need-record-length-requires
+record-length-requires c κs = search needs
+
+same-length : tie.Need-same-length
+same-length c = search needs
+
 returns : tie.Need-returns
-returns c = quiet-short (c .if1 .taken)
+returns c =
+    let at = c .before in
+    rw (← (at .before .ports-of .ensures .count)) (quiet-short (λ e. c .if1 .taken (e ∙ sym (at .record-length .ensures))))
 
 read-unit-requires : tie.Need-read-unit-requires
 read-unit-requires c κs = search needs
@@ -19,10 +34,15 @@ moved-requires : tie.Need-moved-requires
 moved-requires c κs = search needs
 
 store-unit-requires : tie.Need-store-unit-requires
-store-unit-requires c κs = search needs
+store-unit-requires c κs =
+    let at-moved = c .before in
+    let at-read = at-moved .before .before .before in
+    let start = c .before .before .before .before .before .before .before .before .before .before .before in
+    let m = moved-count 4 (start .args .words .now) (at-read .read-unit .ensures 4) (at-moved .moved .ensures) in
+    (omega arith, m .0, m .1)
 
-same-length : tie.Need-same-length
-same-length c = search needs
+same-length-2 : tie.Need-same-length-2
+same-length-2 c = search needs
 
 returns-2 : tie.Need-returns-2
 returns-2 c =
@@ -30,31 +50,41 @@ returns-2 c =
     let at-moved = at-store .before .before in
     let at-claiming = at-moved .before .before in
     let at-read = at-claiming .before in
-    quieted (omega arith)
-    (rw (← (at-read .read-unit .ensures)) (sym (at-claiming .is-claiming .ensures) ∙ at-moved .before .if2 .taken))
+    let at-else = at-read .before .before in
+    let at = at-else .before in
+    rw (← (at .before .ports-of .ensures .count))
+    (quieted (at-else .if1 .left ∙ at .record-length .ensures)
+    (rw (← (at-read .read-unit .ensures (at .before .ports-of .result))) (sym (at-claiming .is-claiming .ensures) ∙ at-moved .before .if2 .taken))
     (omega arith)
-    (rw (← (at-read .read-unit .ensures)) (at-moved .moved .ensures))
-    (at-store .store-unit .ensures)
+    (rw (← (at-read .read-unit .ensures (at .before .ports-of .result))) (at-moved .moved .ensures))
+    (at-store .store-unit .ensures _))
 
-same-length-2 : tie.Need-same-length-2
-same-length-2 c = search needs
+same-length-3 : tie.Need-same-length-3
+same-length-3 c = search needs
 
 returns-3 : tie.Need-returns-3
 returns-3 c =
     let at-claiming = c .before in
     let at-read = at-claiming .before in
-    quiet-wrong (omega arith) (rw (← (at-read .read-unit .ensures)) (sym (at-claiming .is-claiming .ensures) ∙ c .if2 .left))
+    let at-else = at-read .before .before in
+    let at = at-else .before in
+    rw (← (at .before .ports-of .ensures .count))
+    (quiet-wrong (at-else .if1 .left ∙ at .record-length .ensures) (rw (← (at-read .read-unit .ensures (at .before .ports-of .result))) (sym (at-claiming .is-claiming .ensures) ∙ c .if2 .left)))
 
 pub quiet-spec : {M : Type 1} → statement M
 quiet-spec =
     tie.close
     (tie.spec
+    ports-of-requires
+    cast-record-length
+    record-length-requires
+    same-length
     returns
     read-unit-requires
     is-claiming-requires
     moved-requires
     store-unit-requires
-    same-length
-    returns-2
     same-length-2
+    returns-2
+    same-length-3
     returns-3)

@@ -17,7 +17,7 @@ returns : tie.Need-returns
 returns c =
     let at-announce = c .before .before in
     let at-act = at-announce .before .before .before .before in
-    responded (at-act .act .ensures) (at-announce .announce .ensures)
+    responded (at-act .act .ensures _) (at-announce .announce .ensures)
 
 pub respond-spec : {M : Type 1} → statement M
 respond-spec = tie.close (tie.spec act-requires announce-requires same-length returns)

@@ -19,7 +19,7 @@ returns c =
     let at-act = c .before .before in
     let at-is = at-act .before .before .before in
     let args = at-is .before .before .args in
-    claim-acted (args .words .now) (args .port) (args .consumed) (args .f) (at-act .act-on-claim .result) (sym (at-is .is-claim .ensures) ∙ at-act .before .before .if1 .taken) (at-act .act-on-claim .ensures)
+    λ ports. claim-acted ports (args .words .now) (args .port) (args .consumed) (args .f) (at-act .act-on-claim .result) (sym (at-is .is-claim .ensures) ∙ at-act .before .before .if1 .taken) (at-act .act-on-claim .ensures ports)
 
 is-request-to-unit-requires : tie.Need-is-request-to-unit-requires
 is-request-to-unit-requires c κs = search needs
@@ -39,7 +39,7 @@ returns-2 c =
     let at-request = at-read .before .before .before in
     let at-is = at-request .before .before in
     let args = at-is .before .before .args in
-    request-acted (args .words .now) (args .port) (args .consumed) (args .f) _ (sym (at-is .is-claim .ensures) ∙ at-request .before .if1 .left) (sym (at-request .is-request-to-unit .ensures) ∙ at-read .before .before .if2 .taken) refl (rw (← (at-read .read-unit .ensures)) (c .request-answer .ensures))
+    λ ports. request-acted ports (args .words .now) (args .port) (args .consumed) (args .f) _ (sym (at-is .is-claim .ensures) ∙ at-request .before .if1 .left) (sym (at-request .is-request-to-unit .ensures) ∙ at-read .before .before .if2 .taken) refl (rw (← (at-read .read-unit .ensures ports)) (c .request-answer .ensures))
 
 alone-requires : tie.Need-alone-requires
 alone-requires c κs = search needs
@@ -49,7 +49,7 @@ returns-3 c =
     let at-request = c .before .before in
     let at-is = at-request .before .before in
     let args = at-is .before .before .args in
-    not-acted (args .words .now) (args .port) (args .consumed) (args .f) (c .alone .result) (sym (at-is .is-claim .ensures) ∙ at-request .before .if1 .left) (sym (at-request .is-request-to-unit .ensures) ∙ c .before .if2 .left) (c .alone .ensures)
+    λ ports. not-acted ports (args .words .now) (args .port) (args .consumed) (args .f) (c .alone .result) (sym (at-is .is-claim .ensures) ∙ at-request .before .if1 .left) (sym (at-request .is-request-to-unit .ensures) ∙ c .before .if2 .left) (c .alone .ensures)
 
 pub act-spec : {M : Type 1} → statement M
 act-spec =

@@ -17,7 +17,7 @@ returns : tie.Need-returns
 returns c =
     let at-read = c .before .before .before in
     let args = at-read .before .before .before .args in
-    own-claim (args .words .now) (at-read .read-unit .result) (at-read .read-unit .ensures) (args .port) (args .f) (c .alone .result) (c .before .if1 .taken) (c .alone .ensures)
+    λ ports. own-claim ports (args .words .now) (at-read .read-unit .result) (at-read .read-unit .ensures ports) (args .port) (args .f) (c .alone .result) (c .before .if1 .taken) (c .alone .ensures)
 
 sa-requires : tie.Need-sa-requires
 sa-requires c κs = search needs
@@ -37,7 +37,7 @@ returns-2 c =
     let at-sa = at-withdraw .before .before .before in
     let at-read = at-sa .before .before .before in
     let args = at-read .before .before .before .args in
-    withdrawal (args .words .now) (at-read .read-unit .result) (at-read .read-unit .ensures) (args .port) (args .f) (c .alone2 .result) (at-sa .before .if1 .left) (at-sa .sa .result) (at-sa .sa .ensures) (at-withdraw .before .before .if2 .taken) (at-withdraw .withdraw .ensures) (c .alone2 .ensures)
+    λ ports. withdrawal ports (args .words .now) (at-read .read-unit .result) (at-read .read-unit .ensures ports) (args .port) (args .f) (c .alone2 .result) (at-sa .before .if1 .left) (at-sa .sa .result) (at-sa .sa .ensures) (at-withdraw .before .before .if2 .taken) (at-withdraw .withdraw .ensures ports) (c .alone2 .ensures)
 
 cast-address : tie.Need-cast-address
 cast-address c = search needs
@@ -58,7 +58,7 @@ returns-3 c =
     let at-sa = at-own .before .before in
     let at-read = at-sa .before .before .before in
     let args = at-read .before .before .before .args in
-    contesting (args .words .now) (at-read .read-unit .result) (at-read .read-unit .ensures) (args .port) (args .f) (at-contest .contest .result) (at-sa .before .if1 .left) (at-sa .sa .result) (at-sa .sa .ensures) (at-own .before .if2 .left) (at-own .is-own .result) (at-own .is-own .ensures) (at-contest .before .before .if3 .taken) (at-contest .contest .ensures)
+    λ ports. contesting ports (args .words .now) (at-read .read-unit .result) (at-read .read-unit .ensures ports) (args .port) (args .f) (at-contest .contest .result) (at-sa .before .if1 .left) (at-sa .sa .result) (at-sa .sa .ensures) (at-own .before .if2 .left) (at-own .is-own .result) (at-own .is-own .ensures) (at-contest .before .before .if3 .taken) (at-contest .contest .ensures ports)
 
 claim-requires : tie.Need-claim-requires
 claim-requires c κs = search needs
@@ -76,7 +76,7 @@ returns-4 c =
     let at-sa = at-own .before .before in
     let at-read = at-sa .before .before .before in
     let args = at-read .before .before .before .args in
-    claiming (args .words .now) (at-read .read-unit .result) (at-read .read-unit .ensures) (args .port) (args .f) (c .alone3 .result) (at-sa .before .if1 .left) (at-sa .sa .result) (at-sa .sa .ensures) (at-own .before .if2 .left) (at-own .is-own .result) (at-own .is-own .ensures) (at-claim .before .before .if3 .left) (at-claim .claim .ensures) (c .alone3 .ensures)
+    λ ports. claiming ports (args .words .now) (at-read .read-unit .result) (at-read .read-unit .ensures ports) (args .port) (args .f) (c .alone3 .result) (at-sa .before .if1 .left) (at-sa .sa .result) (at-sa .sa .ensures) (at-own .before .if2 .left) (at-own .is-own .result) (at-own .is-own .ensures) (at-claim .before .before .if3 .left) (at-claim .claim .ensures ports) (c .alone3 .ensures)
 
 pub act-on-claim-spec : {M : Type 1} → statement M
 act-on-claim-spec =

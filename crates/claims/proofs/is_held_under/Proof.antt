@@ -13,10 +13,10 @@ enum-known-holder : tie.Need-enum-known-holder
 enum-known-holder c = search needs
 
 returns : tie.Need-returns
-returns c = rw (← (c .before .before .holder .ensures), c .enum-told .given .1)
+returns c = λ ports. rw (← (c .before .before .holder .ensures ports), c .enum-told .given .1)
 
 returns-2 : tie.Need-returns-2
-returns-2 c = rw (← (c .before .before .before .holder .ensures), c .before .holder2 .given .1)
+returns-2 c = λ ports. rw (← (c .before .before .before .holder .ensures ports), c .before .holder2 .given .1)
 
 pub is-held-under-spec : {M : Type 1} → statement M
 is-held-under-spec =

@@ -1,6 +1,7 @@
 -- `claims::start` meets its contract: the address is held under a lower NAME, or it is claimed. Assumes nothing.
 use Prim.Native.Nat.{_<_}
 use native.Mathlib.Omega.{arith}
+use Rattle.unit.proofs.Own.{moved-count}
 use Rattle.claims.proofs.Acts.{start-lost, start-claiming}
 use borrow.Author.Needs.{needs}
 use Rattle.claims.proofs.start.Statement.{statement}
@@ -15,13 +16,17 @@ cast-address c = search needs
 is-held-under-requires : tie.Need-is-held-under-requires
 is-held-under-requires c κs =
     let at-read = c .before in
-    (omega arith, rw (at-read .read-unit .ensures) (at-read .before .before .before .pre .1))
+    (omega arith, rw (at-read .read-unit .ensures 4) (at-read .before .before .before .pre .1 4))
 
 moved-requires : tie.Need-moved-requires
 moved-requires c κs = search needs
 
 store-unit-requires : tie.Need-store-unit-requires
-store-unit-requires c κs = search needs
+store-unit-requires c κs =
+    let at-moved = c .before in
+    let at-read = at-moved .before .before .before .before in
+    let m = moved-count 4 (at-read .before .before .before .args .words .now) (at-read .read-unit .ensures 4) (at-moved .moved .ensures) in
+    (omega arith, m .0, m .1)
 
 cannot-claim-frame-requires : tie.Need-cannot-claim-frame-requires
 cannot-claim-frame-requires c κs = search needs
@@ -35,24 +40,28 @@ returns c =
     let at-moved = at-store .before .before in
     let at-under = at-moved .before .before in
     let at-read = at-under .before .before in
-    start-lost (at-read .before .before .before .args .words .now) (at-read .read-unit .result) (at-read .read-unit .ensures) (at-under .is-held-under .result) (at-under .is-held-under .ensures) (at-moved .before .if1 .taken) (at-moved .moved .ensures) (at-store .store-unit .ensures) (c .cannot-claim-frame .ensures)
+    λ ports. start-lost ports (at-read .before .before .before .args .words .now) (at-read .read-unit .result) (at-read .read-unit .ensures ports) (at-under .is-held-under .result) (at-under .is-held-under .ensures ports) (at-moved .before .if1 .taken) (at-moved .moved .ensures) (at-store .store-unit .ensures ports) (c .cannot-claim-frame .ensures)
 
 release-requires : tie.Need-release-requires
 release-requires c κs =
     let at-read = c .before .before .before .before in
-    (omega arith, rw (at-read .read-unit .ensures) (at-read .before .before .before .pre .1))
+    (omega arith, rw (at-read .read-unit .ensures 4) (at-read .before .before .before .pre .1 4))
 
 cast-moved : tie.Need-cast-moved
 cast-moved c =
     let at-read = c .before .before .before .before .before .before .before in
-    let small : at-read .read-unit .result .preferred < 254 = rw (at-read .read-unit .ensures) (at-read .before .before .before .pre .1) in
+    let small : at-read .read-unit .result .preferred < 254 = rw (at-read .read-unit .ensures 4) (at-read .before .before .before .pre .1 4) in
     omega (arith, small)
 
 moved-requires-2 : tie.Need-moved-requires-2
 moved-requires-2 c κs = search needs
 
 store-unit-requires-2 : tie.Need-store-unit-requires-2
-store-unit-requires-2 c κs = search needs
+store-unit-requires-2 c κs =
+    let at-moved = c .before in
+    let at-read = at-moved .before .before .before .before .before .before .before .before in
+    let m = moved-count 4 (at-read .before .before .before .args .words .now) (at-read .read-unit .ensures 4) (at-moved .moved2 .ensures) in
+    (omega arith, m .0, m .1)
 
 claim-frame-requires : tie.Need-claim-frame-requires
 claim-frame-requires c κs = search needs
@@ -67,7 +76,7 @@ returns-2 c =
     let at-release = at-moved .before .before .before in
     let at-under = at-release .before .before .before in
     let at-read = at-under .before .before in
-    start-claiming (at-read .before .before .before .args .words .now) (at-read .read-unit .result) (at-read .read-unit .ensures) (at-under .is-held-under .result) (at-under .is-held-under .ensures) (at-release .before .before .if1 .left) (at-release .release .ensures) (at-moved .moved2 .ensures) (at-store .store-unit2 .ensures) (c .claim-frame .ensures)
+    λ ports. start-claiming ports (at-read .before .before .before .args .words .now) (at-read .read-unit .result) (at-read .read-unit .ensures ports) (at-under .is-held-under .result) (at-under .is-held-under .ensures ports) (at-release .before .before .if1 .left) (at-release .release .ensures ports) (at-moved .moved2 .ensures) (at-store .store-unit2 .ensures ports) (c .claim-frame .ensures)
 
 pub start-spec : {M : Type 1} → statement M
 start-spec =

@@ -8,14 +8,17 @@ use Rattle.deorasaeng.proofs.deorasaeng_frame.Tie as tie
 lent-refusal-requires : tie.Need-lent-refusal-requires
 lent-refusal-requires c κs = search needs
 
+same-length : tie.Need-same-length
+same-length c = search needs
+
 returns : tie.Need-returns
-returns c = frame-wrong (c .lent-refusal .ensures) (c .before .if1 .taken)
+returns c = frame-wrong (c .lent-refusal .ensures) (c .before .before .if1 .taken)
 
 frame-requires : tie.Need-frame-requires
 frame-requires c κs = search needs
 
-same-length : tie.Need-same-length
-same-length c = search needs
+same-length-2 : tie.Need-same-length-2
+same-length-2 c = search needs
 
 returns-2 : tie.Need-returns-2
 returns-2 c = frame-refused (c .before .before .before .frame .ensures) (c .before .before .before .before .before .if1 .left) (λ z. omega arith)
@@ -23,11 +26,11 @@ returns-2 c = frame-refused (c .before .before .before .frame .ensures) (c .befo
 tell-frame-requires : tie.Need-tell-frame-requires
 tell-frame-requires c κs = search needs
 
-same-length-2 : tie.Need-same-length-2
-same-length-2 c = search needs
-
 same-length-3 : tie.Need-same-length-3
 same-length-3 c = search needs
+
+same-length-4 : tie.Need-same-length-4
+same-length-4 c = search needs
 
 returns-3 : tie.Need-returns-3
 returns-3 c =
@@ -40,11 +43,12 @@ deorasaeng-frame-spec =
     tie.close
     (tie.spec
     lent-refusal-requires
+    same-length
     returns
     frame-requires
-    same-length
+    same-length-2
     returns-2
     tell-frame-requires
-    same-length-2
     same-length-3
+    same-length-4
     returns-3)

@@ -11,8 +11,11 @@ use Rattle.deorasaeng.proofs.deorasaeng_message.Tie as tie
 lent-refusal-requires : tie.Need-lent-refusal-requires
 lent-refusal-requires c κs = search needs
 
+same-length : tie.Need-same-length
+same-length c = search needs
+
 returns : tie.Need-returns
-returns c = message-wrong (c .lent-refusal .ensures) (c .before .if1 .taken)
+returns c = message-wrong (c .lent-refusal .ensures) (c .before .before .if1 .taken)
 
 message-requires : tie.Need-message-requires
 message-requires c κs = search needs
@@ -29,14 +32,14 @@ cast-answer-2 c = search needs
 slice-write-answer-2 : tie.Need-slice-write-answer-2
 slice-write-answer-2 c = simp length-set (omega arith)
 
-same-length : tie.Need-same-length
-same-length c = search needs
-
 same-length-2 : tie.Need-same-length-2
 same-length-2 c = search needs
 
 same-length-3 : tie.Need-same-length-3
 same-length-3 c = search needs
+
+same-length-4 : tie.Need-same-length-4
+same-length-4 c = search needs
 
 returns-2 : tie.Need-returns-2
 returns-2 c =
@@ -50,13 +53,14 @@ deorasaeng-message-spec =
     tie.close
     (tie.spec
     lent-refusal-requires
+    same-length
     returns
     message-requires
     cast-answer
     slice-write-answer
     cast-answer-2
     slice-write-answer-2
-    same-length
     same-length-2
     same-length-3
+    same-length-4
     returns-2)

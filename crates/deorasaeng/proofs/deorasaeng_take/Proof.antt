@@ -7,14 +7,20 @@ use Rattle.deorasaeng.proofs.deorasaeng_take.Tie as tie
 lent-refusal-requires : tie.Need-lent-refusal-requires
 lent-refusal-requires c κs = search needs
 
+same-length : tie.Need-same-length
+same-length c = search needs
+
 returns : tie.Need-returns
-returns c = take-wrong (c .lent-refusal .ensures) (c .before .if1 .taken)
+returns c = take-wrong (c .lent-refusal .ensures) (c .before .before .if1 .taken)
 
 lent-refusal-requires-2 : tie.Need-lent-refusal-requires-2
 lent-refusal-requires-2 c κs = search needs
 
+same-length-2 : tie.Need-same-length-2
+same-length-2 c = search needs
+
 returns-2 : tie.Need-returns-2
-returns-2 c = take-wrong-bytes (c .lent-refusal2 .ensures) (c .before .if2 .taken)
+returns-2 c = take-wrong-bytes (c .lent-refusal2 .ensures) (c .before .before .if2 .taken)
 
 take-requires : tie.Need-take-requires
 take-requires c κs = search needs
@@ -28,20 +34,20 @@ enum-known-t-2 c = search needs
 tell-taken-requires : tie.Need-tell-taken-requires
 tell-taken-requires c κs = search needs
 
-same-length : tie.Need-same-length
-same-length c = search needs
+same-length-3 : tie.Need-same-length-3
+same-length-3 c = search needs
 
 returns-3 : tie.Need-returns-3
 returns-3 c = take-left (c .before .before .before .before .before .take .ensures) (c .before .before .before .before .before .before .before .before .if1 .left) (c .before .before .before .before .before .before .before .if2 .left) (c .before .t .given .1)
 
-same-length-2 : tie.Need-same-length-2
-same-length-2 c = search needs
-
-same-length-3 : tie.Need-same-length-3
-same-length-3 c = search needs
-
 same-length-4 : tie.Need-same-length-4
 same-length-4 c = search needs
+
+same-length-5 : tie.Need-same-length-5
+same-length-5 c = search needs
+
+same-length-6 : tie.Need-same-length-6
+same-length-6 c = search needs
 
 returns-4 : tie.Need-returns-4
 returns-4 c =
@@ -54,16 +60,18 @@ deorasaeng-take-spec =
     tie.close
     (tie.spec
     lent-refusal-requires
+    same-length
     returns
     lent-refusal-requires-2
+    same-length-2
     returns-2
     take-requires
     enum-known-t
     enum-known-t-2
     tell-taken-requires
-    same-length
-    returns-3
-    same-length-2
     same-length-3
+    returns-3
     same-length-4
+    same-length-5
+    same-length-6
     returns-4)

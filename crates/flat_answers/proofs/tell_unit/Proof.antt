@@ -29,6 +29,9 @@ slice-write-answer-3 c = search needs
 slice-write-answer-4 : tie.Need-slice-write-answer-4
 slice-write-answer-4 c = search needs
 
+cast-answer-3 : tie.Need-cast-answer-3
+cast-answer-3 c = search needs
+
 slice-write-answer-5 : tie.Need-slice-write-answer-5
 slice-write-answer-5 c = simp length-set (omega arith)
 
@@ -37,9 +40,9 @@ same-length c = search needs
 
 returns : tie.Need-returns
 returns c =
-    let args = c .before .before .before .before .args in
-    let state = c .before .before .word in
-    let words = state .result ∷ args .unit .address ∷ args .unit .preferred ∷ args .unit .name ∷ args .ports ∷ [] in
+    let args = c .before .before .before .before .before .args in
+    let state = c .before .before .before .word in
+    let words = state .result ∷ args .unit .address ∷ args .unit .preferred ∷ args .unit .name ∷ args .unit .ports ∷ [] in
     record { number = refl; tells = stored words (args .answer .now) (omega arith) ∙ rw (state .ensures) }
 
 pub tell-unit-spec : {M : Type 1} → statement M
@@ -53,6 +56,7 @@ tell-unit-spec =
     cast-answer-2
     slice-write-answer-3
     slice-write-answer-4
+    cast-answer-3
     slice-write-answer-5
     same-length
     returns)

@@ -6,13 +6,13 @@ use Rattle.forwarding.proofs.join_all.Statement.{statement}
 use Rattle.forwarding.proofs.join_all.Tie as tie
 
 abbrev Inv-loop : tie.InvT-loop
-Inv-loop words₀ f lost₀ bit₀ port₀ words lost bit port = Telling words₀ f words lost bit port
+Inv-loop words₀ ports f lost₀ bit₀ port₀ words lost bit port = Telling ports words₀ f words lost bit port
 
 abbrev μ-loop : tie.MeasureT-loop
-μ-loop words₀ f lost₀ bit₀ port₀ words lost bit port = 4 - port
+μ-loop words₀ ports f lost₀ bit₀ port₀ words lost bit port = ports - port
 
 loop-holds : tie.Need-loop-holds Inv-loop μ-loop
-loop-holds c = telling-start (omega arith)
+loop-holds c = telling-start (omega arith) (omega arith)
 
 join-own-requires : tie.Need-join-own-requires Inv-loop μ-loop
 join-own-requires c κs = omega arith
@@ -20,13 +20,13 @@ join-own-requires c κs = omega arith
 add-lost : tie.Need-add-lost Inv-loop μ-loop
 add-lost c =
     let at-join = c .before .before in
-    let S = told-sums (at-join .before .before .before .loop .inv) (at-join .join-own .ensures) (omega arith) in
+    let S = told-sums (at-join .before .before .before .loop .inv) (at-join .join-own .ensures _ (omega arith)) (omega arith) in
     omega (arith, S .0)
 
 mul-bit : tie.Need-mul-bit Inv-loop μ-loop
 mul-bit c =
     let at-join = c .before .before in
-    let S = told-sums (at-join .before .before .before .loop .inv) (at-join .join-own .ensures) (omega arith) in
+    let S = told-sums (at-join .before .before .before .loop .inv) (at-join .join-own .ensures _ (omega arith)) (omega arith) in
     omega (arith, S .1)
 
 add-port : tie.Need-add-port Inv-loop μ-loop
@@ -38,7 +38,7 @@ loop-less c = omega arith
 loop-again : tie.Need-loop-again Inv-loop μ-loop
 loop-again c =
     let at-join = c .before .before in
-    telling-more (at-join .before .before .before .loop .inv) (at-join .join-own .ensures) (omega arith) (omega arith)
+    telling-more (at-join .before .before .before .loop .inv) (at-join .join-own .ensures _ (omega arith)) (omega arith) (omega arith)
 
 same-length : tie.Need-same-length Inv-loop μ-loop
 same-length c = omega arith

@@ -12,13 +12,13 @@ same-length : tie.Need-same-length
 same-length c = search needs
 
 returns : tie.Need-returns
-returns c = own-joined true (c .if1 .taken) (c .before .before .before .join-row .ensures)
+returns c = λ ports more. own-joined true (c .if1 .taken) (c .before .before .before .join-row .ensures ports more)
 
 same-length-2 : tie.Need-same-length-2
 same-length-2 c = search needs
 
 returns-2 : tie.Need-returns-2
-returns-2 c = own-joined false (c .if1 .left) (c .before .before .before .join-row .ensures)
+returns-2 c = λ ports more. own-joined false (c .if1 .left) (c .before .before .before .join-row .ensures ports more)
 
 pub join-own-spec : {M : Type 1} → statement M
 join-own-spec = tie.close (tie.spec join-row-requires same-length returns same-length-2 returns-2)

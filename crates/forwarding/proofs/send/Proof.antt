@@ -1,15 +1,12 @@
 -- `forwarding::send` meets its contract, by the way that the code went. Assumes nothing.
 use mathlib.Core.Bool.{true, false}
-use Rattle.forwarding.proofs.Sends.{send-self, send-stopped, send-permitted}
+use Rattle.forwarding.proofs.Sends.{send-stopped, send-permitted}
 use borrow.Author.Needs.{needs}
 use Rattle.forwarding.proofs.send.Statement.{statement}
 use Rattle.forwarding.proofs.send.Tie as tie
 
-returns : tie.Need-returns
-returns c = send-self (c .before .before .args .pgn) (c .if1 .taken)
-
-ask-pair-requires : tie.Need-ask-pair-requires
-ask-pair-requires c κs = search needs
+ask-filter-requires : tie.Need-ask-filter-requires
+ask-filter-requires c κs = search needs
 
 join-row-requires : tie.Need-join-row-requires
 join-row-requires c κs = search needs
@@ -17,39 +14,41 @@ join-row-requires c κs = search needs
 same-length : tie.Need-same-length
 same-length c = search needs
 
-returns-2 : tie.Need-returns-2
-returns-2 c =
+returns : tie.Need-returns
+returns c = λ ports from more ne h e.
     let at-join = c .before .before .before in
     let at-ask = at-join .before .before .before in
-    send-permitted (at-ask .before .before .before .before .args .pgn) (at-ask .before .before .if1 .left) (at-ask .ask-pair .ensures) true (at-join .before .before .if2 .taken) (c .if3 .taken) (at-join .join-row .ensures)
+    let args = at-ask .before .before .before .args in
+    send-permitted (args .pgn) ne (at-ask .ask-filter .ensures ports from (args .to) h e) true (at-join .before .before .if1 .taken) (c .if2 .taken) (at-join .join-row .ensures ports more)
 
 same-length-2 : tie.Need-same-length-2
 same-length-2 c = search needs
 
-returns-3 : tie.Need-returns-3
-returns-3 c =
+returns-2 : tie.Need-returns-2
+returns-2 c = λ ports from more ne h e.
     let at-join = c .before .before .before in
     let at-ask = at-join .before .before .before in
-    send-permitted (at-ask .before .before .before .before .args .pgn) (at-ask .before .before .if1 .left) (at-ask .ask-pair .ensures) false (at-join .before .before .if2 .taken) (c .if3 .left) (at-join .join-row .ensures)
+    let args = at-ask .before .before .before .args in
+    send-permitted (args .pgn) ne (at-ask .ask-filter .ensures ports from (args .to) h e) false (at-join .before .before .if1 .taken) (c .if2 .left) (at-join .join-row .ensures ports more)
 
 same-length-3 : tie.Need-same-length-3
 same-length-3 c = search needs
 
-returns-4 : tie.Need-returns-4
-returns-4 c =
+returns-3 : tie.Need-returns-3
+returns-3 c = λ ports from more ne h e.
     let at-ask = c .before in
-    send-stopped (at-ask .before .before .before .before .args .pgn) (at-ask .before .before .if1 .left) (at-ask .ask-pair .ensures) (c .if2 .left)
+    let args = at-ask .before .before .before .args in
+    send-stopped (args .pgn) ne (at-ask .ask-filter .ensures ports from (args .to) h e) (c .if1 .left)
 
 pub send-spec : {M : Type 1} → statement M
 send-spec =
     tie.close
     (tie.spec
-    returns
-    ask-pair-requires
+    ask-filter-requires
     join-row-requires
     same-length
-    returns-2
+    returns
     same-length-2
-    returns-3
+    returns-2
     same-length-3
-    returns-4)
+    returns-3)

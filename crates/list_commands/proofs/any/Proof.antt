@@ -12,13 +12,17 @@ use Rattle.list_commands.proofs.any.Statement.{statement}
 use Rattle.list_commands.proofs.any.Tie as tie
 
 abbrev Inv-loop : tie.InvT-loop
-Inv-loop words from to question entries k₀ k = (k ≤ 3) × (false ≡ anyBelow (holdsAt 4 (holdsOf question (entriesOf entries)) from to (modelOf 4 words .rest .pairs)) k)
+Inv-loop words ports from to question entries k₀ k =
+    (k ≤ ports - 1) × (false ≡ anyBelow (holdsAt ports (holdsOf question (entriesOf entries)) from to (modelOf ports words .rest .pairs)) k)
 
 abbrev μ-loop : tie.MeasureT-loop
-μ-loop words from to question entries k₀ k = 3 - k
+μ-loop words ports from to question entries k₀ k = ports - 1 - k
 
 loop-holds : tie.Need-loop-holds Inv-loop μ-loop
 loop-holds c = (omega arith, any-none _)
+
+sub-loop : tie.Need-sub-loop Inv-loop μ-loop
+sub-loop c = omega arith
 
 holds-requires : tie.Need-holds-requires Inv-loop μ-loop
 holds-requires c κs = omega arith
@@ -27,7 +31,7 @@ returns : tie.Need-returns Inv-loop μ-loop
 unfolding anyNamed
 returns c =
     let at-holds = c .before in
-    any-found _ 3 (at-holds .before .before .loop .k) (omega arith) (sym (at-holds .holds .ensures) ∙ c .if1 .taken)
+    any-found _ _ (at-holds .before .before .loop .k) (omega arith) (sym (at-holds .holds .ensures) ∙ c .if1 .taken)
 
 add-k : tie.Need-add-k Inv-loop μ-loop
 add-k c = omega arith
@@ -43,7 +47,7 @@ loop-again c =
 returns-2 : tie.Need-returns-2 Inv-loop μ-loop
 unfolding anyNamed
 returns-2 c =
-    let e : c .before .loop .k ≡ 3 = omega arith in
+    let e : c .before .loop .k ≡ c .before .before .before .before .args .ports - 1 = omega arith in
     rw e at (c .before .loop .inv .1)
 
 pub any-spec : {M : Type 1} → statement M
@@ -53,6 +57,7 @@ any-spec =
     Inv-loop
     μ-loop
     loop-holds
+    sub-loop
     holds-requires
     returns
     add-k

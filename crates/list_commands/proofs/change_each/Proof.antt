@@ -8,15 +8,18 @@ use Rattle.list_commands.proofs.change_each.Statement.{statement}
 use Rattle.list_commands.proofs.change_each.Tie as tie
 
 abbrev Inv-loop : tie.InvT-loop
-Inv-loop words₀ from to change entries k₀ words k = Walking words₀ words from to (changeOf change (entriesOf entries)) k
+Inv-loop words₀ ports from to change entries k₀ words k = Walking ports words₀ words from to (changeOf change (entriesOf entries)) k
 
 abbrev μ-loop : tie.MeasureT-loop
-μ-loop words₀ from to change entries k₀ words k = 3 - k
+μ-loop words₀ ports from to change entries k₀ words k = ports - 1 - k
 
 loop-holds : tie.Need-loop-holds Inv-loop μ-loop
 loop-holds c =
     let start = c .before .before in
-    walk-start (start .args .from) (start .args .to) _ (start .pre .1) (start .pre .2) (start .pre .0)
+    walk-start (start .args .from) (start .args .to) _ (omega arith) (omega arith) (omega arith)
+
+sub-loop : tie.Need-sub-loop Inv-loop μ-loop
+sub-loop c = omega arith
 
 change-one-requires : tie.Need-change-one-requires Inv-loop μ-loop
 change-one-requires c κs = omega arith
@@ -32,7 +35,7 @@ loop-again c =
     let at = c .before .before in
     let at-loop = at .before .before .before in
     let start = at-loop .before .before .before in
-    walk-more (start .args .from) (start .args .to) _ (start .pre .1) (start .pre .2) (at-loop .loop .inv) (omega arith) (omega arith) (at .change-one .ensures)
+    walk-more (start .args .from) (start .args .to) _ (omega arith) (omega arith) (at-loop .loop .inv) (omega arith) (omega arith) (at .change-one .ensures)
 
 same-length : tie.Need-same-length Inv-loop μ-loop
 same-length c = omega arith
@@ -50,6 +53,7 @@ change-each-spec =
     Inv-loop
     μ-loop
     loop-holds
+    sub-loop
     change-one-requires
     add-k
     loop-less

@@ -25,8 +25,8 @@ report-requires : tie.Need-report-requires
 report-requires c κs =
     let told = c .before .before .before .before in
     let pre = told .before .before .before .before .before .pre in
-    let G = rw (told .command2 .given .1) at (pre .4) in
-    (pre .0, pre .1, G .0 .least, G .0 .most, one-port (G .0) (G .1), G .1, G .0 .apart)
+    let G = rw (told .command2 .given .1) at (pre .5) in
+    (pre .0, pre .1, pre .2, G .0 .least, G .0 .most, one-port (pre .0) (G .0) (G .1), G .1, G .0 .apart)
 
 enum-known-command-3 : tie.Need-enum-known-command-3
 enum-known-command-3 c = search needs
@@ -35,8 +35,8 @@ change-requires : tie.Need-change-requires
 change-requires c κs =
     let told = c .before .before .before in
     let pre = told .before .before .before .before .before .pre in
-    let G = rw (told .command3 .given .1) at (pre .4) in
-    (pre .0, pre .1, pre .2, G .0 .least, G .0 .most, G .1 .forward, G .1 .inside, pre .3)
+    let G = rw (told .command3 .given .1) at (pre .5) in
+    (pre .0, pre .1, pre .2, pre .3, G .0 .least, G .0 .most, G .1 .forward, G .1 .inside, pre .4)
 
 enum-known-command-4 : tie.Need-enum-known-command-4
 enum-known-command-4 c = search needs
@@ -45,8 +45,8 @@ change-requires-2 : tie.Need-change-requires-2
 change-requires-2 c κs =
     let told = c .before .before .before in
     let pre = told .before .before .before .before .before .pre in
-    let G = rw (told .command4 .given .1) at (pre .4) in
-    (pre .0, pre .1, pre .2, G .0 .least, G .0 .most, G .1 .forward, G .1 .inside, pre .3)
+    let G = rw (told .command4 .given .1) at (pre .5) in
+    (pre .0, pre .1, pre .2, pre .3, G .0 .least, G .0 .most, G .1 .forward, G .1 .inside, pre .4)
 
 enum-known-command-5 : tie.Need-enum-known-command-5
 enum-known-command-5 c = search needs
@@ -55,8 +55,8 @@ change-requires-3 : tie.Need-change-requires-3
 change-requires-3 c κs =
     let told = c .before .before .before in
     let pre = told .before .before .before .before .before .pre in
-    let G = rw (told .command5 .given .1) at (pre .4) in
-    (pre .0, pre .1, pre .2, G .least, G .most, omega arith, omega (arith, pre .3), pre .3)
+    let G = rw (told .command5 .given .1) at (pre .5) in
+    (pre .0, pre .1, pre .2, pre .3, G .least, G .most, omega arith, omega (arith, pre .4), pre .4)
 
 enum-known-command-6 : tie.Need-enum-known-command-6
 enum-known-command-6 c = search needs
@@ -65,8 +65,8 @@ change-requires-4 : tie.Need-change-requires-4
 change-requires-4 c κs =
     let told = c .before .before .before in
     let pre = told .before .before .before .before .before .pre in
-    let G = rw (told .command6 .given .1) at (pre .4) in
-    (pre .0, pre .1, pre .2, G .0 .least, G .0 .most, G .1 .forward, G .1 .inside, pre .3)
+    let G = rw (told .command6 .given .1) at (pre .5) in
+    (pre .0, pre .1, pre .2, pre .3, G .0 .least, G .0 .most, G .1 .forward, G .1 .inside, pre .4)
 
 enum-known-command-7 : tie.Need-enum-known-command-7
 enum-known-command-7 c = search needs
@@ -75,8 +75,8 @@ report-addresses-requires : tie.Need-report-addresses-requires
 report-addresses-requires c κs =
     let told = c .before .before .before in
     let pre = told .before .before .before .before .before .pre in
-    let G = rw (told .command7 .given .1) at (pre .4) in
-    (pre .0, pre .1, G .1)
+    let G = rw (told .command7 .given .1) at (pre .5) in
+    (omega (arith, pre .1), pre .2, omega (arith, G .1, pre .0))
 
 same-length : tie.Need-same-length
 same-length c = search needs
@@ -149,7 +149,7 @@ same-length-13 c = search needs
 
 returns-7 : tie.Need-returns-7
 unfolding performedBy
-returns-7 c = let at = c .before .before in rw (at .before .before .before .before .command7 .given .1) (reply-given _ (at .report-addresses .ensures))
+returns-7 c = let at = c .before .before in rw (at .before .before .before .before .command7 .given .1) (reply-given _ (at .report-addresses .ensures _))
 
 pub perform-spec : {M : Type 1} → statement M
 perform-spec =

@@ -13,8 +13,8 @@ sub-reply-list-2 c = search needs
 reply-list-requires : tie.Need-reply-list-requires
 reply-list-requires c κs = search needs
 
-cast-t13 : tie.Need-cast-t13
-cast-t13 c = search needs
+cast-t14 : tie.Need-cast-t14
+cast-t14 c = search needs
 
 same-length : tie.Need-same-length
 same-length c = search needs
@@ -25,4 +25,4 @@ returns c = reported-of (c .before .before .reply-list .ensures)
 pub report-spec : {M : Type 1} → statement M
 report-spec =
     tie.close
-    (tie.spec sub-reply-list sub-reply-list-2 reply-list-requires cast-t13 same-length returns)
+    (tie.spec sub-reply-list sub-reply-list-2 reply-list-requires cast-t14 same-length returns)

@@ -1,5 +1,6 @@
 -- `message_answers::report_addresses` meets its contract, by what was written. Assumes nothing.
 use Rattle.message_answers.proofs.Replies.{reported-of}
+use native.Mathlib.Omega.{arith}
 use borrow.Author.Needs.{needs}
 use Rattle.message_answers.proofs.report_addresses.Statement.{statement}
 use Rattle.message_answers.proofs.report_addresses.Tie as tie
@@ -14,7 +15,7 @@ reply-addresses-requires : tie.Need-reply-addresses-requires
 reply-addresses-requires c κs = search needs
 
 cast-t9 : tie.Need-cast-t9
-cast-t9 c = search needs
+cast-t9 c = omega (arith, c .before .before .reply-addresses .ensures 4 .small)
 
 same-length : tie.Need-same-length
 same-length c = search needs
@@ -22,7 +23,7 @@ same-length c = search needs
 returns : tie.Need-returns
 returns c =
     let at = c .before .before in
-    reported-of (rw (at .before .before .before .read-unit .ensures) at (at .reply-addresses .ensures))
+    λ ports. reported-of (rw (at .before .before .before .read-unit .ensures ports) at (at .reply-addresses .ensures ports))
 
 pub report-addresses-spec : {M : Type 1} → statement M
 report-addresses-spec =

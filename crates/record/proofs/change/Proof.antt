@@ -1,18 +1,14 @@
 -- `record::change` meets its contract: the filter's block was lent and came back. Assumes nothing.
-use Prim.Native.Nat.{_+_, _*_}
 use native.Mathlib.Omega.{arith}
 use Rattle.storage.proofs.Parts.{range-size}
+use Rattle.filter.specs.Filter.{blockSize as filterLength}
 use Rattle.record.proofs.Regions.{pair-changed}
 use borrow.Author.Needs.{needs}
 use Rattle.record.proofs.change.Statement.{statement}
 use Rattle.record.proofs.change.Tie as tie
-use Rattle.filter.specs.Filter.{blockSize as filterLength}
 
-mul-a : tie.Need-mul-a
-mul-a c = search needs
-
-add-a : tie.Need-add-a
-add-a c = search needs
+filter-at-requires : tie.Need-filter-at-requires
+filter-at-requires c κs = search needs
 
 add-e : tie.Need-add-e
 add-e c = search needs
@@ -38,17 +34,17 @@ same-length c = search needs
 returns : tie.Need-returns
 returns c =
     let at = c .before .before in
-    let args = at .before .before .before .before .args in
-    rw (range-size (4 + filterLength * args .i) filterLength)
-    (pair-changed (args .words .now) (args .i) (search needs) (search needs) (at .apply .last .0) _ (omega arith)
-    (rw (range-size (4 + filterLength * args .i) filterLength) at (at .apply .ensures)))
+    let at-filter = at .before .before in
+    let args = at-filter .before .before .before .args in
+    rw (range-size (at-filter .filter-at .result) filterLength, at-filter .filter-at .ensures)
+    (pair-changed (args .ports) (args .words .now) (args .i) (search needs) (search needs) (at .apply .last .0) _ (omega arith)
+    (rw (range-size (at-filter .filter-at .result) filterLength, at-filter .filter-at .ensures) at (at .apply .ensures)))
 
 pub change-spec : {M : Type 1} → statement M
 change-spec =
     tie.close
     (tie.spec
-    mul-a
-    add-a
+    filter-at-requires
     add-e
     mul-apply
     sub-apply

@@ -27,7 +27,7 @@ returns : tie.Need-returns
 returns c =
     let at = c .before .before in
     let start = at .before .before .before in
-    table-claimed (start .args .words .now) (at .claim .last .0) (search needs) (omega arith) _ (at .claim .ensures .table) _ (at .claim .result) (at .claim .ensures .event)
+    λ ports. table-claimed (start .args .words .now) (at .claim .last .0) (search needs) (omega arith) ports _ (at .claim .ensures .table) _ (at .claim .result) (at .claim .ensures .event)
 
 pub claim-spec : {M : Type 1} → statement M
 claim-spec =

@@ -27,7 +27,7 @@ returns : tie.Need-returns
 returns c =
     let at = c .before .before in
     let start = at .before .before .before in
-    table-changed (start .args .words .now) (at .drop-others .last .0) (search needs) (omega arith) _ (at .drop-others .ensures .table)
+    λ ports. table-changed (start .args .words .now) (at .drop-others .last .0) (search needs) (omega arith) ports _ (at .drop-others .ensures .table)
 
 pub drop-others-spec : {M : Type 1} → statement M
 drop-others-spec =

@@ -21,7 +21,7 @@ holder-requires c κs = search needs
 
 returns : tie.Need-returns
 unfolding modelOf
-returns c = c .holder .ensures
+returns c = λ ports. c .holder .ensures
 
 pub holder-spec : {M : Type 1} → statement M
 holder-spec =

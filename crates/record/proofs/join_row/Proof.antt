@@ -40,9 +40,9 @@ returns : tie.Need-returns
 returns c =
     let at-join = c .before .before in
     let args = at-join .before .before .before .args in
-    rw (range-size (rowsFrom 4 + queueLength * args .q) queueLength)
-    (row-joined (args .words .now) (args .q) (search needs) (search needs) (at-join .join .last .0) (omega arith) (args .f) (at-join .join .result)
-    (rw (range-size (rowsFrom 4 + queueLength * args .q) queueLength) at (at-join .join .ensures)))
+    λ ports more. rw (range-size (rowsFrom + queueLength * args .q) queueLength)
+    (row-joined (args .words .now) (args .q) (search needs) ports more (at-join .join .last .0) (omega arith) (args .f) (at-join .join .result)
+    (rw (range-size (rowsFrom + queueLength * args .q) queueLength) at (at-join .join .ensures)))
 
 pub join-row-spec : {M : Type 1} → statement M
 join-row-spec =

@@ -1,17 +1,13 @@
 -- `record::question` meets its contract: the filter's block is lent to be read. Assumes nothing.
-use Prim.Native.Nat.{_+_, _*_}
 use Rattle.storage.proofs.Parts.{range-size}
+use Rattle.filter.specs.Filter.{blockSize as filterLength}
 use Rattle.record.proofs.Regions.{pair-of}
 use borrow.Author.Needs.{needs}
 use Rattle.record.proofs.question.Statement.{statement}
 use Rattle.record.proofs.question.Tie as tie
-use Rattle.filter.specs.Filter.{blockSize as filterLength}
 
-mul-a : tie.Need-mul-a
-mul-a c = search needs
-
-add-a : tie.Need-add-a
-add-a c = search needs
+filter-at-requires : tie.Need-filter-at-requires
+filter-at-requires c κs = search needs
 
 add-e : tie.Need-add-e
 add-e c = search needs
@@ -33,16 +29,16 @@ answer-requires c κs = search needs
 
 returns : tie.Need-returns
 returns c =
-    let args = c .before .before .before .before .args in
-    rw (pair-of (args .words .now) (args .i) (search needs) (search needs))
-    (rw (range-size (4 + filterLength * args .i) filterLength) at (c .answer .ensures))
+    let at = c .before .before in
+    let args = at .before .before .before .args in
+    rw (pair-of (args .ports) (args .words .now) (args .i) (search needs) (search needs))
+    (rw (range-size (at .filter-at .result) filterLength, at .filter-at .ensures) at (c .answer .ensures))
 
 pub question-spec : {M : Type 1} → statement M
 question-spec =
     tie.close
     (tie.spec
-    mul-a
-    add-a
+    filter-at-requires
     add-e
     mul-answer
     sub-answer

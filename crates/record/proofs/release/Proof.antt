@@ -27,7 +27,7 @@ returns : tie.Need-returns
 returns c =
     let at = c .before .before in
     let start = at .before .before .before in
-    table-changed (start .args .words .now) (at .release .last .0) (search needs) (omega arith) _ (at .release .ensures)
+    λ ports. table-changed (start .args .words .now) (at .release .last .0) (search needs) (omega arith) ports _ (at .release .ensures)
 
 pub release-spec : {M : Type 1} → statement M
 release-spec =

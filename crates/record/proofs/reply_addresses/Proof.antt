@@ -24,7 +24,7 @@ same-length c = search needs
 
 returns : tie.Need-returns
 unfolding modelOf
-returns c = c .before .before .reply-addresses .ensures
+returns c = λ ports. c .before .before .reply-addresses .ensures
 
 pub reply-addresses-spec : {M : Type 1} → statement M
 reply-addresses-spec =

@@ -1,20 +1,16 @@
 -- `record::reply_list` meets its contract: the filter's block is lent to be read. Assumes nothing.
-use Prim.Native.Nat.{_+_, _*_}
 use Rattle.storage.proofs.Parts.{range-size}
+use Rattle.filter.specs.Filter.{blockSize as filterLength}
 use Rattle.record.proofs.Regions.{pair-of}
 use borrow.Author.Needs.{needs}
 use Rattle.record.proofs.reply_list.Statement.{statement}
 use Rattle.record.proofs.reply_list.Tie as tie
-use Rattle.filter.specs.Filter.{blockSize as filterLength}
 
 pair-at-requires : tie.Need-pair-at-requires
 pair-at-requires c κs = search needs
 
-mul-a : tie.Need-mul-a
-mul-a c = search needs
-
-add-a : tie.Need-add-a
-add-a c = search needs
+filter-at-requires : tie.Need-filter-at-requires
+filter-at-requires c κs = search needs
 
 add-e : tie.Need-add-e
 add-e c = search needs
@@ -40,19 +36,19 @@ same-length c = search needs
 returns : tie.Need-returns
 returns c =
     let at = c .before .before in
-    let at-i = at .before .before .before in
+    let at-filter = at .before .before .before in
+    let at-i = at-filter .before in
     let args = at-i .before .before .before .args in
     let i = at-i .pair-at .result in
-    rw (← (at-i .pair-at .ensures .0), pair-of (args .words .now) i (at-i .before .before .before .pre .0) (at-i .pair-at .ensures .1))
-    (rw (range-size (4 + filterLength * i) filterLength) at (at .reply-list .ensures))
+    rw (← (at-i .pair-at .ensures .0), pair-of (args .ports) (args .words .now) i (search needs) (at-i .pair-at .ensures .1))
+    (rw (range-size (at-filter .filter-at .result) filterLength, at-filter .filter-at .ensures) at (at .reply-list .ensures))
 
 pub reply-list-spec : {M : Type 1} → statement M
 reply-list-spec =
     tie.close
     (tie.spec
     pair-at-requires
-    mul-a
-    add-a
+    filter-at-requires
     add-e
     mul-reply-list
     sub-reply-list

@@ -27,7 +27,7 @@ returns : tie.Need-returns
 returns c =
     let at = c .before .before in
     let start = at .before .before .before in
-    table-changed (start .args .words .now) (at .settle .last .0) (search needs) (omega arith) _ (at .settle .ensures)
+    λ ports. table-changed (start .args .words .now) (at .settle .last .0) (search needs) (omega arith) ports _ (at .settle .ensures)
 
 pub settle-spec : {M : Type 1} → statement M
 settle-spec =

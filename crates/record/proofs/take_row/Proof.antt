@@ -40,9 +40,9 @@ returns : tie.Need-returns
 returns c =
     let at-take = c .before .before in
     let args = at-take .before .before .before .args in
-    rw (range-size (rowsFrom 4 + queueLength * args .q) queueLength)
-    (row-taken (args .words .now) (args .q) (search needs) (search needs) (at-take .take .last .0) (omega arith) (at-take .take .result)
-    (rw (range-size (rowsFrom 4 + queueLength * args .q) queueLength) at (at-take .take .ensures)))
+    λ ports more. rw (range-size (rowsFrom + queueLength * args .q) queueLength)
+    (row-taken (args .words .now) (args .q) (search needs) ports more (at-take .take .last .0) (omega arith) (at-take .take .result)
+    (rw (range-size (rowsFrom + queueLength * args .q) queueLength) at (at-take .take .ensures)))
 
 pub take-row-spec : {M : Type 1} → statement M
 take-row-spec =

@@ -27,7 +27,7 @@ returns : tie.Need-returns
 returns c =
     let at = c .before .before in
     let start = at .before .before .before in
-    table-claimed (start .args .words .now) (at .withdraw .last .0) (search needs) (omega arith) _ (at .withdraw .ensures .table) _ (at .withdraw .result) (at .withdraw .ensures .event)
+    λ ports. table-claimed (start .args .words .now) (at .withdraw .last .0) (search needs) (omega arith) ports _ (at .withdraw .ensures .table) _ (at .withdraw .result) (at .withdraw .ensures .event)
 
 pub withdraw-spec : {M : Type 1} → statement M
 withdraw-spec =

@@ -15,7 +15,7 @@ returns : tie.Need-returns
 unfolding frameRefusal takeRefusal
 returns c =
     let at = c .before in
-    refused-first (noPort 4 (at .before .args .port)) (notLong 4 (at .before .args .lent)) _ (at .take-refusal .result) (at .take-refusal .ensures) (c .if1 .taken)
+    refused-first (noPort (at .before .args .ports) (at .before .args .port)) (notLong (at .before .args .ports) (at .before .args .lent)) _ (at .take-refusal .result) (at .take-refusal .ensures) (c .if1 .taken)
 
 is-too-wide-requires : tie.Need-is-too-wide-requires
 is-too-wide-requires c κs = search needs
@@ -25,7 +25,7 @@ unfolding frameRefusal takeRefusal
 returns-2 c =
     let wide = c .before in
     let at = wide .before .before in
-    rw (passed-first (noPort 4 (at .before .args .port)) (notLong 4 (at .before .args .lent)) _ (at .take-refusal .result) (at .take-refusal .ensures) (wide .before .if1 .left))
+    rw (passed-first (noPort (at .before .args .ports) (at .before .args .port)) (notLong (at .before .args .ports) (at .before .args .lent)) _ (at .take-refusal .result) (at .take-refusal .ensures) (wide .before .if1 .left))
     (simp (← (wide .is-too-wide .ensures), c .if2 .taken))
 
 returns-3 : tie.Need-returns-3
@@ -33,7 +33,7 @@ unfolding frameRefusal takeRefusal
 returns-3 c =
     let wide = c .before .before in
     let at = wide .before .before in
-    rw (passed-first (noPort 4 (at .before .args .port)) (notLong 4 (at .before .args .lent)) _ (at .take-refusal .result) (at .take-refusal .ensures) (wide .before .if1 .left))
+    rw (passed-first (noPort (at .before .args .ports) (at .before .args .port)) (notLong (at .before .args .ports) (at .before .args .lent)) _ (at .take-refusal .result) (at .take-refusal .ensures) (wide .before .if1 .left))
     (simp (← (wide .is-too-wide .ensures), c .before .if2 .left, lt-ltb _ _ (c .if3 .taken)))
 
 has-wrong-source-requires : tie.Need-has-wrong-source-requires
@@ -45,7 +45,7 @@ returns-4 c =
     let source = c .before in
     let wide = source .before .before .before in
     let at = wide .before .before in
-    rw (passed-first (noPort 4 (at .before .args .port)) (notLong 4 (at .before .args .lent)) _ (at .take-refusal .result) (at .take-refusal .ensures) (wide .before .if1 .left))
+    rw (passed-first (noPort (at .before .args .ports) (at .before .args .port)) (notLong (at .before .args .ports) (at .before .args .lent)) _ (at .take-refusal .result) (at .take-refusal .ensures) (wide .before .if1 .left))
     (simp (← (wide .is-too-wide .ensures), source .before .before .if2 .left, le-ltb _ _ (source .before .if3 .left), ← (source .has-wrong-source .ensures), c .if4 .taken))
 
 returns-5 : tie.Need-returns-5
@@ -54,7 +54,7 @@ returns-5 c =
     let source = c .before in
     let wide = source .before .before .before in
     let at = wide .before .before in
-    rw (passed-first (noPort 4 (at .before .args .port)) (notLong 4 (at .before .args .lent)) _ (at .take-refusal .result) (at .take-refusal .ensures) (wide .before .if1 .left))
+    rw (passed-first (noPort (at .before .args .ports) (at .before .args .port)) (notLong (at .before .args .ports) (at .before .args .lent)) _ (at .take-refusal .result) (at .take-refusal .ensures) (wide .before .if1 .left))
     (simp (← (wide .is-too-wide .ensures), source .before .before .if2 .left, le-ltb _ _ (source .before .if3 .left), ← (source .has-wrong-source .ensures), c .if4 .left))
 
 pub frame-refusal-spec : {M : Type 1} → statement M

@@ -1,6 +1,7 @@
 -- `refusals::message_refusal` meets its contract: the checks of a take first, then by the tests on the way. Assumes nothing.
 use mathlib.Core.Path.{sym, _∙_}
 use borrow.Author.Tests.{lt-ltb, le-ltb}
+use native.Mathlib.Omega.{arith}
 use lib.ListN.{length}
 use lib.Dec.{ltb}
 use Rattle.refusals.specs.Refusals.{takeRefusal, messageRefusal}
@@ -18,18 +19,19 @@ returns : tie.Need-returns
 unfolding messageRefusal takeRefusal
 returns c =
     let at = c .before in
-    refused-early (noPort 4 (at .before .before .args .port)) (notLong 4 (length (at .before .before .args .words .now))) (ltb (at .before .before .args .reply) 1785) _ (at .take-refusal .result) (at .take-refusal .ensures) (c .if1 .taken)
+    refused-early (noPort (at .before .before .args .ports) (at .before .before .args .port)) (notLong (at .before .before .args .ports) (length (at .before .before .args .words .now))) (ltb (at .before .before .args .reply) 1785) _ (at .take-refusal .result) (at .take-refusal .ensures) (c .if1 .taken)
 
 returns-2 : tie.Need-returns-2
 unfolding messageRefusal takeRefusal
 returns-2 c =
     let at = c .before .before in
-    rw (passed-early (noPort 4 (at .before .before .args .port)) (notLong 4 (length (at .before .before .args .words .now))) (ltb (at .before .before .args .reply) 1785) _ (at .take-refusal .result) (at .take-refusal .ensures) (c .before .if1 .left)) (simp (lt-ltb _ _ (c .if2 .taken)))
+    rw (passed-early (noPort (at .before .before .args .ports) (at .before .before .args .port)) (notLong (at .before .before .args .ports) (length (at .before .before .args .words .now))) (ltb (at .before .before .args .reply) 1785) _ (at .take-refusal .result) (at .take-refusal .ensures) (c .before .if1 .left)) (simp (lt-ltb _ _ (c .if2 .taken)))
 
 read-unit-requires : tie.Need-read-unit-requires
 read-unit-requires c κs =
     let at = c .before .before in
-    take-goes (length (at .before .before .args .words .now)) (at .before .before .args .port) (sym (at .take-refusal .ensures) ∙ c .before .if1 .left) .0
+    let G = take-goes (at .before .before .args .ports) (length (at .before .before .args .words .now)) (at .before .before .args .port) (sym (at .take-refusal .ensures) ∙ c .before .if1 .left) in
+    omega (arith, G .0)
 
 is-claimed-requires : tie.Need-is-claimed-requires
 is-claimed-requires c κs = search needs
@@ -43,7 +45,7 @@ returns-3 c =
     let claimed = c .before .before in
     let at-read = claimed .before in
     let at = at-read .before .before .before in
-    rw (passed-early (noPort 4 (at .before .before .args .port)) (notLong 4 (length (at .before .before .args .words .now))) (ltb (at .before .before .args .reply) 1785) _ (at .take-refusal .result) (at .take-refusal .ensures) (at-read .before .before .if1 .left), le-ltb _ _ (at-read .before .if2 .left), ← (at-read .read-unit .ensures), ← (claimed .is-claimed .ensures), c .before .if3 .taken) (c .late-refusal .ensures)
+    rw (passed-early (noPort (at .before .before .args .ports) (at .before .before .args .port)) (notLong (at .before .before .args .ports) (length (at .before .before .args .words .now))) (ltb (at .before .before .args .reply) 1785) _ (at .take-refusal .result) (at .take-refusal .ensures) (at-read .before .before .if1 .left), le-ltb _ _ (at-read .before .if2 .left), ← (at-read .read-unit .ensures _), ← (claimed .is-claimed .ensures), c .before .if3 .taken) (c .late-refusal .ensures)
 
 returns-4 : tie.Need-returns-4
 unfolding messageRefusal takeRefusal
@@ -51,7 +53,7 @@ returns-4 c =
     let claimed = c .before in
     let at-read = claimed .before in
     let at = at-read .before .before .before in
-    rw (passed-early (noPort 4 (at .before .before .args .port)) (notLong 4 (length (at .before .before .args .words .now))) (ltb (at .before .before .args .reply) 1785) _ (at .take-refusal .result) (at .take-refusal .ensures) (at-read .before .before .if1 .left), le-ltb _ _ (at-read .before .if2 .left), ← (at-read .read-unit .ensures), ← (claimed .is-claimed .ensures), c .if3 .left)
+    rw (passed-early (noPort (at .before .before .args .ports) (at .before .before .args .port)) (notLong (at .before .before .args .ports) (length (at .before .before .args .words .now))) (ltb (at .before .before .args .reply) 1785) _ (at .take-refusal .result) (at .take-refusal .ensures) (at-read .before .before .if1 .left), le-ltb _ _ (at-read .before .if2 .left), ← (at-read .read-unit .ensures _), ← (claimed .is-claimed .ensures), c .if3 .left)
 
 pub message-refusal-spec : {M : Type 1} → statement M
 message-refusal-spec =

@@ -5,21 +5,21 @@ use borrow.Author.Needs.{needs}
 use Rattle.witness.proofs.replay.Statement.{statement}
 use Rattle.witness.proofs.replay.Tie as tie
 
-power-on-requires : tie.Need-power-on-requires
-power-on-requires c κs = search needs
+power-on-ports-requires : tie.Need-power-on-ports-requires
+power-on-ports-requires c κs = search needs
 
 same-length : tie.Need-same-length
 same-length c = search needs
 
 returns : tie.Need-returns
-returns c = not-replayed (c .before .before .before .power-on .ensures) (c .if1 .taken)
+returns c = not-replayed (c .before .before .before .power-on-ports .ensures) (c .if1 .taken)
 
 least-requires : tie.Need-least-requires
 least-requires c κs = search needs
 
 run-requires : tie.Need-run-requires
 run-requires c κs =
-    (powered-long (c .before .before .before .before .before .before .before .power-on .ensures) (c .before .before .before .before .if1 .left), omega (arith, c .before .before .before .least .ensures), omega (arith, c .before .before .before .least .ensures))
+    (powered-long (c .before .before .before .before .before .before .before .power-on-ports .ensures) (c .before .before .before .before .if1 .left), omega (arith, c .before .before .before .least .ensures), omega (arith, c .before .before .before .least .ensures))
 
 same-length-2 : tie.Need-same-length-2
 same-length-2 c = search needs
@@ -31,13 +31,13 @@ same-length-4 : tie.Need-same-length-4
 same-length-4 c = search needs
 
 returns-2 : tie.Need-returns-2
-returns-2 c = replayed (c .before .before .before .before .before .before .before .before .before .before .before .before .before .before .power-on .ensures) (c .before .before .before .before .before .before .before .before .before .before .before .if1 .left) (c .before .before .before .before .before .before .before .before .before .before .least .ensures) (c .before .before .before .before .before .before .run .ensures)
+returns-2 c = replayed (c .before .before .before .before .before .before .before .before .before .before .before .before .before .before .power-on-ports .ensures) (c .before .before .before .before .before .before .before .before .before .before .before .if1 .left) (c .before .before .before .before .before .before .before .before .before .before .least .ensures) (c .before .before .before .before .before .before .run .ensures)
 
 pub replay-spec : {M : Type 1} → statement M
 replay-spec =
     tie.close
     (tie.spec
-    power-on-requires
+    power-on-ports-requires
     same-length
     returns
     least-requires

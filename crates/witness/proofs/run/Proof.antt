@@ -5,7 +5,6 @@ use native.Mathlib.Omega.{arith}
 use lib.ListN.{length}
 use borrow.Author.Needs.{needs}
 use Rattle.storage.proofs.Parts.{range-size, length-back}
-use Rattle.unit.specs.Model.{recordLength}
 use Rattle.witness.specs.Replay.{Running}
 use Rattle.witness.proofs.Runs.{running-start, running-step}
 use Rattle.witness.proofs.run.Statement.{statement}
@@ -13,14 +12,14 @@ use Rattle.witness.proofs.run.Tie as tie
 
 abbrev Inv-loop : tie.InvT-loop
 Inv-loop words₀ calls bytes reply₀ answers₀ count i₀ words reply answers i =
-    (i ≤ count) × (length words ≡ recordLength 4) × (length answers ≡ length answers₀) × (length reply ≡ length reply₀)
+    (i ≤ count) × (length words ≡ length words₀) × (length answers ≡ length answers₀) × (length reply ≡ length reply₀)
     × Running words₀ words calls bytes (length reply₀) answers₀ answers i
 
 abbrev μ-loop : tie.MeasureT-loop
 μ-loop words₀ calls bytes reply₀ answers₀ count i₀ words reply answers i = count - i
 
 loop-holds : tie.Need-loop-holds Inv-loop μ-loop
-loop-holds c = (omega arith, c .before .before .before .before .before .pre .0, refl, refl, running-start)
+loop-holds c = (omega arith, refl, refl, refl, running-start)
 
 mul-a : tie.Need-mul-a Inv-loop μ-loop
 mul-a c = search needs
@@ -59,7 +58,10 @@ part-step-end-2 : tie.Need-part-step-end-2 Inv-loop μ-loop
 part-step-end-2 c = search needs
 
 step-requires : tie.Need-step-requires Inv-loop μ-loop
-step-requires c κs = search needs
+step-requires c κs =
+    let at-loop = c .before .before .before .before .before .loop in
+    let start = c .before .before .before .before .before .before .before .before .before .before .before in
+    (at-loop .inv .1 ∙ rw (at-loop .inv .4 .ports) (start .pre .0), search needs, search needs)
 
 add-i : tie.Need-add-i Inv-loop μ-loop
 add-i c = search needs

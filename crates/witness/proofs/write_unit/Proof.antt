@@ -43,7 +43,7 @@ same-length-2 c = search needs
 
 returns-2 : tie.Need-returns-2
 unfolding code
-returns-2 c = rw (c .before .before .before .before .before .before .before .before .r2 .given .1, ← (c .before .before .before .before .before .word .ensures)) (c .before .before .put2 .ensures)
+returns-2 c = rw (c .before .before .before .before .before .before .before .before .before .r2 .given .1, ← (c .before .before .before .before .before .before .word .ensures)) (c .before .before .put2 .ensures)
 
 pub write-unit-spec : {M : Type 1} → statement M
 write-unit-spec =

@@ -32,7 +32,7 @@ returns-3 c =
     let from = to .before .before in
     let start = from .before .before in
     c .may-be-all .ensures
-    ∙ sym (pair-all (start .args .function) (start .args .from) (start .args .to) (sym (from .before .is-port .ensures) ∙ not-false (from .before .is-port .result) (from .if1 .left)) (sym (to .before .is-port2 .ensures) ∙ to .if2 .left) (c .before .if3 .taken))
+    ∙ sym (pair-all (start .args .ports) (start .args .function) (start .args .from) (start .args .to) (start .pre) (sym (from .before .is-port .ensures) ∙ not-false (from .before .is-port .result) (from .if1 .left)) (sym (to .before .is-port2 .ensures) ∙ to .if2 .left) (c .before .if3 .taken))
 
 returns-4 : tie.Need-returns-4
 unfolding isPair

@@ -8,10 +8,10 @@ use Rattle.replay.proofs.print.ports.Statement.{statement}
 use Rattle.replay.proofs.print.ports.Tie as tie
 
 abbrev Inv-loop : tie.InvT-loop
-Inv-loop out₀ at mask next₀ rest₀ port₀ out next rest port = (next ≤ length out₀) × (length out ≡ length out₀) × (port ≤ 4)
+Inv-loop out₀ at mask next₀ rest₀ port₀ out next rest port = (next ≤ length out₀) × (length out ≡ length out₀) × (port ≤ 8)
 
 abbrev μ-loop : tie.MeasureT-loop
-μ-loop out₀ at mask next₀ rest₀ port₀ out next rest port = 4 - port
+μ-loop out₀ at mask next₀ rest₀ port₀ out next rest port = 8 - port
 
 byte-requires : tie.Need-byte-requires Inv-loop μ-loop
 byte-requires c κs = search needs

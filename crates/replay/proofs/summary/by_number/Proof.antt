@@ -1,4 +1,4 @@
--- `by_number` meets its contract: the lent slices keep their lengths, and the numbers are those below 19. Assumes nothing.
+-- `by_number` meets its contract: the lent slices keep their lengths, and the numbers are those below 28. Assumes nothing.
 use mathlib.Core.Path.{_≡_}
 use Prim.Native.Nat.{_-_, _≤_}
 use borrow.Author.Needs.{needs}
@@ -7,10 +7,10 @@ use Rattle.replay.proofs.summary.by_number.Statement.{statement}
 use Rattle.replay.proofs.summary.by_number.Tie as tie
 
 abbrev Inv-loop : tie.InvT-loop
-Inv-loop counts₀ out₀ kind number₀ counts out number = (length counts ≡ length counts₀) × (length out ≡ length out₀) × (number ≤ 19)
+Inv-loop counts₀ out₀ kind number₀ counts out number = (length counts ≡ length counts₀) × (length out ≡ length out₀) × (number ≤ 28)
 
 abbrev μ-loop : tie.MeasureT-loop
-μ-loop counts₀ out₀ kind number₀ counts out number = 19 - number
+μ-loop counts₀ out₀ kind number₀ counts out number = 28 - number
 
 loop-holds : tie.Need-loop-holds Inv-loop μ-loop
 loop-holds c = search needs

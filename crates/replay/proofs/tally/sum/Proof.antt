@@ -8,7 +8,7 @@ abbrev Inv-loop : tie.InvT-loop
 Inv-loop counts kind from total₀ n₀ total n = Unit {0}
 
 abbrev μ-loop : tie.MeasureT-loop
-μ-loop counts kind from total₀ n₀ total n = 19 - n
+μ-loop counts kind from total₀ n₀ total n = 28 - n
 
 loop-holds : tie.Need-loop-holds Inv-loop μ-loop
 loop-holds c = search needs

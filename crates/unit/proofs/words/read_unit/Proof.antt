@@ -1,6 +1,6 @@
--- `words::read_unit` meets its contract: the own words are the record's first four. Assumes nothing.
-use borrow.Author.Needs.{needs}
+-- `words::read_unit` meets its contract: the own words are the record's first five. Assumes nothing.
 use Rattle.unit.proofs.Own.{own-read}
+use borrow.Author.Needs.{needs}
 use Rattle.unit.proofs.words.read_unit.Statement.{statement}
 use Rattle.unit.proofs.words.read_unit.Tie as tie
 
@@ -25,8 +25,14 @@ cast-t12 c = search needs
 shared-slice-read-t14 : tie.Need-shared-slice-read-t14
 shared-slice-read-t14 c = search needs
 
+shared-slice-read-count-of : tie.Need-shared-slice-read-count-of
+shared-slice-read-count-of c = search needs
+
+count-of-requires : tie.Need-count-of-requires
+count-of-requires c κs = search needs
+
 returns : tie.Need-returns
-returns c = rw (c .before .before .before .from-word .ensures) (own-read (c .before .before .before .before .before .before .args .words .now))
+returns c = λ ports. rw (c .before .before .before .before .before .from-word .ensures, c .count-of .ensures) (own-read ports (c .before .before .before .before .before .before .before .before .args .words .now))
 
 pub read-unit-spec : {M : Type 1} → statement M
 read-unit-spec =
@@ -39,4 +45,6 @@ read-unit-spec =
     shared-slice-read-t10
     cast-t12
     shared-slice-read-t14
+    shared-slice-read-count-of
+    count-of-requires
     returns)

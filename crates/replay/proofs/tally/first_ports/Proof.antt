@@ -1,17 +1,17 @@
--- `ports` is safe and ends: the measure is the ports that are left. Assumes nothing.
+-- `first_ports` is safe and ends: the measure is the ports that are left. Assumes nothing.
 use mathlib.Core.Logic.{⊎-elim}
 use mathlib.Core.Path.{_≡_}
 use Prim.Native.Nat.{_-_, _≤_}
 use borrow.Author.Needs.{needs}
 use lib.ListN.{length}
-use Rattle.replay.proofs.tally.ports.Statement.{statement}
-use Rattle.replay.proofs.tally.ports.Tie as tie
+use Rattle.replay.proofs.tally.first_ports.Statement.{statement}
+use Rattle.replay.proofs.tally.first_ports.Tie as tie
 
 abbrev Inv-loop : tie.InvT-loop
-Inv-loop counts₀ place mask rest₀ i₀ counts rest i = (i ≤ 4) × (length counts ≡ length counts₀)
+Inv-loop counts₀ place mask ports rest₀ i₀ counts rest i = (i ≤ ports) × (length counts ≡ length counts₀)
 
 abbrev μ-loop : tie.MeasureT-loop
-μ-loop counts₀ place mask rest₀ i₀ counts rest i = 4 - i
+μ-loop counts₀ place mask ports rest₀ i₀ counts rest i = ports - i
 
 loop-holds : tie.Need-loop-holds Inv-loop μ-loop
 loop-holds c = search needs
@@ -37,8 +37,8 @@ same-length c = search needs
 returns : tie.Need-returns Inv-loop μ-loop
 returns c = search needs
 
-pub ports-spec : {M : Type 1} → statement M
-ports-spec =
+pub first-ports-spec : {M : Type 1} → statement M
+first-ports-spec =
     tie.close
     (tie.spec
     Inv-loop
