@@ -142,16 +142,16 @@ fn wrong_frames(record: &mut [u64]) {
     frame(record, b"port 5", 5, 0x0CF00400, b"");
 }
 
-// P5 to P7.
+// P5 to P8.
 fn list_is_made(record: &mut [u64]) {
     message(record, b"P5", 1, b"\x06\x12\x01\xF1\xFE\x00\xFF\xFF");
     message(record, b"P6", 1, b"\x00\x12\xFF\xFF\xFF\xFF\xFF\xFF");
     message(record, b"P7", 3, b"\x00\x12\xFF\xFF\xFF\xFF\xFF\xFF");
+    message(record, b"P8", 1, b"\x02\x11\xF1\xFE\x00\xFF\xFF\xFF");
 }
 
-// P8, and P10 with what leaves.
+// P10 with what leaves.
 fn list_stops(record: &mut [u64]) {
-    message(record, b"P8", 1, b"\x02\x11\xF1\xFE\x00\xFF\xFF\xFF");
     frame(
         record,
         b"P10",
@@ -245,17 +245,27 @@ fn eight_ports() {
     frame(record, b"port 9", 9, 0x18FEF126, b"\x01");
 }
 
-fn main() {
-    let mut space = [0u64; Unit::RECORD_LENGTH];
-    let record: &mut [u64] = &mut space;
+// A unit that is Claimed.
+fn claimed(record: &mut [u64]) {
     begins(record);
     is_claimed(record);
     claims_elsewhere(record);
+}
+
+// P3 to P11.
+fn examples(record: &mut [u64]) {
     wrong_frames(record);
     list_is_made(record);
     list_stops(record);
     ranks_join(record);
     ranks_leave(record);
+}
+
+fn main() {
+    let mut space = [0u64; Unit::RECORD_LENGTH];
+    let record: &mut [u64] = &mut space;
+    claimed(record);
+    examples(record);
     power_on(record, 0x90);
     full(record);
     is_lost(record);

@@ -18,7 +18,7 @@ fn is_of_name(byte: u8) -> bool {
 }
 
 // Where a name that begins at i ends; i where none does.
-fn name_end(text: &[u8], i: usize) -> usize
+pub fn name_end(text: &[u8], i: usize) -> usize
     requires { ⌜ i ≤ length (now text) ⌝ }
     ensures { λ r. ⌜ (i ≤ r) × (r ≤ length (now (text .entry))) ⌝ }
 {

@@ -15,75 +15,70 @@ fn text(word: &[u8]) {
     io::write_all(STDOUT_FILENO, word);
 }
 
-fn number(n: u64) {
+// A word and a number.
+fn number(word: &[u8], n: u64) {
+    text(word);
     io::print_decimal(STDOUT_FILENO, n);
 }
 
-fn name(n: u64) {
+// A word and a NAME, a line's end.
+fn name(word: &[u8], n: u64) {
+    text(word);
     io::print_hex(STDOUT_FILENO, n, 16);
+    text(b"\n");
+}
+
+// A word and a number, a line's end.
+fn last(word: &[u8], n: u64) {
+    number(word, n);
+    text(b"\n");
 }
 
 // ---- the claims
 // A claim of an address by a NAME, least significant byte first, and the event that it is answered with.
 fn claim(words: &mut [u64], port: u32, address: u32, bytes: &[u8]) {
-    text(b"  claim of ");
-    number(address as u64);
-    text(b" on port ");
-    number(port as u64);
+    number(b"  claim of ", address as u64);
+    number(b" on port ", port as u64);
     let r: FrameAnswer = bridge::frame(words, port, 0x18EEFF00 + address % 256, bytes);
     let event = r.event;
-    text(b": refusal ");
-    number(r.refusal as u64);
-    text(b" event ");
-    number(event.number() as u64);
-    text(b"\n");
+    number(b": refusal ", r.refusal as u64);
+    last(b" event ", event.number() as u64);
 }
 
-fn tractor(words: &mut [u64]) {
-    claim(words, 1, 38, b"\x21\x00\x00\x00\x00\x00\x00\x80");
+// Who claims: port, address, NAME. Terminal and joystick claim the tractor's address, the one with a lower NAME, the other with a higher; weigher and baler the unit's, the one with a higher NAME, the other with a lower.
+const CLAIMANTS: [u8; 70] =
+    *b"\x01\x26\x21\x00\x00\x00\x00\x00\x00\x80\x02\x26\x09\x00\x00\x00\x00\x00\x00\x10\x04\x26\x03\x00\x00\x00\x00\x00\x00\xC0\x03\xFA\x03\x00\x00\x00\x00\x00\x00\x20\x04\x00\xFF\xFF\xFF\xFF\xFF\xFF\xFF\xFF\x02\x80\x00\x00\x00\x00\x00\x00\x00\xB0\x03\x80\x00\x00\x00\x00\x00\x00\x00\x20";
+
+fn wide(byte: u8) -> u32 {
+    byte as u32
 }
 
-// lower than the tractor
-fn terminal(words: &mut [u64]) {
-    claim(words, 2, 38, b"\x09\x00\x00\x00\x00\x00\x00\x10");
-}
-
-// higher than the tractor
-fn joystick(words: &mut [u64]) {
-    claim(words, 4, 38, b"\x03\x00\x00\x00\x00\x00\x00\xC0");
-}
-
-fn seeder(words: &mut [u64]) {
-    claim(words, 3, 250, b"\x03\x00\x00\x00\x00\x00\x00\x20");
-}
-
-fn sprayer(words: &mut [u64]) {
-    claim(words, 4, 0, b"\xFF\xFF\xFF\xFF\xFF\xFF\xFF\xFF");
-}
-
-// higher than the unit, at its address
-fn weigher(words: &mut [u64]) {
-    claim(words, 2, 128, b"\x00\x00\x00\x00\x00\x00\x00\xB0");
-}
-
-// lower than the unit, at its address
-fn baler(words: &mut [u64]) {
-    claim(words, 3, 128, b"\x00\x00\x00\x00\x00\x00\x00\x20");
+// Tractor, terminal, joystick, seeder, sprayer, weigher, baler.
+fn claim_of(words: &mut [u64], who: usize) {
+    if 6 < who {
+        return;
+    }
+    let row = 10 * who;
+    let address = row + 1;
+    let from = row + 2;
+    let end = row + 10;
+    let table: &[u8] = &CLAIMANTS;
+    claim(
+        words,
+        wide(table[row]),
+        wide(table[address]),
+        &table[from..end],
+    );
 }
 
 // ---- what comes between them
 fn start(words: &mut [u64]) {
     let r = bridge::start(words);
-    text(b"  Start: ");
-    number(r.refusal as u64);
-    text(b"\n");
+    last(b"  Start: ", r.refusal as u64);
 }
 
 fn quiet(words: &mut [u64]) {
-    let number_given = bridge::quiet(words);
-    text(b"  Quiet: ");
-    number(number_given as u64);
-    text(b"\n");
+    last(b"  Quiet: ", bridge::quiet(words) as u64);
 }
 
 // A frame that is no claim, one with a claim's identifier and seven bytes, and a request for address claimed.
@@ -117,13 +112,9 @@ fn print_place(address: usize, place: Place) {
     match place {
         Place::Free => {}
         Place::Held { port, name: holder } => {
-            text(b"  ");
-            number(address as u64);
-            text(b": port ");
-            number(port);
-            text(b" NAME ");
-            name(holder);
-            text(b"\n");
+            number(b"  ", address as u64);
+            number(b": port ", port);
+            name(b" NAME ", holder);
         }
     }
 }
@@ -145,11 +136,8 @@ fn print_unit(words: &[u64])
 {
     let unit = unit::read_unit(words);
     let claim = unit.claim;
-    text(b"  the unit: state ");
-    number(claim.word());
-    text(b" address ");
-    number(unit.address as u64);
-    text(b"\n");
+    number(b"  the unit: state ", claim.word());
+    last(b" address ", unit.address as u64);
 }
 
 fn print_table(words: &[u64]) {
@@ -164,78 +152,43 @@ fn print_table(words: &[u64]) {
 // ---- the mornings
 fn power_on(words: &mut [u64], title: &[u8]) {
     text(title);
-    let r = Unit::power_on(words, NAME, PREFERRED);
-    text(b"  power-on: ");
-    number(r as u64);
-    text(b"\n");
+    last(
+        b"  power-on: ",
+        Unit::power_on(words, NAME, PREFERRED) as u64,
+    );
 }
 
-// Start, and the tractor's side first.
-fn first_half(words: &mut [u64]) {
-    start(words);
-    tractor(words);
-    terminal(words);
-    traffic(words);
-    joystick(words);
+// One step of a morning: a claim by its number, or what comes between.
+fn step(words: &mut [u64], what: u8) {
+    match what {
+        b'S' => start(words),
+        b'Q' => quiet(words),
+        b'F' => traffic(words),
+        b'K' => takes(words),
+        b'C' => tool(words),
+        _ => claim_of(words, (what % 8) as usize),
+    }
 }
 
-fn first(words: &mut [u64]) {
-    power_on(words, b"the first morning\n");
-    first_half(words);
-    seeder(words);
-    quiet(words);
-    sprayer(words);
-    weigher(words);
-    baler(words);
+fn steps(words: &mut [u64], all: &[u8]) {
+    let mut i: usize = 0;
+    while i < all.len() {
+        step(words, all[i]);
+        i += 1;
+    }
 }
 
-// The other way round.
-fn second_half(words: &mut [u64]) {
-    baler(words);
-    takes(words);
-    weigher(words);
-    sprayer(words);
-    seeder(words);
+fn morning(words: &mut [u64], title: &[u8], all: &[u8]) {
+    power_on(words, title);
+    steps(words, all);
+    print_table(words);
 }
 
-fn second(words: &mut [u64]) {
-    power_on(words, b"the second morning\n");
-    start(words);
-    second_half(words);
-    quiet(words);
-    joystick(words);
-    terminal(words);
-    tractor(words);
-}
-
-// Start after the first claims, and some come again.
-fn third_half(words: &mut [u64]) {
-    weigher(words);
-    joystick(words);
-    start(words);
-    weigher(words);
-    quiet(words);
-    tool(words);
-}
-
-fn third(words: &mut [u64]) {
-    power_on(words, b"the third morning\n");
-    third_half(words);
-    tractor(words);
-    sprayer(words);
-    baler(words);
-    terminal(words);
-    joystick(words);
-    seeder(words);
-}
-
+// Start, and the tractor's side first; the other way round; Start after the first claims, of which some come again.
 fn main() {
     let mut record = [0u64; Unit::RECORD_LENGTH];
     let words: &mut [u64] = &mut record;
-    first(words);
-    print_table(words);
-    second(words);
-    print_table(words);
-    third(words);
-    print_table(words);
+    morning(words, b"the first morning\n", b"S01F23Q456");
+    morning(words, b"the second morning\n", b"S6K543Q210");
+    morning(words, b"the third morning\n", b"52S5QC046123");
 }
