@@ -13,10 +13,12 @@ use Rattle.storage.proofs.Parts.{back, length-back}
 use Rattle.filter.specs.Filter.{modePlace, countPlace, listPlace, listOf, blockSize, Filter, meant, filterOf, Counting, isCleared}
 use Rattle.pgn_list.specs.PgnList.{listSize, addAll, deleteAll}
 use Rattle.filter_commands.specs.Changes.{wouldPass, lacks, mayAdd, mayDelete, mayCreate, added, deleted, modeFor, created, Changing, Adding, Deleting, Creating}
-use Rattle.pgn_list.specs.Steps.{Extending, Keeping}
+use Rattle.entries.specs.Entries.{every}
+use Rattle.pgn_list.specs.Steps.{Finding, Extending, Keeping}
 use Rattle.filter_commands.specs.Steps.{Relisted, Growing}
 use Rattle.filter.proofs.Meaning.{list-long, cleared-test, cleared-none, front}
 use Rattle.pgn_list.proofs.Changes.{not-longer}
+use Rattle.pgn_list.proofs.Search.{absent, present}
 
 -- ---- a command refused, or done
 stays : {words : List ℕ} {may : Bool} (after : Filter) → may ≡ false → Changing words words may (cond may after (filterOf words)) false
@@ -118,6 +120,24 @@ module _ (words xs : List ℕ) where
         rw (G .refused refl) (stays (record { mode = filterOf words .mode; entries = addAll (filterOf words .entries) xs }) (may-add G))
 
 -- ---- Delete
+-- one entry
+pub only-one : {x : ℕ} (xs : List ℕ) → length xs ≡ 1 → x ≡ getD xs 0 0 → xs ≡ x ∷ []
+only-one [] h e = absurd (omega arith)
+only-one (y ∷ []) h e = rw e
+only-one (y ∷ z ∷ xs) h e = absurd (omega arith)
+
+module _ {words : List ℕ} {n x i : ℕ} (long : length words ≡ blockSize) (C : Counting words n) (F : Finding (listOf words) n x i) where
+  fits : n ≤ length (listOf words)
+  fits = omega (arith, C .small, list-long words long)
+
+  pub one-absent : i ≡ n → lacks (filterOf words) (x ∷ []) ≡ true
+  unfolding lacks every
+  one-absent h = rw (← (front C), absent fits F h)
+
+  pub one-listed : (i ≡ n → ⊥) → lacks (filterOf words) (x ∷ []) ≡ false
+  unfolding lacks every
+  one-listed h = rw (← (front C), present fits F h)
+
 module _ (words xs : List ℕ) where
   pub delete-cleared : isCleared (filterOf words .mode) ≡ true → Deleting words words xs false
   unfolding deleted mayDelete

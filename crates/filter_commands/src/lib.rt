@@ -10,11 +10,13 @@ use filter::MODE;
 use filter::PASS;
 use pgn_list::LIST_SIZE;
 ghost use mathlib.Core.Path.{_≡_};
+ghost use mathlib.Core.Bool.{false};
+ghost use mathlib.Core.List.{[], _∷_};
 ghost use Prim.Native.Nat.{_≤_};
 ghost use lib.ListN.{length};
 ghost use Rattle.entries.specs.Entries.{entriesOf};
 ghost use Rattle.pgn_list.specs.PgnList.{listSize};
-ghost use Rattle.filter.specs.Filter.{listOf, blockSize, filterOf};
+ghost use Rattle.filter.specs.Filter.{listOf, blockSize, filterOf, isCleared, Counting};
 ghost use Rattle.filter_commands.specs.Changes.{wouldPass, lacks, Adding, Deleting, Creating, Clearing};
 ghost use Rattle.filter_commands.specs.Steps.{Growing};
 
@@ -99,6 +101,20 @@ pub fn add(block: &mut [u64], bytes: &[u8]) -> bool
     grow(block, n, bytes)
 }
 
+// Deletes one PGN from the first n of a block's list. Tells whether it was done: not where it is absent.
+fn delete_one(block: &mut [u64], n: usize, x: u64) -> bool
+    requires { ⌜ (length (now block) ≡ blockSize) × Counting (now block) n × (isCleared (filterOf (now block) .mode) ≡ false) ⌝ }
+    ensures { λ r. ⌜ Deleting (now (block .entry)) (now (block .exit)) (x ∷ []) r ⌝ }
+{
+    let i = pgn_list::find(&block[LIST..LIST_END], n, x);
+    if i == n {
+        return false;
+    }
+    let kept = pgn_list::close_up(&mut block[LIST..LIST_END], i, n, x);
+    block[COUNT] = kept as u64;
+    true
+}
+
 // Delete: the entries leave the list, the others keep their order. Tells whether it was done.
 pub fn delete(block: &mut [u64], bytes: &[u8]) -> bool
     requires { ⌜ length (now block) ≡ blockSize ⌝ }
@@ -107,10 +123,13 @@ pub fn delete(block: &mut [u64], bytes: &[u8]) -> bool
     if filter::is_cleared(block) {
         return false;
     }
+    let n = filter::count(block);
+    if entries::count(bytes) == 1 {
+        return delete_one(block, n, entries::entry_at(bytes, 0));
+    }
     if lacks(block, bytes) {
         return false;
     }
-    let n = filter::count(block);
     let kept = pgn_list::keep_others(&mut block[LIST..LIST_END], n, bytes);
     block[COUNT] = kept as u64;
     true

@@ -1,21 +1,25 @@
 -- The contracts of a command: what it does to the model of a record.
 -- Assumes nothing.
-use Prim.Native.Nat.{ℕ, _+_, _-_}
-use mathlib.Core.Bool.{false}
+use Prim.Native.Nat.{ℕ, _+_, _-_, _≤_, _<_}
+use mathlib.Core.Bool.{true, false}
 use mathlib.Core.Path.{_≡_}
 use mathlib.Core.List.{List}
 use lib.ListN.{getD}
-use Rattle.filter.specs.Filter.{Filter}
 use Rattle.unit.specs.Model.{withRest, withPairs, modelOf}
 use Rattle.filter_commands.specs.declared.pairs.Change.{Change}
 use Rattle.filter_commands.specs.Pairs.{changeOf}
-use Rattle.record.specs.Steps.{PairChanging}
-use Rattle.list_commands.specs.Commands.{firstPair, names, changeAt, Beside, changeNamed, listRefusal, commanded}
+use Rattle.list_commands.specs.Commands.{firstPair, names, Beside, changeNamed, listRefusal, commanded}
 
--- the kth pair from a port was changed if it is named, else no word
-pub record OneChanging (ports : ℕ) (before after : List ℕ) (from to k : ℕ) (change : Filter → Filter) : Type 0 where
-  pub pair : PairChanging ports before after (firstPair ports from + k) (changeAt change from to k)
-  pub passed : names from to k ≡ false → after ≡ before
+-- the pairs from a port that are named, by their places among the pairs: those from `first` up to `end`, and no other
+pub record Naming (ports from to first end : ℕ) : Type 0 where
+  pub low : 1 ≤ from
+  pub high : from ≤ ports
+  pub least : firstPair ports from ≤ first
+  pub forward : first ≤ end
+  pub most : end ≤ firstPair ports from + (ports - 1)
+  pub before : (k : ℕ) → firstPair ports from + k < first → names from to k ≡ false
+  pub inside : (k : ℕ) → first ≤ firstPair ports from + k → firstPair ports from + k < end → names from to k ≡ true
+  pub behind : (k : ℕ) → end ≤ firstPair ports from + k → k < ports - 1 → names from to k ≡ false
 
 -- a command was done on the pairs that it names
 pub record PairsChanging (ports : ℕ) (before after : List ℕ) (from to : ℕ) (change : Change) (xs : List ℕ) : Type 0 where

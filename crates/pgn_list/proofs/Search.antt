@@ -11,7 +11,7 @@ use lib.ListN.{length, getD, take, drop}
 use lib.Seq.{getD-take, length-take-le}
 use Rattle.storage.proofs.Walk.{Left, left-all, left-next, left-one, left-none}
 use Rattle.entries.specs.Entries.{listed}
-use Rattle.pgn_list.specs.Steps.{indexOf, Others, Finding}
+use Rattle.pgn_list.specs.Steps.{indexOf, Finding}
 
 -- ---- the loop: after i entries the index v is i more than that in the rest
 abbrev pub Passed : ℕ → List ℕ → ℕ → ℕ → ℕ → Type 0
@@ -42,18 +42,19 @@ module _ {v : ℕ} (list : List ℕ) (n x : ℕ) (fits : n ≤ length list) wher
         let e = left-none P (omega (arith, length-take-le n list fits)) in
         (omega (arith, e, P .inside, length-take-le n list fits), omega arith)
 
-  pub passed-four : {i : ℕ} → Passed v list n x i → Others list i n x → Passed v list n x (i + 4)
-  passed-four {i} P O =
-      let two : i + 2 ≡ i + 1 + 1 = omega arith in
-      let three : i + 3 ≡ i + 1 + 1 + 1 = omega arith in
-      let four : i + 4 ≡ i + 1 + 1 + 1 + 1 = omega arith in
-      let room = O .room in
-      rw four
-      (passed-one
-      (passed-one
-      (passed-one
-      (passed-one P (omega arith) (O .first)) (omega arith) (O .second)) (omega arith) (rw two at (O .third)))
-      (omega arith) (rw three at (O .fourth)))
+  -- after two, three and four others
+  module _ {i : ℕ} (P : Passed v list n x i) where
+    pub passed-two : i + 2 ≤ n → (getD list i 0 ≡ x → ⊥) → (getD list (i + 1) 0 ≡ x → ⊥) → Passed v list n x (i + 2)
+    passed-two room a b = let e : i + 2 ≡ i + 1 + 1 = omega arith in rw e (passed-one (passed-one P (omega arith) a) (omega arith) b)
+
+  module _ {i : ℕ} (P : Passed v list n x i) where
+    pub passed-three : i + 3 ≤ n → (getD list i 0 ≡ x → ⊥) → (getD list (i + 1) 0 ≡ x → ⊥) → (getD list (i + 2) 0 ≡ x → ⊥) → Passed v list n x (i + 3)
+    passed-three room a b d = let e : i + 3 ≡ i + 2 + 1 = omega arith in rw e (passed-one (passed-two P (omega arith) a b) (omega arith) d)
+
+    pub passed-four : i + 4 ≤ n → (getD list i 0 ≡ x → ⊥) → (getD list (i + 1) 0 ≡ x → ⊥) → (getD list (i + 2) 0 ≡ x → ⊥) → (getD list (i + 3) 0 ≡ x → ⊥) → Passed v list n x (i + 4)
+    passed-four room a b d f = let e : i + 4 ≡ i + 2 + 2 = omega arith in
+        let d′ : i + 2 + 1 ≡ i + 3 = omega arith in
+        rw e (passed-two (passed-two P (omega arith) a b) (omega arith) d (rw d′ f))
 
 -- ---- what the index says
 pub index-listed : (x : ℕ) (es : List ℕ) → indexOf x es < length es → listed x es ≡ true

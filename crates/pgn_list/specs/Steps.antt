@@ -13,14 +13,6 @@ unfoldable pub indexOf : ℕ → List ℕ → ℕ
 indexOf x [] = 0
 indexOf x (y ∷ ys) = cond (eqb y x) 0 (suc (indexOf x ys))
 
--- four of the first n of a list, from index i on, none of which is x
-pub record Others (list : List ℕ) (i n x : ℕ) : Type 0 where
-  pub room : i + 4 ≤ n
-  pub first : getD list i 0 ≡ x → ⊥
-  pub second : getD list (i + 1) 0 ≡ x → ⊥
-  pub third : getD list (i + 2) 0 ≡ x → ⊥
-  pub fourth : getD list (i + 3) 0 ≡ x → ⊥
-
 -- the search among the first n of a list, from index `start` on
 pub record FindingFrom (list : List ℕ) (start n x r : ℕ) : Type 0 where
   pub index : r ≡ start + indexOf x (drop start (take n list))

@@ -2,39 +2,15 @@
 mod index;
 
 ghost use mathlib.Core.Path.{_≡_};
-ghost use mathlib.Core.Bool.{true};
 ghost use mathlib.Core.List.{[], _∷_};
 ghost use Prim.Native.Nat.{_≤_};
 ghost use lib.ListN.{length, take};
 ghost use Rattle.entries.specs.Entries.{listed, every, entriesOf};
 ghost use Rattle.pgn_list.specs.PgnList.{listSize};
-ghost use Rattle.pgn_list.specs.Steps.{Others, FindingFrom, Finding, Extending, Keeping};
+ghost use Rattle.pgn_list.specs.Steps.{FindingFrom, Finding, Extending, Keeping};
 
 // The most PGNs that a list holds.
 pub const LIST_SIZE: usize = 32;
-
-// Whether four more of the first n stand from i on, none of which is x.
-fn four_others(list: &[u64], i: usize, n: usize, x: u64) -> bool
-    requires { ⌜ (n ≤ length (now list)) × (i ≤ n) ⌝ }
-    ensures { λ r. ⌜ (r ≡ true → Others (now (list .entry)) i n x) ⌝ }
-{
-    if n - i < 4 {
-        return false;
-    }
-    if list[i] == x {
-        return false;
-    }
-    if list[i + 1] == x {
-        return false;
-    }
-    if list[i + 2] == x {
-        return false;
-    }
-    if list[i + 3] == x {
-        return false;
-    }
-    true
-}
 
 // The index at which x first stands from `start` on among the first n of a list, or n.
 fn find_from(list: &[u64], start: usize, n: usize, x: u64) -> usize
@@ -51,13 +27,25 @@ fn find_from(list: &[u64], start: usize, n: usize, x: u64) -> usize
     n
 }
 
-// The index at which x first stands among the first n of a list, or n. Four at a time are passed over.
+// The index at which x first stands among the first n of a list, or n. Four at a time are compared.
 pub fn find(list: &[u64], n: usize, x: u64) -> usize
     requires { ⌜ n ≤ length (now list) ⌝ }
     ensures { λ r. ⌜ Finding (now (list .entry)) n x r ⌝ }
 {
     let mut i = 0;
-    while four_others(list, i, n, x) {
+    while 4 <= n - i {
+        if list[i] == x {
+            return i;
+        }
+        if list[i + 1] == x {
+            return i + 1;
+        }
+        if list[i + 2] == x {
+            return i + 2;
+        }
+        if list[i + 3] == x {
+            return i + 3;
+        }
         i += 4;
     }
     find_from(list, i, n, x)
@@ -136,13 +124,13 @@ pub fn lists_all(list: &[u64], n: usize, bytes: &[u8]) -> bool
     index::lists_all(list, n, bytes)
 }
 
-// Takes x out of the first n of a list, the others closing up. Tells how many they are then.
-fn remove(list: &mut [u64], n: usize, x: u64) -> usize
-    requires { ⌜ n ≤ length (now list) ⌝ }
+// Takes x, which first stands at `start` or nowhere, out of the first n of a list, the others closing up. Tells how many they are then.
+pub fn close_up(list: &mut [u64], start: usize, n: usize, x: u64) -> usize
+    requires { ⌜ (n ≤ length (now list)) × Finding (now list) n x start ⌝ }
     ensures { λ r. ⌜ Keeping (now (list .entry)) (now (list .exit)) n (x ∷ []) r ⌝ }
 {
-    let mut i = find(list, n, x);
-    let mut kept = i;
+    let mut i = start;
+    let mut kept = start;
     while i < n {
         let y = list[i];
         if y != x {
@@ -152,6 +140,15 @@ fn remove(list: &mut [u64], n: usize, x: u64) -> usize
         i += 1;
     }
     kept
+}
+
+// Takes x out of the first n of a list.
+fn remove(list: &mut [u64], n: usize, x: u64) -> usize
+    requires { ⌜ n ≤ length (now list) ⌝ }
+    ensures { λ r. ⌜ Keeping (now (list .entry)) (now (list .exit)) n (x ∷ []) r ⌝ }
+{
+    let i = find(list, n, x);
+    close_up(list, i, n, x)
 }
 
 // `keep_others`, one entry after the other.

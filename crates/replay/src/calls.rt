@@ -347,13 +347,6 @@ fn make(words: &mut [u64], counts: &mut [u64], line: &[u8], call: Call, out: &mu
     }
 }
 
-// How many ports a unit has that is given a count.
-fn ports_given(count: u32) -> usize
-    ensures { λ r. ⌜ (2 ≤ r) × (r ≤ 8) ⌝ }
-{
-    Unit::count_of(count as u64) as usize
-}
-
 // How many ports the unit has that a call is for: at power-on the one that is made, else the one that there is.
 fn ports_for(words: &[u64], call: Call) -> usize
     ensures { λ r. ⌜ (2 ≤ r) × (r ≤ 8) ⌝ }
@@ -363,7 +356,7 @@ fn ports_for(words: &[u64], call: Call) -> usize
             name: _,
             preferred: _,
             ports,
-        } => ports_given(ports),
+        } => Unit::count_of(ports as u64) as usize,
         _ => ports_of(words),
     }
 }

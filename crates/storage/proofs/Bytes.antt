@@ -1,12 +1,12 @@
 -- Bytes, packed and read back, are the same bytes, and a number read as bytes and packed is the same number. Assumes nothing.
-use mathlib.Core.Path.{_≡_, refl, ap, _∙_}
+use mathlib.Core.Path.{_≡_, refl, sym, ap, _∙_}
 use mathlib.Core.List.{List, [], _∷_, _++_}
 use Prim.Native.Nat.{ℕ, zero, suc, _+_, _-_, _*_, _/_, _%_, _^_, _≤_, _<_, zero-le}
-use native.Mathlib.Nat.{not-suc-le-zero, le-of-suc-le-suc, pow-suc, sub-zero, suc-sub-suc, div-div-eq-div-mul, div-one, mul-assoc, mul-comm, mul-le-mul-left, mul-suc, one-mul}
+use native.Mathlib.Nat.{not-suc-le-zero, le-of-suc-le-suc, pow-suc, sub-zero, suc-sub-suc, div-div-eq-div-mul, div-one, mul-assoc, mul-comm, mul-le-mul-left, mul-suc, one-mul, pow-le-pow-right}
 use native.Mathlib.Omega.{arith}
 use lib.Pow.{pow-add}
-use lib.ListN.{length, getD, take, drop, replicate, length-drop}
-use lib.Seq.{take-at, take-add, drop-cons, drop-drop, getD-drop, length-take-le}
+use lib.ListN.{length, getD, take, drop, replicate, length-drop, take-append-drop}
+use lib.Seq.{take-at, take-all, take-add, drop-cons, drop-drop, length-take-le}
 use Rattle.storage.specs.Bytes.{packed, bytesOf, Packing}
 
 -- every element is a byte
@@ -81,14 +81,27 @@ packing-join m n bytes at low high fits L H = record {
     long : length (take m (drop at bytes)) ≡ m
     long = length-take-le m (drop at bytes) (simp length-drop (omega arith))
 
+-- n bytes that are the last are more than n too
+pub packing-last : {m : ℕ} (n : ℕ) {bytes : List ℕ} {at r : ℕ} → m ≤ n → length bytes ≤ at + m → Packing m bytes at r → Packing n bytes at r
+packing-last {m} n {bytes} {at} h l P = record {
+  number = P .number ∙ rw (take-all m (drop at bytes) (simp length-drop (omega arith)), take-all n (drop at bytes) (simp length-drop (omega arith)));
+  small = omega (arith, P .small, pow-le-pow-right {n = 256} (omega arith) {i = m} {j = n} h);
+}
+
+pub packing-none : (bytes : List ℕ) (at : ℕ) → Packing 0 bytes at 0
+unfolding packed
+packing-none bytes at = record { number = refl; small = omega arith }
+
+-- four to seven bytes
+pub packed-short : {bytes : List ℕ} {low high : ℕ} → 4 ≤ length bytes → length bytes < 8 → Packing 4 bytes 0 low → Packing 3 bytes 4 high → low + 4294967296 * high ≡ packed (take 8 bytes)
+packed-short {bytes} some few L H =
+    rw (L .number, H .number, take-all 3 (drop 4 bytes) (simp length-drop (omega arith)), take-all 8 bytes (omega arith))
+    (sym (ap packed (sym (take-append-drop 4 bytes)) ∙ packed-append (take 4 bytes) (drop 4 bytes) ∙ rw (length-take-le 4 bytes some)))
+
 -- one byte more, in front
 pub packed-step : (bytes : List ℕ) (i : ℕ) → i < length bytes → packed (drop i bytes) ≡ getD bytes i 0 + 256 * packed (drop (suc i) bytes)
 unfolding packed
 packed-step bytes i h = rw (drop-cons bytes i 0 h)
-
--- what is left of fewer than eight bytes is below 256 ^ 7
-pub rest-small : (bytes : List ℕ) (i : ℕ) → length bytes < 8 → AllBytes bytes → packed (drop i bytes) < 256 ^ 7
-rest-small bytes i l h = packed-small 7 (drop i bytes) (simp length-drop (omega arith)) (λ k. rw (getD-drop i bytes k 0) (h (i + k)))
 
 -- past the last byte there is nothing
 pub past : (n w i : ℕ) → n ≤ i → getD (bytesOf n w) i 0 ≡ 0

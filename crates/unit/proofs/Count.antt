@@ -33,6 +33,9 @@ count-bounds count = go (isCount count) refl
     go true e = let p = both (leb 2 count) (leb count 8) e in (leb-true 2 count (p .0), leb-true count 8 (p .1))
     go false e = (omega arith, omega arith)
 
+pub counted : (count : ℕ) {r : ℕ} → r ≡ countOf count → Counting (countOf count) r
+counted count e = let b = count-bounds count in record { count = e; least = rw e (b .0); most = rw e (b .1) }
+
 -- a count that may be is the number of ports, another is four
 pub count-kept : (count : ℕ) → isCount count ≡ true → countOf count ≡ count
 unfolding countOf
@@ -61,9 +64,6 @@ pub ports-bounds : (words : List ℕ) → (2 ≤ portsOf words) × (portsOf word
 unfolding portsOf
 ports-bounds words = count-bounds (getD words 4 0)
 
-pub counted : (words : List ℕ) {r : ℕ} → r ≡ portsOf words → Counting words r
-counted words e = let b = ports-bounds words in record { count = e; least = rw e (b .0); most = rw e (b .1) }
-
 -- the record's first words say it
 pub ports-taken : (words : List ℕ) → portsOf (take 5 words) ≡ portsOf words
 unfolding portsOf
@@ -74,14 +74,17 @@ pub pairs-most : {ports : ℕ} → ports ≤ 8 → pairCount ports ≤ 56
 unfolding pairCount
 pairs-most {ports} h = mul-le-mul {n₁ = ports} {m₁ = ports - 1} {n₂ = 8} {m₂ = 7} h (omega arith)
 
--- so many stand before the pairs from port p
-pub row-below : {ports p : ℕ} → p < ports → (ports - 1) * p ≤ pairCount ports
+-- the pairs from port p are among them
+pub row-within : {ports p : ℕ} → p < ports → (ports - 1) * p + (ports - 1) ≤ pairCount ports
 unfolding pairCount
-row-below {ports} {p} h = omega (arith, mul-le-mul-left {m = p} {n = ports} (ports - 1) (omega arith), mul-comm ports (ports - 1))
-
--- the kth pair from port p is one of them
-pub pair-below : {ports p k : ℕ} → p < ports → k < ports - 1 → (ports - 1) * p + k < pairCount ports
-unfolding pairCount
-pair-below {ports} {p} {k} h l =
+row-within {ports} {p} h =
     let row : (ports - 1) * suc p ≤ (ports - 1) * ports = mul-le-mul-left (ports - 1) (omega arith) in
     omega (arith, row, mul-suc (ports - 1) p, mul-comm ports (ports - 1))
+
+-- so many stand before them
+pub row-below : {ports p : ℕ} → p < ports → (ports - 1) * p ≤ pairCount ports
+row-below h = omega (arith, row-within h)
+
+-- the kth of them is one of all
+pub pair-below : {ports p k : ℕ} → p < ports → k < ports - 1 → (ports - 1) * p + k < pairCount ports
+pair-below h l = omega (arith, row-within h)

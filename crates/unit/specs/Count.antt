@@ -19,9 +19,9 @@ countOf count = cond (isCount count) count 4
 unfoldable pub portsOf : List ℕ → ℕ
 portsOf words = countOf (getD words 4 0)
 
--- they are read, with their bounds
-pub record Counting (words : List ℕ) (r : ℕ) : Type 0 where
-  pub count : r ≡ portsOf words
+-- a number of ports was told, with its bounds
+pub record Counting (ports r : ℕ) : Type 0 where
+  pub count : r ≡ ports
   pub least : 2 ≤ r
   pub most : r ≤ 8
 

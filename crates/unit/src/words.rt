@@ -4,7 +4,7 @@ use crate::Unit;
 ghost use mathlib.Core.Path.{_≡_};
 ghost use Prim.Native.Nat.{ℕ, _≤_};
 ghost use lib.ListN.{length, replicate};
-ghost use Rattle.unit.specs.Count.{Counting};
+ghost use Rattle.unit.specs.Count.{portsOf, Counting};
 ghost use Rattle.unit.specs.Model.{modelOf, ownLength, withOwn, withRest};
 
 // Every word 0.
@@ -20,7 +20,7 @@ pub fn wipe(words: &mut [u64])
 
 // The number of ports of the unit in a record of any length.
 pub fn ports_of(words: &[u64]) -> u32
-    ensures { λ r. ⌜ Counting (now (words .entry)) r ⌝ }
+    ensures { λ r. ⌜ Counting (portsOf (now (words .entry))) r ⌝ }
 {
     if words.len() < 5 {
         return Unit::PORTS;

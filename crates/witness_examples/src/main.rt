@@ -190,13 +190,6 @@ fn calls_made(said: u64, numbers: usize) -> usize
     least(said as usize, most)
 }
 
-// How many ports a unit has that is given a count.
-fn ports_given(count: u64) -> usize
-    ensures { λ r. ⌜ (2 ≤ r) × (r ≤ 8) ⌝ }
-{
-    Unit::count_of(count) as usize
-}
-
 // How much of the storage is the record of a unit with so many ports.
 fn record_length(ports: usize) -> usize
     requires { ⌜ (2 ≤ ports) × (ports ≤ 8) ⌝ }
@@ -231,7 +224,7 @@ fn run(numbers: &[u64])
     requires { ⌜ 4 ≤ length (now numbers) ⌝ }
 {
     let n = calls_made(numbers[3], numbers.len());
-    let ports = ports_given(numbers[2]);
+    let ports = Unit::count_of(numbers[2]) as usize;
     let length = record_length(ports);
     let mut record = [0u64; MOST_WORDS];
     let mut space = [0u64; 8 * CALLS];

@@ -1,5 +1,6 @@
--- `list_commands::change_each` meets its contract: the loop over the pairs from a port. Assumes nothing.
-use Prim.Native.Nat.{_-_}
+-- `list_commands::change_each` meets its contract: the loop over the pairs that are named. Assumes nothing.
+use mathlib.Core.Path.{_≡_}
+use Prim.Native.Nat.{_≤_, _-_}
 use native.Mathlib.Omega.{arith}
 use Rattle.entries.specs.Entries.{entriesOf}
 use Rattle.filter_commands.specs.Pairs.{changeOf}
@@ -8,24 +9,19 @@ use Rattle.list_commands.proofs.change_each.Statement.{statement}
 use Rattle.list_commands.proofs.change_each.Tie as tie
 
 abbrev Inv-loop : tie.InvT-loop
-Inv-loop words₀ ports from to change entries k₀ words k = Walking ports words₀ words from to (changeOf change (entriesOf entries)) k
+Inv-loop words₀ ports first end change entries i₀ words i = (first ≤ i) × (i ≤ end) × Walking ports first end words₀ words (changeOf change (entriesOf entries)) i
 
 abbrev μ-loop : tie.MeasureT-loop
-μ-loop words₀ ports from to change entries k₀ words k = ports - 1 - k
+μ-loop words₀ ports first end change entries i₀ words i = end - i
 
 loop-holds : tie.Need-loop-holds Inv-loop μ-loop
-loop-holds c =
-    let start = c .before .before in
-    walk-start (start .args .from) (start .args .to) _ (omega arith) (omega arith) (omega arith)
+loop-holds c = (omega arith, omega arith, walk-start (omega arith))
 
-sub-loop : tie.Need-sub-loop Inv-loop μ-loop
-sub-loop c = omega arith
+change-requires : tie.Need-change-requires Inv-loop μ-loop
+change-requires c κs = omega arith
 
-change-one-requires : tie.Need-change-one-requires Inv-loop μ-loop
-change-one-requires c κs = omega arith
-
-add-k : tie.Need-add-k Inv-loop μ-loop
-add-k c = omega arith
+add-i : tie.Need-add-i Inv-loop μ-loop
+add-i c = omega arith
 
 loop-less : tie.Need-loop-less Inv-loop μ-loop
 loop-less c = omega arith
@@ -34,8 +30,7 @@ loop-again : tie.Need-loop-again Inv-loop μ-loop
 loop-again c =
     let at = c .before .before in
     let at-loop = at .before .before .before in
-    let start = at-loop .before .before .before in
-    walk-more (start .args .from) (start .args .to) _ (omega arith) (omega arith) (at-loop .loop .inv) (omega arith) (omega arith) (at .change-one .ensures)
+    (omega arith, omega arith, walk-more (at-loop .loop .inv .2) (at-loop .loop .inv .0) (omega arith) (omega arith) (at .change .ensures))
 
 same-length : tie.Need-same-length Inv-loop μ-loop
 same-length c = omega arith
@@ -43,8 +38,9 @@ same-length c = omega arith
 returns : tie.Need-returns Inv-loop μ-loop
 returns c =
     let at-loop = c .before in
-    let start = at-loop .before .before .before in
-    walk-done (start .args .from) (start .args .to) (start .args .change) _ (omega arith) (at-loop .loop .inv)
+    let args = at-loop .before .before .before .args in
+    let e : at-loop .loop .i ≡ args .end = omega arith in
+    walk-done (args .change) _ (rw e at (at-loop .loop .inv .2))
 
 pub change-each-spec : {M : Type 1} → statement M
 change-each-spec =
@@ -53,9 +49,8 @@ change-each-spec =
     Inv-loop
     μ-loop
     loop-holds
-    sub-loop
-    change-one-requires
-    add-k
+    change-requires
+    add-i
     loop-less
     loop-again
     same-length

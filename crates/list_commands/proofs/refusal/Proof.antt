@@ -12,14 +12,14 @@ any-requires c κs = search needs
 
 returns : tie.Need-returns
 unfolding listRefusal listChecks
-returns c = rw (c .before .before .enum-told .given .1, ← (c .before .any .ensures), c .if1 .taken)
+returns c = λ from to N. rw (c .before .before .enum-told .given .1, ← (c .before .any .ensures from to N), c .if1 .taken)
 
 any-requires-2 : tie.Need-any-requires-2
 any-requires-2 c κs = search needs
 
 returns-2 : tie.Need-returns-2
 unfolding listRefusal listChecks
-returns-2 c = let at = c .before in let first = at .before .before in rw (first .before .enum-told .given .1, ← (first .any .ensures), at .before .if1 .left, ← (at .any2 .ensures), c .if2 .taken)
+returns-2 c = let at = c .before in let first = at .before .before in λ from to N. rw (first .before .enum-told .given .1, ← (first .any .ensures from to N), at .before .if1 .left, ← (at .any2 .ensures from to N), c .if2 .taken)
 
 enum-told-2 : tie.Need-enum-told-2
 enum-told-2 c = search needs
@@ -29,14 +29,14 @@ any-requires-3 c κs = search needs
 
 returns-3 : tie.Need-returns-3
 unfolding listRefusal listChecks
-returns-3 c = rw (c .before .before .enum-told2 .given .1, ← (c .before .any3 .ensures), c .if3 .taken)
+returns-3 c = λ from to N. rw (c .before .before .enum-told2 .given .1, ← (c .before .any3 .ensures from to N), c .if3 .taken)
 
 any-requires-4 : tie.Need-any-requires-4
 any-requires-4 c κs = search needs
 
 returns-4 : tie.Need-returns-4
 unfolding listRefusal listChecks
-returns-4 c = let at = c .before in let first = at .before .before in rw (first .before .enum-told2 .given .1, ← (first .any3 .ensures), at .before .if3 .left, ← (at .any4 .ensures), c .if4 .taken)
+returns-4 c = let at = c .before in let first = at .before .before in λ from to N. rw (first .before .enum-told2 .given .1, ← (first .any3 .ensures from to N), at .before .if3 .left, ← (at .any4 .ensures from to N), c .if4 .taken)
 
 enum-told-3 : tie.Need-enum-told-3
 enum-told-3 c = search needs
@@ -49,30 +49,30 @@ any-requires-5 c κs = search needs
 
 returns-5 : tie.Need-returns-5
 unfolding listRefusal listChecks
-returns-5 c = rw (c .before .before .enum-told4 .given .1, ← (c .before .any5 .ensures), c .if5 .taken)
+returns-5 c = λ from to N. rw (c .before .before .enum-told4 .given .1, ← (c .before .any5 .ensures from to N), c .if5 .taken)
 
 any-requires-6 : tie.Need-any-requires-6
 any-requires-6 c κs = search needs
 
 returns-6 : tie.Need-returns-6
 unfolding listRefusal listChecks
-returns-6 c = let at = c .before in let first = at .before .before in rw (first .before .enum-told4 .given .1, ← (first .any5 .ensures), at .before .if5 .left, ← (at .any6 .ensures), c .if6 .taken)
+returns-6 c = let at = c .before in let first = at .before .before in λ from to N. rw (first .before .enum-told4 .given .1, ← (first .any5 .ensures from to N), at .before .if5 .left, ← (at .any6 .ensures from to N), c .if6 .taken)
 
 returns-7 : tie.Need-returns-7
 unfolding listRefusal listChecks
-returns-7 c = let at = c .before in let first = at .before .before in rw (first .before .enum-told .given .1, ← (first .any .ensures), at .before .if1 .left, ← (at .any2 .ensures), c .if2 .left)
+returns-7 c = let at = c .before in let first = at .before .before in λ from to N. rw (first .before .enum-told .given .1, ← (first .any .ensures from to N), at .before .if1 .left, ← (at .any2 .ensures from to N), c .if2 .left)
 
 returns-8 : tie.Need-returns-8
 unfolding listRefusal listChecks
-returns-8 c = let at = c .before in let first = at .before .before in rw (first .before .enum-told2 .given .1, ← (first .any3 .ensures), at .before .if3 .left, ← (at .any4 .ensures), c .if4 .left)
+returns-8 c = let at = c .before in let first = at .before .before in λ from to N. rw (first .before .enum-told2 .given .1, ← (first .any3 .ensures from to N), at .before .if3 .left, ← (at .any4 .ensures from to N), c .if4 .left)
 
 returns-9 : tie.Need-returns-9
 unfolding listRefusal listChecks
-returns-9 c = rw (c .enum-told3 .given .1)
+returns-9 c = λ from to N. rw (c .enum-told3 .given .1)
 
 returns-10 : tie.Need-returns-10
 unfolding listRefusal listChecks
-returns-10 c = let at = c .before in let first = at .before .before in rw (first .before .enum-told4 .given .1, ← (first .any5 .ensures), at .before .if5 .left, ← (at .any6 .ensures), c .if6 .left)
+returns-10 c = let at = c .before in let first = at .before .before in λ from to N. rw (first .before .enum-told4 .given .1, ← (first .any5 .ensures from to N), at .before .if5 .left, ← (at .any6 .ensures from to N), c .if6 .left)
 
 pub refusal-spec : {M : Type 1} → statement M
 refusal-spec =

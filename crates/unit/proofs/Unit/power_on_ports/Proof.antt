@@ -1,6 +1,5 @@
 -- `Unit::power_on_ports` meets its contract: zeros, and the fresh unit stored. Assumes nothing.
 use Rattle.unit.proofs.Own.{powered, powered-with-four, not-powered}
-use Rattle.unit.proofs.Count.{count-bounds}
 use mathlib.Core.Path.{_≡_, sym, _∙_}
 use native.Mathlib.Omega.{arith}
 use borrow.Author.Needs.{needs}
@@ -14,14 +13,12 @@ cast-record-length : tie.Need-cast-record-length
 cast-record-length c = search needs
 
 record-length-requires : tie.Need-record-length-requires
-record-length-requires c κs =
-    let b = count-bounds (c .before .before .args .count) in
-    omega (arith, c .count-of .ensures, b)
+record-length-requires c κs = search needs
 
 returns : tie.Need-returns
 returns c =
     let at-length = c .before in
-    not-powered (at-length .before .count-of .ensures) (λ e. c .if1 .taken (e ∙ sym (at-length .record-length .ensures)))
+    not-powered (at-length .before .count-of .ensures .count) (λ e. c .if1 .taken (e ∙ sym (at-length .record-length .ensures)))
 
 wipe-requires : tie.Need-wipe-requires
 wipe-requires c κs = search needs
@@ -34,9 +31,8 @@ store-unit-requires c κs =
     let at-fresh = c .before in
     let at-else = at-fresh .before .before .before .before .before in
     let at-count = at-else .before .before in
-    let b = count-bounds (at-count .before .before .args .count) in
     let e : at-fresh .fresh .result .ports ≡ at-count .count-of .result = rw (at-fresh .fresh .ensures) in
-    (omega arith, omega (arith, e, at-count .count-of .ensures, b .0), omega (arith, e, at-count .count-of .ensures, b .1))
+    (omega arith, omega (arith, at-count .count-of .ensures .least), omega (arith, at-count .count-of .ensures .most))
 
 same-length : tie.Need-same-length
 same-length c = search needs
@@ -49,7 +45,7 @@ returns-2 c =
     let at-else = at-wipe .before .before in
     let at-length = at-else .before in
     let at-count = at-length .before in
-    powered-with-four (at-count .count-of .ensures) (at-else .if1 .left ∙ at-length .record-length .ensures) (omega arith) (at-wipe .wipe .ensures) (at-fresh .fresh .ensures) (at-store .store-unit .ensures _) (c .if2 .taken)
+    powered-with-four (at-count .count-of .ensures .count) (at-else .if1 .left ∙ at-length .record-length .ensures) (omega arith) (at-wipe .wipe .ensures) (at-fresh .fresh .ensures) (at-store .store-unit .ensures _) (c .if2 .taken)
 
 same-length-2 : tie.Need-same-length-2
 same-length-2 c = search needs
@@ -62,7 +58,7 @@ returns-3 c =
     let at-else = at-wipe .before .before in
     let at-length = at-else .before in
     let at-count = at-length .before in
-    powered (at-count .count-of .ensures) (at-else .if1 .left ∙ at-length .record-length .ensures) (omega arith) (at-wipe .wipe .ensures) (at-fresh .fresh .ensures) (at-store .store-unit .ensures _) (c .if2 .left)
+    powered (at-count .count-of .ensures .count) (at-else .if1 .left ∙ at-length .record-length .ensures) (omega arith) (at-wipe .wipe .ensures) (at-fresh .fresh .ensures) (at-store .store-unit .ensures _) (c .if2 .left)
 
 pub power-on-ports-spec : {M : Type 1} → statement M
 power-on-ports-spec =

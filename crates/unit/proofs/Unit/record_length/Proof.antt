@@ -1,37 +1,73 @@
--- `Unit::record_length` meets its contract: there are at most 56 pairs. Assumes nothing.
-use native.Mathlib.Omega.{arith}
-use Rattle.unit.specs.Count.{pairCount}
-use Rattle.unit.proofs.Count.{pairs-most}
+-- `Unit::record_length` meets its contract: each arm is the length for its number. Assumes nothing.
 use borrow.Author.Needs.{needs}
 use Rattle.unit.proofs.Unit.record_length.Statement.{statement}
 use Rattle.unit.proofs.Unit.record_length.Tie as tie
 
-sub-pairs : tie.Need-sub-pairs
-sub-pairs c = search needs
+regions-length-requires : tie.Need-regions-length-requires
+regions-length-requires c κs = search needs
 
-mul-pairs : tie.Need-mul-pairs
-unfolding pairCount
-mul-pairs c = omega (arith, pairs-most {ports = c .args .ports} (omega arith))
+regions-length-requires-2 : tie.Need-regions-length-requires-2
+regions-length-requires-2 c κs = search needs
 
-mul-result : tie.Need-mul-result
-mul-result c = search needs
+regions-length-requires-3 : tie.Need-regions-length-requires-3
+regions-length-requires-3 c κs = search needs
 
-add-result : tie.Need-add-result
-add-result c = search needs
+regions-length-requires-4 : tie.Need-regions-length-requires-4
+regions-length-requires-4 c κs = search needs
 
-mul-result-2 : tie.Need-mul-result-2
-unfolding pairCount
-mul-result-2 c = omega (arith, pairs-most {ports = c .args .ports} (omega arith))
+regions-length-requires-5 : tie.Need-regions-length-requires-5
+regions-length-requires-5 c κs = search needs
 
-add-result-2 : tie.Need-add-result-2
-unfolding pairCount
-add-result-2 c = omega (arith, pairs-most {ports = c .args .ports} (omega arith))
+regions-length-requires-6 : tie.Need-regions-length-requires-6
+regions-length-requires-6 c κs = search needs
+
+regions-length-requires-7 : tie.Need-regions-length-requires-7
+regions-length-requires-7 c κs = search needs
+
+regions-length-requires-8 : tie.Need-regions-length-requires-8
+regions-length-requires-8 c κs = search needs
 
 returns : tie.Need-returns
-unfolding pairCount
-returns c = omega arith
+returns c = cc
+
+returns-2 : tie.Need-returns-2
+returns-2 c = cc
+
+returns-3 : tie.Need-returns-3
+returns-3 c = cc
+
+returns-4 : tie.Need-returns-4
+returns-4 c = cc
+
+returns-5 : tie.Need-returns-5
+returns-5 c = cc
+
+returns-6 : tie.Need-returns-6
+returns-6 c = cc
+
+returns-7 : tie.Need-returns-7
+returns-7 c = cc
+
+returns-8 : tie.Need-returns-8
+returns-8 c = search needs
 
 pub record-length-spec : {M : Type 1} → statement M
 record-length-spec =
     tie.close
-    (tie.spec sub-pairs mul-pairs mul-result add-result mul-result-2 add-result-2 returns)
+    (tie.spec
+    regions-length-requires
+    regions-length-requires-2
+    regions-length-requires-3
+    regions-length-requires-4
+    regions-length-requires-5
+    regions-length-requires-6
+    regions-length-requires-7
+    regions-length-requires-8
+    returns
+    returns-2
+    returns-3
+    returns-4
+    returns-5
+    returns-6
+    returns-7
+    returns-8)

@@ -12,7 +12,7 @@ returns : tie.Need-returns
 unfolding portsOf
 returns c =
     let words = c .before .before .args .words .now in
-    counted words (rw (List·getD-eq-default words 0 {n = 4} (omega arith)) (sym (count-four 0 (too-few (omega arith)))))
+    rw (List·getD-eq-default words 0 {n = 4} (omega arith)) (counted 0 (sym (count-four 0 (too-few (omega arith)))))
 
 shared-slice-read-count-of : tie.Need-shared-slice-read-count-of
 shared-slice-read-count-of c = search needs
@@ -22,7 +22,7 @@ count-of-requires c κs = search needs
 
 returns-2 : tie.Need-returns-2
 unfolding portsOf
-returns-2 c = counted (c .before .before .before .before .args .words .now) (c .count-of .ensures)
+returns-2 c = c .count-of .ensures
 
 pub ports-of-spec : {M : Type 1} → statement M
 ports-of-spec = tie.close (tie.spec returns shared-slice-read-count-of count-of-requires returns-2)

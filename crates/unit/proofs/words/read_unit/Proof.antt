@@ -32,7 +32,7 @@ count-of-requires : tie.Need-count-of-requires
 count-of-requires c κs = search needs
 
 returns : tie.Need-returns
-returns c = λ ports. rw (c .before .before .before .before .before .from-word .ensures, c .count-of .ensures) (own-read ports (c .before .before .before .before .before .before .before .before .args .words .now))
+returns c = λ ports. rw (c .before .before .before .before .before .from-word .ensures, c .count-of .ensures .count) (own-read ports (c .before .before .before .before .before .before .before .before .args .words .now))
 
 pub read-unit-spec : {M : Type 1} → statement M
 read-unit-spec =
