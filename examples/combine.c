@@ -74,6 +74,7 @@ int main(void)
     pass_alone(8, 61444);
     frame(8, 0x18FEF121); /* to none */
     frame(8, 0x0CF00421); /* to ports 1 to 7 */
+    frame(8, 0x18EEFF21); /* PGN 60928 is permanent: to ports 1 to 7, and no list is searched */
     frame(9, 0x0CF00421); /* 1 */
     take(7);              /* rank 3 before rank 6 */
     take(9);              /* 1 */

@@ -214,6 +214,8 @@ static const struct row frame_rows[] = {
     {"claim made again", frames, .waiting = 32, .id = CLAIM, .len = 8, .bytes = OTHER, .resets = {{HOLDER(0x26), 1}, {HOLDER(0x26) + 1, OTHER}}},
     {"claim of a new NAME", frames, .waiting = 32, .id = CLAIM, .len = 8, .bytes = OTHER, .resets = {{HOLDER(0x26), 0}, {HOLDER(0x26) + 1, 0}}},
     {"claim that takes over", frames, .waiting = 32, .id = CLAIM, .len = 8, .bytes = OTHER, .resets = {{HOLDER(0x26), 1}, {HOLDER(0x26) + 1, OTHER + 1}}},
+    {"claim made again, 3 pass lists of 32 without its PGN", frames, .mode = 2, .entries = 32, .waiting = 32, .id = CLAIM, .len = 8, .bytes = OTHER,
+     .resets = {{HOLDER(0x26), 1}, {HOLDER(0x26) + 1, OTHER}}},
     {"claim made again, 253 addresses held", frames, .waiting = 32, .id = CLAIM, .len = 8, .bytes = 0x27, .held = 253},
     {"take of nothing", takes, .waiting = 0},
     {"Start", starts, .resets = NOTHING_WAITS},

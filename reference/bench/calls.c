@@ -30,21 +30,30 @@ static bool one_in(uint32_t n)
     return below(n) == 0;
 }
 
-/* One of 40 PGNs, so that lists fill and pass 32. */
+/* A claim's PGN or a request's, which are permanent; with a page bit it is another. */
+static uint32_t some_permanent(void)
+{
+    return (one_in(2) ? 0xEE00 : 0xEA00) + (one_in(4) ? below(4) << 16 : 0);
+}
+
+/* One of 40 PGNs, so that lists fill and pass 32; now and then a permanent one. */
 static uint32_t some_pgn(void)
 {
     uint32_t i = below(40);
+    if (one_in(16))
+        return some_permanent();
     return i & 1 ? 0xFE00 + i : 0x1C000 + 256 * i;
 }
 
 static uint32_t some_id(void)
 {
     uint32_t source = one_in(8) ? 254 + below(2) : below(254), destination = one_in(3) ? own_address : below(256), rank = below(8) << 26;
-    switch (below(8)) {
+    switch (below(9)) {
     case 0: case 1: return 0x18EEFF00 | (one_in(8) ? own_address : one_in(4) ? source : below(6));
     case 2: return 0x18EA0000 | (one_in(2) ? 255 : destination) << 8 | source;
     case 3: return rank | below(240) << 16 | destination << 8 | source;
     case 4: return next();
+    case 5: return rank | some_permanent() << 8 | destination << 8 | source;
     default: return rank | some_pgn() << 8 | source;
     }
 }
@@ -221,15 +230,34 @@ static bool is_number(int i)
 
 /* What came of the calls, so that one sees that nothing was left untried. */
 struct tally {
-    long numbers[NUMBERS], events[8], done[65], ports[MOST_PORTS + 1], full, longest;
+    long numbers[NUMBERS], events[8], done[65], ports[MOST_PORTS + 1], full, longest, permanent;
 };
+
+/* How many lists on a frame's way would stop it if its PGN, which is permanent, were not. */
+static long crossed(const struct call *c, const uint64_t *record)
+{
+    uint32_t ports = ports_of(record, MOST_WORDS), pgn = c->id >> 8 & 0x3FF00;
+    const uint64_t *pair = record + PAIRS_AT(ports) + PAIR_WORDS * (ports - 1) * (c->port - 1);
+    long n = 0;
+    if (pgn != 0xEE00 && pgn != 0xEA00)
+        return 0;
+    for (uint32_t k = 1; k < ports; k++, pair += PAIR_WORDS) {
+        uint64_t i = 0;
+        while (i < pair[1] && pair[2 + i] != pgn)
+            i++;
+        n += pair[0] != 0 && (i < pair[1]) == (pair[0] == 1);
+    }
+    return n;
+}
 
 static void count(struct tally *t, const struct call *c, const struct lent *l, uint32_t number)
 {
     t->numbers[number]++;
     t->ports[ports_of(l->record, MOST_WORDS)]++;
-    if (number == 0 && c->kind == FRAME)
+    if (number == 0 && c->kind == FRAME) {
         t->events[l->answer[DEORASAENG_EVENT]]++;
+        t->permanent += l->answer[DEORASAENG_CONSUMED] ? 0 : crossed(c, l->record);
+    }
     if (number == 0 && c->kind == MESSAGE) {
         t->done[c->payload[0]]++;
         t->full += c->payload[0] == 0 && l->answer[DEORASAENG_WRITTEN] == 99;
@@ -239,7 +267,7 @@ static void count(struct tally *t, const struct call *c, const struct lent *l, u
 
 static bool is_whole(const struct tally *t, long calls)
 {
-    bool whole = t->full && t->longest;
+    bool whole = t->full && t->longest && t->permanent;
     for (int i = 0; i < NUMBERS; i++)
         whole &= !is_number(i) || t->numbers[i] > 0;
     for (int i = FEWEST_PORTS; i <= MOST_PORTS; i++)
@@ -255,7 +283,7 @@ static bool is_whole(const struct tally *t, long calls)
     printf("; claim events:");
     for (int i = 1; i < 8; i++)
         printf(" %d:%ld", i, t->events[i]);
-    printf("; on units with so many ports:");
+    printf("; permanent PGNs across lists that stop others: %ld; on units with so many ports:", t->permanent);
     for (int i = FEWEST_PORTS; i <= MOST_PORTS; i++)
         printf(" %d:%ld", i, t->ports[i]);
     printf("\n");

@@ -98,12 +98,13 @@ static uint64_t find(const uint64_t *list, uint64_t n, uint64_t x)
 static void forward(struct unit *u, uint32_t ports, uint32_t from, uint32_t pgn, uint64_t head, uint64_t bytes, uint64_t *answer)
 {
     uint64_t accepted = 0, lost = 0, compared = 0;
+    bool permanent = pgn == CLAIM_PGN || pgn == REQUEST_PGN;
     const struct pair *p = pairs_from(u, ports, from);
     for (uint32_t to = 0; to < ports; to++) {
         if (to == from)
             continue;
         bool permitted = true;
-        if (p->mode != CLEARED) {
+        if (!permanent && p->mode != CLEARED) {
             uint64_t i = find(p->pgns, p->count, pgn);
             bool listed = i < p->count;
             compared += i + listed;

@@ -365,10 +365,11 @@ impl<'a> Unit<'a> {
     /// Rules 2, 3 and 5: accepted, lost, compared.
     fn forward(&mut self, from: usize, pgn: u32, head: u64, bytes: u64) -> (u64, u64, u64) {
         let (mut accepted, mut lost, mut total) = (0, 0, 0);
+        let permanent = pgn == CLAIM_PGN || pgn == REQUEST_PGN;
         let n = self.ports() - 1;
         let pairs = &self.pairs[n * from..][..n];
         for (pair, to) in pairs.iter().zip((0..=n).filter(|&to| to != from)) {
-            let (permitted, compared) = ask(pair, pgn);
+            let (permitted, compared) = if permanent { (true, 0) } else { ask(pair, pgn) };
             total += compared;
             if !permitted {
                 continue;

@@ -76,8 +76,8 @@ static void print_counts(void)
 /* Some PGNs, so that lists and frames meet. */
 static uint32_t some_pgn(void)
 {
-    static const uint32_t listed[8] = {61444, 65265, 59904, 60928, 61184, 0x1F004, 0x3FFFF, 0};
-    uint32_t pgn = below(3) == 0 ? 0xF000 + below(60) : listed[below(8)];
+    static const uint32_t listed[10] = {61444, 65265, 59904, 60928, 0x1EA00, 0x2EE00, 61184, 0x1F004, 0x3FFFF, 0};
+    uint32_t pgn = below(3) == 0 ? 0xF000 + below(60) : listed[below(10)];
     return below(40) == 0 ? below(1u << 24) : pgn;
 }
 
@@ -85,13 +85,23 @@ static uint32_t some_id(void)
 {
     uint32_t priority = below(8) << 26;
     uint32_t source = below(8) == 0 ? 0x80 : below(64) == 0 ? 254 + below(2) : below(254);
-    switch (below(8)) {
+    switch (below(9)) {
     case 0: return 0x18EEFF00u | (below(6) == 0 ? 254 : source);
     case 1: return 0x18EA0000u | (below(2) ? 0xFF00u : 0x8000u) | (below(4) == 0 ? 254 : source);
     case 2: return priority | 61184u << 8 | 0x8000u | source;
     case 3: return below(64) == 0 ? (uint32_t)next() : (uint32_t)next() & 0x1FFFFFFF;
+    case 4: return priority | (below(4) ? 0 : below(4) << 24) | (below(2) ? 0xEE0000u : 0xEA0000u) | below(256) << 8 | source;
     default: return priority | (some_pgn() & 0x3FFFF) << 8 | source;
     }
+}
+
+/* A frame of a permanent PGN that is not consumed is accepted or lost at every other port, and no entry is compared. */
+static void check_permanent(uint32_t port, uint32_t id, const uint64_t *answer)
+{
+    uint32_t pgn = id >> 8 & 0x3FF00;
+    uint64_t others = ((1u << ports) - 1) & ~(1u << (port - 1));
+    if ((pgn == 60928 || pgn == 59904) && !answer[DEORASAENG_CONSUMED])
+        check((answer[DEORASAENG_ACCEPTED] | answer[DEORASAENG_LOST]) == others && answer[DEORASAENG_COMPARED] == 0, "a permanent PGN");
 }
 
 static void some_bytes(uint8_t *bytes, uint32_t id, size_t length)

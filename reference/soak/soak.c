@@ -115,6 +115,7 @@ static void frame(void)
     check_joined(port, answer[DEORASAENG_ACCEPTED], answer[DEORASAENG_LOST], answer[DEORASAENG_OWN_LOST]);
     if (answer[DEORASAENG_CONSUMED])
         check((answer[DEORASAENG_ACCEPTED] | answer[DEORASAENG_LOST] | answer[DEORASAENG_COMPARED]) == 0, "consumed and forwarded");
+    check_permanent(port, id, answer);
     check(answer[DEORASAENG_CONSUMED] <= 1 && answer[DEORASAENG_COMPARED] <= LIST * (ports - 1), "consumed, compared");
     check(answer[DEORASAENG_EVENT] <= 7 && (answer[DEORASAENG_EVENT] == 6 || answer[DEORASAENG_OLD_NAME] == 0), "event");
 }

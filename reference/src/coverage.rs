@@ -3,8 +3,9 @@
 use std::collections::{BTreeMap, BTreeSet};
 
 use crate::address::{is_claim, is_request_for_address_claimed, name_of, ClaimState, Event, StartAnswer};
-use crate::frame::{self, Frame};
-use crate::pair::{Pair, LONGEST_LIST};
+use crate::frame::{self, Frame, PERMANENT};
+use crate::message::entries;
+use crate::pair::{added, Pair, LONGEST_LIST};
 use crate::script::{apply, is_passed_over, lines_of, read_call, Answer, Call};
 use crate::unit::{FrameAnswer, Unit, LONGEST_QUEUE, PORT_COUNTS};
 use crate::words::WORDS;
@@ -18,14 +19,31 @@ pub const STATES: [&str; 4] = ["Unstarted", "Claiming", "Claimed", "Lost"];
 /// The rows of the mode count; an emptied list is a row of its own.
 pub const MODES: [&str; 5] = ["cleared", "block", "block emptied", "pass", "pass emptied"];
 
+/// The rows of where the permanent PGNs went.
+pub const DESTINATIONS: [&str; 3] = ["all", "the unit", "another"];
+/// The rows of how long the frames of permanent PGNs were.
+pub const LENGTHS: [&str; 9] = ["0", "1", "2", "3", "4", "5", "6", "7", "8"];
+
 /// The further rows that a deep script reaches.
-pub const DEEP: [&str; 42] = [
+pub const DEEP: [&str; 54] = [
     "frame consumed",
     "frame stopped by a pair",
     "frame lost at some ports, accepted at others",
     "frame lost at every other port",
     "frame accepted at seven ports",
     "frame at the last port",
+    "permanent PGN through a cleared pair",
+    "permanent PGN through a pass pair, listed",
+    "permanent PGN through a pass pair, not listed",
+    "permanent PGN through a block pair, listed",
+    "permanent PGN through a block pair, not listed",
+    "permanent PGN lost at a full port",
+    "permanent PGN consumed",
+    "permanent PGN with a page bit stopped",
+    "permanent PGN with a page bit let through by a list",
+    "permanent PGN in a reply",
+    "permanent PGN deleted",
+    "permanent PGN that makes a list pass 32",
     "own frame lost at some ports",
     "own frame lost at every port",
     "own claim lost, forwarded frame took the last place",
@@ -156,6 +174,33 @@ impl Coverage {
         self.add_if(took_last, "own claim lost, forwarded frame took the last place");
         self.add_if(frame::sa(frame.id) == frame::NULL, "SA 254 accepted");
         self.count_claim_or_request(before, frame, answer);
+        let pairs: Vec<&Pair> = asked.iter().map(|to| &before.pairs[&(port, *to)]).collect();
+        self.count_permanent(frame, answer, &pairs);
+    }
+
+    /// A frame of a permanent PGN, or of one beside it, and the pairs that were asked.
+    fn count_permanent(&mut self, frame: &Frame, answer: &FrameAnswer, pairs: &[&Pair]) {
+        let pgn = frame::pgn(frame.id);
+        if PERMANENT.contains(&pgn) {
+            self.add(&format!("permanent to {}", destination_row(frame, answer)));
+            self.add(&format!("permanent of {}", frame.bytes.len()));
+            self.add_if(answer.consumed, "permanent PGN consumed");
+            self.add_if(!answer.lost.is_empty(), "permanent PGN lost at a full port");
+            for pair in pairs {
+                self.add(match (pair, pair.entries().contains(&pgn)) {
+                    (Pair::Cleared, _) => "permanent PGN through a cleared pair",
+                    (Pair::Pass(_), true) => "permanent PGN through a pass pair, listed",
+                    (Pair::Pass(_), false) => "permanent PGN through a pass pair, not listed",
+                    (Pair::Block(_), true) => "permanent PGN through a block pair, listed",
+                    (Pair::Block(_), false) => "permanent PGN through a block pair, not listed",
+                });
+            }
+        } else if PERMANENT.contains(&(pgn & 0xFFFF)) {
+            let stopped = pairs.iter().any(|pair| !pair.permits(pgn));
+            let listed = pairs.iter().any(|pair| pair.mode() == 1 && pair.permits(pgn));
+            self.add_if(stopped, "permanent PGN with a page bit stopped");
+            self.add_if(listed, "permanent PGN with a page bit let through by a list");
+        }
     }
 
     fn count_claim_or_request(&mut self, before: &Unit, frame: &Frame, answer: &FrameAnswer) {
@@ -213,6 +258,7 @@ impl Coverage {
             self.pair_bytes.insert((port, payload[1]));
         }
         self.add_if(answer.number == 11, "refused 11 from another port than 1");
+        self.add_if(answer.number == 16 && others_fit(before, payload), "permanent PGN that makes a list pass 32");
         let halves = [payload[1] >> 4, payload[1] & 0x0F].map(u32::from);
         let past = halves.contains(&(before.ports + 1));
         self.add_if(past && answer.number == 10, "pair with the port one past the count refused with 10");
@@ -239,7 +285,11 @@ impl Coverage {
         self.add_if(function == 0 && length == 99, "reply 1 of 99 bytes");
         self.add_if(function == 64 && length > 8, "reply 65 over 8 bytes");
         self.add_if(function == 64 && length == 255, "reply 65 of 255 bytes");
+        let shown = before.pairs.get(&(u32::from(payload[1] >> 4), u32::from(payload[1] & 0x0F)));
+        self.add_if(function == 0 && shown.is_some_and(lists_permanent), "permanent PGN in a reply");
         for (pair, list) in &after.pairs {
+            let gone = lists_permanent(&before.pairs[pair]) && !lists_permanent(list);
+            self.add_if(function == 3 && gone, "permanent PGN deleted");
             let (old, new) = (before.pairs[pair].entries().len(), list.entries().len());
             self.add_if(old != new && new == LONGEST_LIST, "list of exactly 32 reached");
             self.add_if(function == 3 && old != 0 && new == 0, "list emptied by Delete");
@@ -263,6 +313,8 @@ impl Coverage {
         lines.push(self.line_of("calls in state", &STATES, "state "));
         lines.push(self.line_of("unit told in state", &STATES, "told "));
         lines.push(self.line_of("pairs asked in mode", &MODES, "mode "));
+        lines.push(self.line_of("permanent PGNs to", &DESTINATIONS, "permanent to "));
+        lines.push(self.line_of("permanent PGNs of length", &LENGTHS, "permanent of "));
         lines.push(self.line_of("done by function", &["0", "2", "3", "4", "6", "64"], "done "));
         for row in DEEP {
             lines.push(format!("{row}: {}", self.reached(row)));
@@ -322,4 +374,26 @@ fn mode_row(pair: &Pair) -> &'static str {
         Pair::Pass(entries) if entries.is_empty() => "pass emptied",
         Pair::Pass(_) => "pass",
     }
+}
+
+fn destination_row(frame: &Frame, answer: &FrameAnswer) -> &'static str {
+    match frame::ps(frame.id) {
+        frame::GLOBAL => "all",
+        _ if answer.consumed => "the unit",
+        _ => "another",
+    }
+}
+
+fn lists_permanent(pair: &Pair) -> bool {
+    pair.entries().iter().any(|pgn| PERMANENT.contains(pgn))
+}
+
+/// Whether a command that was refused with 16 has room on every pair for its PGNs but the permanent ones.
+fn others_fit(before: &Unit, payload: &[u8]) -> bool {
+    let named = entries(payload, if payload[0] == 6 { 3 } else { 2 }).unwrap_or_default();
+    let pairs = before.pairs_named(payload[1]).unwrap_or_default();
+    pairs.iter().all(|pair| {
+        let list = added(before.pairs[pair].entries(), &named);
+        list.iter().filter(|pgn| !PERMANENT.contains(pgn)).count() <= LONGEST_LIST
+    })
 }

@@ -1,7 +1,7 @@
 //! A seeded generator of calls. It runs the unit along, so as to aim at deep states.
 
 use crate::address::ClaimState;
-use crate::frame::{is_pgn, HIGHEST_ADDRESS};
+use crate::frame::{is_pgn, HIGHEST_ADDRESS, PERMANENT};
 use crate::script::{apply, Call};
 use crate::unit::Unit;
 
@@ -103,9 +103,9 @@ struct Generator {
 }
 
 /// Numbers that are a PGN, with those of the rules and the limits of the range among them.
-const PGNS: [u32; 20] = [
-    0, 59392, 59904, 60160, 60416, 60672, 60928, 61184, 61440, 61444, 65265, 65535, 0x1EA00, 0x1EE00, 0x2EE00, 0x3EE00,
-    0x1F004, 0x2F004, 0x3EF00, 0x3FFFF,
+const PGNS: [u32; 22] = [
+    0, 59392, 59904, 60160, 60416, 60672, 60928, 61184, 61440, 61444, 65265, 65535, 0x1EA00, 0x2EA00, 0x3EA00, 0x1EE00,
+    0x2EE00, 0x3EE00, 0x1F004, 0x2F004, 0x3EF00, 0x3FFFF,
 ];
 /// Numbers that are none.
 const NOT_PGNS: [u32; 8] = [0x40000, 0xFF_FFFF, 0xEF01, 0xEEFF, 1, 0x3EF80, 0x40F0, 0xFE_F100];
@@ -267,12 +267,14 @@ impl Generator {
 // Frames.
 impl Generator {
     fn frame(&mut self) {
-        match self.random.below(20) {
+        let port = self.some_port();
+        match self.random.below(21) {
             0..=8 => self.traffic(),
             9..=13 => self.claim(),
             14..=16 => self.request(),
             17 => self.near_claim(),
             18 => self.frame_to_the_unit(),
+            19 => self.permanent(port),
             _ => self.bad_frame(),
         }
     }
@@ -389,6 +391,22 @@ impl Generator {
         self.send(port, 6, pgn, ps, sa, bytes);
     }
 
+    /// A permanent PGN, or with a page bit another one.
+    fn some_permanent(&mut self) -> u32 {
+        self.random.pick(&PERMANENT) + (self.random.pick(&[0, 0, 0, 1, 2, 3]) << 16)
+    }
+
+    /// A frame of such a PGN, of any length and to any destination.
+    fn permanent(&mut self, port: u32) {
+        let pgn = self.some_permanent();
+        let priority = self.random.below(8);
+        let (any, sa) = (self.some_ps(), self.some_sa());
+        let ps = self.random.pick(&[any, any, 255, self.unit.preferred & 0xFF]);
+        let length = self.random.below(9);
+        let bytes = self.some_bytes(length);
+        self.send(port, priority, pgn, ps, sa, bytes);
+    }
+
     fn frame_to_the_unit(&mut self) {
         let port = self.some_port();
         let pgn = self.random.pick(&[61184, 60672, 60928, 59392, 0x3EF00, 0]);
@@ -432,7 +450,7 @@ impl Generator {
 // Messages.
 impl Generator {
     fn message(&mut self) {
-        match self.random.below(26) {
+        match self.random.below(27) {
             0..=9 => self.command(),
             10..=11 => self.fill_list(),
             12 => self.all_pairs(),
@@ -442,6 +460,7 @@ impl Generator {
             19..=20 => self.boundary_length(),
             21..=22 => self.bad_body(),
             23..=24 => self.several_faults(),
+            25 => self.permanent_in_a_list(),
             _ => self.silent_refusal(),
         }
     }
@@ -572,6 +591,26 @@ impl Generator {
         let function = self.random.pick(&[0, 2, 6, 3]);
         let entries = self.different_pgns(1);
         self.hand_in(port, payload(function, byte, 1, &entries));
+    }
+
+    /// A list in either mode that names a permanent PGN, or one beside it; frames of these that meet it; its reply; a Delete.
+    fn permanent_in_a_list(&mut self) {
+        let (port, byte) = self.port_and_pair();
+        let (from, _) = self.pairs_of(byte)[0];
+        let mode = self.random.pick(&[0, 1]);
+        let count = self.random.pick(&[1, 2, 4, 31]);
+        let mut entries = self.different_pgns(count);
+        entries[0] = self.some_permanent();
+        self.hand_in(port, payload(4, byte, 0, &[]));
+        self.hand_in(port, payload(6, byte, mode, &entries));
+        (0..3).for_each(|_| self.permanent(from));
+        if byte & 0x0F != 15 {
+            self.hand_in(port, payload(0, byte, 0, &[]));
+        }
+        if self.random.once_in(2) {
+            self.hand_in(port, payload(3, byte, 0, &entries[..1]));
+        }
+        self.permanent(from);
     }
 
     fn function_sweep(&mut self) {

@@ -196,7 +196,7 @@ impl Unit {
     }
 
     /// The pairs of byte 2 in rising To order, where To may be 15, all pairs from that port.
-    fn pairs_named(&self, byte: u8) -> Result<Vec<(u32, u32)>, Number> {
+    pub(crate) fn pairs_named(&self, byte: u8) -> Result<Vec<(u32, u32)>, Number> {
         let from = u32::from(byte >> 4);
         let to = u32::from(byte & 0x0F);
         if self.all_ports().contains(&from) && to == ALL_PORTS {
@@ -226,7 +226,7 @@ fn check_eight_bytes(payload: &[u8]) -> Result<(), Number> {
 }
 
 /// The PGNs named from payload[first] on, each once, in order of first naming, or number 12.
-fn entries(payload: &[u8], first: usize) -> Result<Vec<u32>, Number> {
+pub(crate) fn entries(payload: &[u8], first: usize) -> Result<Vec<u32>, Number> {
     let after_first_entry = &payload[first + 3..];
     let has_filling = payload.len() == 8 && after_first_entry.iter().all(|&byte| byte == FILLING);
     let body = if has_filling { &payload[first..first + 3] } else { &payload[first..] };

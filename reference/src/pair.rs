@@ -1,5 +1,7 @@
 //! A directed pair of ports and its filter list ("Forwarding", rules 2 and 5).
 
+use crate::frame::PERMANENT;
+
 /// The longest filter list.
 pub const LONGEST_LIST: usize = 32;
 
@@ -43,17 +45,21 @@ impl Pair {
         }
     }
 
-    /// Forwarding rule 2.
+    /// Forwarding rule 2: a permanent PGN always, else by mode and list.
     pub fn permits(&self, pgn: u32) -> bool {
         match self {
+            _ if PERMANENT.contains(&pgn) => true,
             Pair::Cleared => true,
             Pair::Block(entries) => !entries.contains(&pgn),
             Pair::Pass(entries) => entries.contains(&pgn),
         }
     }
 
-    /// Forwarding rule 5: the place of the PGN counted from 1, or the length if absent.
+    /// Forwarding rule 5: 0 for a permanent PGN, else its place counted from 1, or the length if absent.
     pub fn compared(&self, pgn: u32) -> usize {
+        if PERMANENT.contains(&pgn) {
+            return 0;
+        }
         let entries = self.entries();
         match entries.iter().position(|&listed| listed == pgn) {
             Some(index) => index + 1,

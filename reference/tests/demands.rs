@@ -6,8 +6,8 @@ use std::collections::BTreeMap;
 
 use common::*;
 use reference::address::{ClaimState, Holder};
-use reference::coverage::{Coverage, DEEP, EVENTS, LETTERS, MODES, STATES};
-use reference::frame::{priority, Frame};
+use reference::coverage::{Coverage, DEEP, DESTINATIONS, EVENTS, LENGTHS, LETTERS, MODES, STATES};
+use reference::frame::{pgn, priority, Frame, PERMANENT};
 use reference::generate::{generate, Random};
 use reference::pair::Pair;
 use reference::script::{apply, write_call, Answer, Call};
@@ -79,6 +79,22 @@ fn demand_2_no_frame_back_and_no_other_pair() {
         (Call::PowerOn { .. }, _) => {}
         _ => assert_eq!(before.pairs, after.pairs),
     });
+}
+
+/// A claim or a request that is neither refused nor consumed is accepted or lost at every other port.
+#[test]
+fn demand_2_permanent_pgns_cross_every_pair() {
+    let mut tried = 0;
+    each_call(109, |before, call, answer, _| {
+        let (Call::Frame { port, id, .. }, Answer::Frame(Ok(given))) = (call, answer) else { return };
+        if PERMANENT.contains(&pgn(*id)) && !given.consumed {
+            let mut named: Vec<u32> = given.accepted.iter().chain(&given.lost).copied().collect();
+            named.sort();
+            assert_eq!((named, given.compared), (before.other_ports(*port), 0));
+            tried += 1;
+        }
+    });
+    assert!(tried > 300, "{tried}");
 }
 
 /// Other lists and addresses beyond those of port p.
@@ -258,6 +274,8 @@ fn generator_reaches_deep_states() {
     assert!(STATES.iter().all(|row| coverage.reached(&format!("state {row}")) > 0));
     assert!(STATES.iter().all(|row| coverage.reached(&format!("told {row}")) > 0));
     assert!(MODES.iter().all(|row| coverage.reached(&format!("mode {row}")) > 0));
+    assert!(DESTINATIONS.iter().all(|row| coverage.reached(&format!("permanent to {row}")) > 0));
+    assert!(LENGTHS.iter().all(|row| coverage.reached(&format!("permanent of {row}")) > 0));
     for ports in 2..=8 {
         assert!(coverage.reached(&format!("ports {ports}")) > 0, "{ports} ports");
     }

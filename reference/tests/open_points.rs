@@ -225,7 +225,7 @@ fn point_114_own_frames_ask_no_pair() {
     assert_eq!(PORTS.map(|port| waiting(&unit, port)), [32, 1, 1, 1]);
     let answer = frame(&mut unit, 2, 0x18EAFF05, &[0x00, 0xEE, 0x00]);
     assert_eq!((answer.accepted, answer.lost), (vec![3, 4], vec![1]));
-    assert_eq!((answer.own_lost, answer.compared), (vec![1], 3));
+    assert_eq!((answer.own_lost, answer.compared), (vec![1], 0));
 }
 
 #[test]

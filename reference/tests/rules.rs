@@ -159,15 +159,15 @@ fn claim_for_the_units_address() {
     }
 }
 
-/// A claim that a pair stops is acted on all the same.
+/// A claim that is lost at every port is acted on all the same.
 #[test]
-fn stopped_claims_are_acted_on() {
+fn lost_claims_are_acted_on() {
     let mut unit = claimed();
     for to in [2, 3, 4] {
-        set(&mut unit, 1, to, Pair::Block(vec![60928]));
+        fill(&mut unit, to, 32);
     }
     let answer = claim(&mut unit, 1, 10, 500);
-    assert_eq!((answer.accepted, answer.event, answer.compared), (vec![], Event::Recorded, 3));
+    assert_eq!((answer.accepted, answer.lost, answer.event), (vec![], vec![2, 3, 4], Event::Recorded));
 }
 
 #[test]

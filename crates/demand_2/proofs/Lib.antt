@@ -1,3 +1,4 @@
+pub mod Permanent
 pub mod Pairs
 pub mod Commands
 pub mod Privacy

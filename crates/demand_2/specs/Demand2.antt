@@ -1,13 +1,14 @@
--- Demand 2, by the contracts of the functions alone. About any records: no frame goes back, a command changes the pairs that it names, a tool sees its own.
+-- Demand 2, by the contracts of the functions alone. About any records: no frame goes back, claims and requests cross, a command changes the pairs that it names, a tool sees its own.
 -- About records that calls from power-on led to: a list that is reported and sent back is that list. Proved in proofs/Demand2.antt. The quoted words are
 -- the customer's.
 use mathlib.Core.Path.{_≡_}
 use mathlib.Core.Logic.{_⊎_, _↔_}
-use mathlib.Core.Bool.{Bool, true, false, _&&_, _||_}
+use mathlib.Core.Bool.{Bool, true, false, not, _&&_, _||_}
 use mathlib.Core.List.{List, [], _∷_}
 use Prim.Native.Nat.{ℕ, _+_, _-_, _*_, _/_, _%_, _≤_, _<_}
 use lib.ListN.{length, take, drop, getD}
-use lib.Dec.{eqb}
+use lib.Dec.{eqb, ltb}
+use Rattle.identifier.specs.Identifier.{pgnOf}
 use Rattle.delivery.specs.Calls.{Run}
 use Rattle.delivery.specs.Unit.{joinAll}
 use Rattle.filter.specs.Filter.{Filter, clear, blockSize as filterLength}
@@ -52,6 +53,13 @@ pub record NotBack (words : List ℕ) (port id : ℕ) (bytes : List ℕ) (r : Fr
       ≡ joinAll size (rowAt (unitIn words) (port - 1)) (framesSent (frameDone (restOf words) port (frameOf id bytes) .sent)))
   pub accepted : bitAt (r .accepted) (port - 1) ≡ false
   pub lost : bitAt (r .lost) (port - 1) ≡ false
+
+-- ---- document 02, ticket 3: "PGNs 60928 and 59904 cross every pair whatever its mode and list, given room. .. Their compared count is 0."
+-- At every port but the arrival port such a frame is accepted, or lost where 32 wait, whatever the lists hold.
+pub record Crossing (words : List ℕ) (port : ℕ) (r : FrameAnswer) : Type 0 where
+  pub accepted : (q : ℕ) → isPort (portsOf words) q ≡ true → (port ≡ q → ⊥) → bitAt (r .accepted) (q - 1) ≡ ltb (length (rowAt (unitIn words) (q - 1))) 32
+  pub lost : (q : ℕ) → isPort (portsOf words) q ≡ true → (port ≡ q → ⊥) → bitAt (r .lost) (q - 1) ≡ not (ltb (length (rowAt (unitIn words) (q - 1))) 32)
+  pub compared : r .compared ≡ 0
 
 -- ---- "A command changes the pairs it names and no other."
 -- The pairs that a payload names, by its own bytes: in functions 2, 3, 4 and 6, "byte 2 holds From in the upper four bits, To in the lower. To may be 15,
@@ -104,6 +112,9 @@ pub record MayCreate (words : List ℕ) (port requester a b : ℕ) (lent : List 
 -- ---- the whole
 pub record Demand2 : Type 0 where
   pub not-back : {words bytes after : List ℕ} {port id : ℕ} {r : FrameAnswer} → Arrived words port id bytes r after → NotBack words port id bytes r after
+  -- a frame of such a PGN that is neither refused nor consumed
+  pub always : {words bytes after : List ℕ} {port id : ℕ} {r : FrameAnswer} → Arrived words port id bytes r after
+      → r .refusal ≡ 0 → r .consumed ≡ false → (pgnOf id ≡ 60928) ⊎ (pgnOf id ≡ 59904) → Crossing words port r
   pub only-named : {words payload lent after back : List ℕ} {port requester : ℕ} {r : MessageAnswer} → Handed words port requester payload lent r after back
       → OnlyNamed words port payload after
   -- two records that a tool on port p cannot tell apart, the same message, the same buffer

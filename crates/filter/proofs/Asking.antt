@@ -11,7 +11,7 @@ use Rattle.entries.specs.Entries.{listed}
 use Rattle.pgn_list.specs.Steps.{indexOf, Finding}
 use Rattle.pgn_list.proofs.Search.{index-listed, index-absent}
 use Rattle.filter.specs.declared.Asked.{Asked}
-use Rattle.filter.specs.Filter.{modePlace, countPlace, listOf, filterOf, meant, place, permits, asked, Asking, Counting}
+use Rattle.filter.specs.Filter.{modePlace, countPlace, listOf, filterOf, meant, place, permits, isPermanent, asked, Asking, Counting}
 use Rattle.filter.proofs.Meaning.{front, permits-test}
 
 -- ---- the place, by the index at which a search stopped
@@ -37,16 +37,20 @@ index-end x (y ∷ ys) h = go (eqb y x) h (index-end x ys)
 abbrev answer : Bool → ℕ → Asked
 answer p n = record { permitted = p; compared = n }
 
-pub ask-cleared : {words : List ℕ} {pgn : ℕ} → getD words modePlace 0 ≡ 0 → Asking words pgn (answer true 0)
+pub ask-permanent : {words : List ℕ} {pgn : ℕ} → isPermanent pgn ≡ true → Asking words pgn (answer true 0)
+unfolding asked
+ask-permanent h = record { answer = rw h; small = zero-le }
+
+pub ask-cleared : {words : List ℕ} {pgn : ℕ} → isPermanent pgn ≡ false → getD words modePlace 0 ≡ 0 → Asking words pgn (answer true 0)
 unfolding asked filterOf meant permits place
-ask-cleared h = record { answer = rw h refl; small = zero-le }
+ask-cleared other h = record { answer = rw (other, h) refl; small = zero-le }
 
 -- a pair that is not cleared answers by its list
-by-list : (words : List ℕ) (pgn p : ℕ) (here : Bool) → (getD words modePlace 0 ≡ 0 → ⊥) → listed pgn (filterOf words .entries) ≡ here → place pgn (filterOf words .entries) ≡ p → answer (cond here (ltb 1 (getD words modePlace 0)) (eqb (getD words modePlace 0) 1)) p ≡ asked (filterOf words) pgn
+by-list : (words : List ℕ) (pgn p : ℕ) (here : Bool) → isPermanent pgn ≡ false → (getD words modePlace 0 ≡ 0 → ⊥) → listed pgn (filterOf words .entries) ≡ here → place pgn (filterOf words .entries) ≡ p → answer (cond here (ltb 1 (getD words modePlace 0)) (eqb (getD words modePlace 0) 1)) p ≡ asked (filterOf words) pgn
 unfolding asked filterOf
-by-list words pgn p here h l q = rw (l, q, permits-test (getD words modePlace 0) (take (getD words countPlace 0) (listOf words)) here h)
+by-list words pgn p here other h l q = rw (other, l, q, permits-test (getD words modePlace 0) (take (getD words countPlace 0) (listOf words)) here h)
 
-module _ {words : List ℕ} {pgn n i : ℕ} (listing : getD words modePlace 0 ≡ 0 → ⊥) (C : Counting words n) (F : Finding (listOf words) n pgn i) where
+module _ {words : List ℕ} {pgn n i : ℕ} (other : isPermanent pgn ≡ false) (listing : getD words modePlace 0 ≡ 0 → ⊥) (C : Counting words n) (F : Finding (listOf words) n pgn i) where
   index : i ≡ indexOf pgn (filterOf words .entries)
   index = F .index ∙ rw (front C)
 
@@ -54,7 +58,7 @@ module _ {words : List ℕ} {pgn n i : ℕ} (listing : getD words modePlace 0 �
   ask-found h =
       let inside : indexOf pgn (filterOf words .entries) < length (filterOf words .entries) = omega (arith, index, C .number) in
       record {
-        answer = by-list words pgn (i + 1) true listing (index-listed pgn (filterOf words .entries) inside) (omega (arith, index-place pgn (filterOf words .entries) inside, index));
+        answer = by-list words pgn (i + 1) true other listing (index-listed pgn (filterOf words .entries) inside) (omega (arith, index-place pgn (filterOf words .entries) inside, index));
         small = omega (arith, C .small);
       }
 
@@ -62,6 +66,6 @@ module _ {words : List ℕ} {pgn n i : ℕ} (listing : getD words modePlace 0 �
   ask-absent h =
       let past : length (filterOf words .entries) ≤ indexOf pgn (filterOf words .entries) = omega (arith, index, C .number) in
       record {
-        answer = by-list words pgn n false listing (index-absent pgn (filterOf words .entries) past) (index-end pgn (filterOf words .entries) past ∙ sym (C .number));
+        answer = by-list words pgn n false other listing (index-absent pgn (filterOf words .entries) past) (index-end pgn (filterOf words .entries) past ∙ sym (C .number));
         small = C .small;
       }

@@ -1,11 +1,12 @@
 -- One directed pair's filter: what its block of words means, and what asking it answers.
 -- Assumes nothing.
 use Prim.Native.Nat.{ℕ, zero, suc, _+_, _≤_}
-use mathlib.Core.Bool.{Bool, true, false, cond, not}
+use mathlib.Core.Bool.{Bool, true, false, cond, not, _||_}
 use mathlib.Core.Path.{_≡_}
 use mathlib.Core.List.{List, [], _∷_}
 use lib.ListN.{length, take, drop, getD}
 use lib.Dec.{eqb}
+use Rattle.identifier.specs.Identifier.{request, addressClaimed}
 use Rattle.entries.specs.Entries.{listed}
 use Rattle.pgn_list.specs.PgnList.{listSize}
 use Rattle.filter.specs.declared.Asked.{Asked}
@@ -68,9 +69,16 @@ unfoldable pub place : ℕ → List ℕ → ℕ
 place x [] = 0
 place x (y ∷ ys) = cond (eqb y x) 1 (suc (place x ys))
 
--- what asking a pair answers; a cleared pair has no entries, so it compares 0
+-- document 02, ticket 3: address claims and requests, by the PGN alone, cross every pair whatever its mode and list
+unfoldable pub isPermanent : ℕ → Bool
+isPermanent pgn = eqb pgn addressClaimed || eqb pgn request
+
+-- what asking a pair answers: a permanent PGN is looked up in no list; a cleared pair has no entries, so it compares 0
 unfoldable pub asked : Filter → ℕ → Asked
-asked f pgn = record { permitted = permits (f .mode) (listed pgn (f .entries)); compared = place pgn (f .entries) }
+asked f pgn =
+    cond (isPermanent pgn)
+    (record { permitted = true; compared = 0 })
+    (record { permitted = permits (f .mode) (listed pgn (f .entries)); compared = place pgn (f .entries) })
 
 -- function 0: the mode as it is reported; a cleared pair shows mode 0
 unfoldable pub reportedMode : Mode → ℕ

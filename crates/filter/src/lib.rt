@@ -3,7 +3,7 @@ use pgn_list::LIST_SIZE;
 ghost use mathlib.Core.Path.{_≡_};
 ghost use Prim.Native.Nat.{_<_};
 ghost use lib.ListN.{length, getD};
-ghost use Rattle.filter.specs.Filter.{blockSize, filterOf, isCleared, reportedMode, Asking, Counting};
+ghost use Rattle.filter.specs.Filter.{blockSize, filterOf, isCleared, reportedMode, isPermanent, Asking, Counting};
 
 // The words of a block.
 pub const BLOCK_SIZE: usize = 34;
@@ -71,11 +71,27 @@ pub fn pgn_at(block: &[u64], i: usize) -> u64
     block[at]
 }
 
+// Whether a PGN is permanent: address claims and requests cross every pair.
+pub fn is_permanent(pgn: u32) -> bool
+    ensures { λ r. ⌜ r ≡ isPermanent pgn ⌝ }
+{
+    if pgn == identifier::ADDRESS_CLAIMED {
+        return true;
+    }
+    pgn == identifier::REQUEST
+}
+
 // Whether the pair permits a PGN, and how many entries were compared: forwarding rules 2 and 5.
 pub fn ask(block: &[u64], pgn: u32) -> Asked
     requires { ⌜ length (now block) ≡ blockSize ⌝ }
     ensures { λ r. ⌜ Asking (now (block .entry)) pgn r ⌝ }
 {
+    if is_permanent(pgn) {
+        return Asked {
+            permitted: true,
+            compared: 0,
+        };
+    }
     let mode = block[MODE];
     if mode == CLEARED {
         return Asked {

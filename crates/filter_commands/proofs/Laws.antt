@@ -11,7 +11,8 @@ use lib.Dec.{ltb, eqb}
 use lib.ListN.{length, replicate, length-append}
 use Rattle.identifier.specs.Identifier.{isPgn}
 use Rattle.entries.proofs.Reported.{pgns-small, reported-back}
-use Rattle.filter.specs.Filter.{blockSize, Mode, cleared, block, pass, Filter, clear, meant, filterOf, permits, place, asked, reportedMode, isCleared}
+use Rattle.filter.specs.declared.Asked.{Asked}
+use Rattle.filter.specs.Filter.{blockSize, Mode, cleared, block, pass, Filter, clear, meant, filterOf, permits, place, isPermanent, asked, reportedMode, isCleared}
 use Rattle.pgn_list.specs.PgnList.{listSize, addOne, addAll, deleteAll, once}
 use Rattle.entries.specs.Entries.{listed, entriesOf, every, reported}
 use Rattle.filter_commands.specs.Changes.{wouldPass, lacks, mayAdd, mayDelete, mayCreate, added, deleted, modeFor, created, Sound}
@@ -25,9 +26,17 @@ pub fresh-cleared : filterOf (replicate blockSize 0) ≡ clear
 unfolding filterOf meant
 fresh-cleared = refl
 
-pub cleared-permits : (pgn : ℕ) → asked clear pgn ≡ record { permitted = true; compared = 0 }
+-- an answer that compared nothing
+abbrev at-once : Bool → Asked
+at-once permitted = record { permitted = permitted; compared = 0 }
+
+pub cleared-permits : (pgn : ℕ) → asked clear pgn ≡ at-once true
 unfolding asked permits place
-cleared-permits pgn = refl
+cleared-permits pgn = go (isPermanent pgn)
+  where
+    go : (b : Bool) → cond b (at-once true) (at-once true) ≡ at-once true
+    go true = refl
+    go false = refl
 
 -- "cleared" is not "block with no entries"
 pub cleared-not-block : (es : List ℕ) → clear ≡ record { mode = block; entries = es } → ⊥
@@ -36,10 +45,14 @@ cleared-not-block es e =
     let z : _≡_ {A = ℕ} 0 1 = cc in
     omega arith
 
--- a pass pair with no entries permits nothing
-pub emptied-pass : (pgn : ℕ) → asked (record { mode = pass; entries = [] }) pgn ≡ record { permitted = false; compared = 0 }
+-- a pass pair with no entries permits nothing but the permanent PGNs
+pub emptied-pass : (pgn : ℕ) → asked (record { mode = pass; entries = [] }) pgn ≡ at-once (isPermanent pgn)
 unfolding asked permits listed place
-emptied-pass pgn = refl
+emptied-pass pgn = go (isPermanent pgn)
+  where
+    go : (b : Bool) → cond b (at-once true) (at-once false) ≡ at-once b
+    go true = refl
+    go false = refl
 
 -- ---- sound: a cleared pair has no entries, no PGN twice, no more than a list holds
 -- what holds of a filter, and of what a command makes of it if it may be done, holds after the command

@@ -3,7 +3,7 @@ use mathlib.Core.Path.{_≡_, refl, ap, _∙_}
 use mathlib.Core.Bool.{Bool, cond}
 use mathlib.Core.List.{List, [], _∷_}
 use Prim.Native.Nat.{ℕ, _+_, _*_, _^_, _≤_, _<_}
-use native.Mathlib.Nat.{pow-succ', pow-le-pow-right}
+use native.Mathlib.Nat.{add-zero, pow-succ', pow-le-pow-right}
 use native.Mathlib.Numerals.{add-one}
 use native.Mathlib.Omega.{arith}
 use lib.ListN.{length}
@@ -53,7 +53,7 @@ module _ {ports : ℕ} {start : List ℕ} {change : ℕ → List Frame → List 
       state = (rw (A .state) at e) ∙ ap (withRows (modelOf ports start)) (each-step change n (modelOf ports start .rows) [] (omega (arith, rows-long ports start)));
     }
 
-    bit-small : n < ports → bit ≤ 128
+    pub bit-small : n < ports → bit ≤ 128
     bit-small h = rw (A .weight) (pow-le-pow-right {n = 2} (omega arith) {i = n} {j = 7} (omega (arith, A .few)))
 
     -- a set of ports below n with port n, or without it
@@ -111,6 +111,12 @@ module _ {ports : ℕ} {start : List ℕ} {question : ℕ → Asked} {f : Frame}
           omega (arith, S .small, G .small, G .along .few),
           omega (arith, bit-small (G .along) more),
         )
+
+  -- where nothing is asked, nothing is added
+  pub going-self : {words : List ℕ} {accepted lost compared bit n : ℕ} → Going ports start question f words accepted lost compared bit n → n < ports
+      → Sending ports words words (question n) n bit f (record { accepted = 0; lost = 0; compared = 0 }) → Going ports start question f words accepted lost compared (2 * bit) (n + 1)
+  going-self {accepted = accepted} {lost = lost} {compared = compared} G more S =
+      rw (add-zero accepted, add-zero lost, add-zero compared) at (going-more G S more (G .along .whole))
 
 -- ---- the unit's own frame
 pub record Telling (ports : ℕ) (start : List ℕ) (f : Frame) (words : List ℕ) (lost bit n : ℕ) : Type 0 where

@@ -13,10 +13,11 @@ use Rattle.queue.specs.declared.Frame.{Frame}
 use Rattle.queue.specs.Queue.{size}
 use Rattle.unit.specs.declared.Sent.{Sent}
 use Rattle.unit.specs.Ports.{each, mask, total}
-use Rattle.unit.specs.Model.{Model, rowAt, withRow, withRows, pairsFrom, modelOf}
+use Rattle.unit.specs.Model.{Model, rowAt, withRow, withRows, pairsFrom, pairAt, modelOf}
+use Rattle.unit.specs.Count.{pairCount}
 use Rattle.unit.specs.Own.{framesSent}
 use Rattle.forwarding.specs.declared.Share.{Share}
-use Rattle.forwarding.specs.Forwarding.{sentIf, accepts, loses, losesOwn}
+use Rattle.forwarding.specs.Forwarding.{verdict, sentIf, accepts, loses, losesOwn}
 
 -- ---- any change of the rows at the first n ports, each by itself
 abbrev pub changedTo : ℕ → Model → (ℕ → List Frame → List Frame) → Model
@@ -30,6 +31,12 @@ pub record Sending (ports : ℕ) (before after : List ℕ) (v : Asked) (q bit : 
   pub answer : r ≡ share bit v (rowAt (modelOf ports before) q)
   pub state : modelOf ports after ≡ withRow (modelOf ports before) q (joinAll size (rowAt (modelOf ports before) q) (sentIf v f))
   pub small : r .compared ≤ listSize
+
+-- from any other port, by the pair whose filter begins at a word, whatever the number of ports
+abbrev pub SendingAt : (before after : List ℕ) (at q bit pgn : ℕ) (f : Frame) (r : Share) → Type 0
+SendingAt before after at q bit pgn f r =
+    (ports p : ℕ) → q < ports → (p ≡ q → ⊥) → pairAt ports p q < pairCount ports → at ≡ pairsFrom ports + filterLength * pairAt ports p q
+    → Sending ports before after (verdict ports (modelOf ports before .rest .pairs) p pgn q) q bit f r
 
 -- where the filter begins that port p's frame meets next, before port n: port p itself has none
 abbrev pub Standing : ℕ → ℕ → ℕ → ℕ → Type 0

@@ -6,10 +6,9 @@ ghost use Prim.Native.Nat.{ℕ, _+_, _*_, _≤_, _<_};
 ghost use lib.ListN.{length};
 ghost use Rattle.queue.specs.Queue.{blockLength as queueLength};
 ghost use Rattle.filter.specs.Filter.{blockSize as filterLength};
-ghost use Rattle.unit.specs.Count.{pairCount};
-ghost use Rattle.unit.specs.Model.{modelOf, recordLength, rowsFrom, pairsFrom, pairAt};
+ghost use Rattle.unit.specs.Model.{modelOf, recordLength, rowsFrom};
 ghost use Rattle.forwarding.specs.Forwarding.{verdict};
-ghost use Rattle.forwarding.specs.Steps.{Sending, Standing, Forwarding, Announcing, OwnJoining};
+ghost use Rattle.forwarding.specs.Steps.{SendingAt, Forwarding, Announcing, OwnJoining};
 
 // What came of a frame: accepted and lost ports as masks, bit p - 1 for port p, and the entries compared.
 pub struct Share {
@@ -18,16 +17,10 @@ pub struct Share {
     pub compared: u32,
 }
 
-// A frame at one port, and the word where the next port's filter begins.
-struct Passed {
-    share: Share,
-    next: usize,
-}
-
 // A frame from one port at another: the pair, whose filter begins at a word, is asked, and the frame joins where it is permitted.
 fn send(words: &mut [u64], at: usize, to: usize, bit: u32, pgn: u32, f: Frame) -> Share
     requires { ⌜ (at + filterLength ≤ length (now words)) × (rowsFrom + queueLength * to + queueLength ≤ length (now words)) ⌝ }
-    ensures { λ r. ⌜ ((ports from : ℕ) → to < ports → (from ≡ to → ⊥) → pairAt ports from to < pairCount ports → at ≡ pairsFrom ports + filterLength * pairAt ports from to → Sending ports (now (words .entry)) (now (words .exit)) (verdict ports (modelOf ports (now (words .entry)) .rest .pairs) from pgn to) to bit f r) ⌝ }
+    ensures { λ r. ⌜ SendingAt (now (words .entry)) (now (words .exit)) at to bit pgn f r ⌝ }
 {
     let v = record::ask_filter(words, at, pgn);
     let compared = v.compared;
@@ -53,34 +46,7 @@ fn send(words: &mut [u64], at: usize, to: usize, bit: u32, pgn: u32, f: Frame) -
     }
 }
 
-// A frame from one port at any: nothing is asked at the port itself, and it has no filter to pass.
-fn pass(
-    words: &mut [u64],
-    ports: usize,
-    from: usize,
-    at: usize,
-    to: usize,
-    bit: u32,
-    pgn: u32,
-    f: Frame,
-) -> Passed
-    requires { ⌜ (ports ≤ 8) × (length (now words) ≡ recordLength ports) × (from < ports) × (to < ports) × Standing ports from at to ⌝ }
-    ensures { λ r. ⌜ Sending ports (now (words .entry)) (now (words .exit)) (verdict ports (modelOf ports (now (words .entry)) .rest .pairs) from pgn to) to bit f (r .share) × Standing ports from (r .next) (to + 1) ⌝ }
-{
-    if from == to {
-        let share = Share {
-            accepted: 0,
-            lost: 0,
-            compared: 0,
-        };
-        return Passed { share, next: at };
-    }
-    let share = send(words, at, to, bit, pgn, f);
-    let next = at + filter::BLOCK_SIZE;
-    Passed { share, next }
-}
-
-// A frame from one port at every other, along the filters of the pairs from it.
+// A frame from one port at every other, along the filters of the pairs from it; the port itself has none.
 pub fn forward(words: &mut [u64], ports: usize, from: usize, pgn: u32, f: Frame) -> Share
     requires { ⌜ (ports ≤ 8) × (length (now words) ≡ recordLength ports) × (from < ports) ⌝ }
     ensures { λ r. ⌜ Forwarding ports (now (words .entry)) (now (words .exit)) (verdict ports (modelOf ports (now (words .entry)) .rest .pairs) from pgn) f r ⌝ }
@@ -92,11 +58,13 @@ pub fn forward(words: &mut [u64], ports: usize, from: usize, pgn: u32, f: Frame)
     let mut at = record::filters_from(ports, from);
     let mut to: usize = 0;
     while to < ports {
-        let p = pass(words, ports, from, at, to, bit, pgn, f);
-        accepted += p.share.accepted;
-        lost += p.share.lost;
-        compared += p.share.compared;
-        at = p.next;
+        if from != to {
+            let s = send(words, at, to, bit, pgn, f);
+            accepted += s.accepted;
+            lost += s.lost;
+            compared += s.compared;
+            at += filter::BLOCK_SIZE;
+        }
         bit = 2 * bit;
         to += 1;
     }
