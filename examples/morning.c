@@ -23,6 +23,9 @@ static const char *words_of(uint32_t number)
 /* By claim state. */
 static const char *const states[] = {"Unstarted", "Claiming", "Claimed", "Lost"};
 
+/* By reason. */
+static const char *const reasons[] = {"not asked", "permanent", "cleared", "listed in pass", "not listed in block", "stopped as listed", "stopped as not listed"};
+
 static void print_bytes(const uint8_t *bytes, uint64_t length)
 {
     for (uint64_t i = 0; i < length; i++)
@@ -79,6 +82,8 @@ static void frame(uint32_t port, uint32_t id, const uint8_t *bytes, size_t len)
             printf(" from %016" PRIX64, answer[DEORASAENG_OLD_NAME]);
         print_ports("own frame lost at", answer[DEORASAENG_OWN_LOST]);
         printf(", compared %" PRIu64, answer[DEORASAENG_COMPARED]);
+        for (uint32_t to = 1; to <= 4; to++)
+            printf(", %" PRIu32 ": %s", to, reasons[DEORASAENG_REASON(answer[DEORASAENG_REASONS], to)]);
     }
     printf("\n");
 }

@@ -323,7 +323,7 @@ static double time_of(const struct side *side, const struct row *r, long calls)
 /* The sides do the same on a row, and give its number. */
 static void check_row(const struct row *r)
 {
-    static uint64_t first[MOST_WORDS], answer[8];
+    static uint64_t first[MOST_WORDS], answer[ANSWER_WORDS];
     for (int s = 0; s < SIDES; s++) {
         make(r);
         memset(&lent, 0, sizeof lent);

@@ -171,7 +171,7 @@ void make_call(struct call *c, const uint64_t *record)
     c->preferred = one_in(8) ? below(300) : own_address;
     static const size_t answers[KINDS] = {DEORASAENG_FRAME_ANSWER, DEORASAENG_TAKE_ANSWER, DEORASAENG_MESSAGE_ANSWER, DEORASAENG_START_ANSWER, 0,
                                           DEORASAENG_UNIT_ANSWER};
-    c->answer_len = one_in(256) ? below(9) : answers[c->kind];
+    c->answer_len = one_in(256) ? below(ANSWER_WORDS + 1) : answers[c->kind];
     if (c->kind == FRAME)
         make_frame(c);
     if (c->kind == MESSAGE)
@@ -220,8 +220,8 @@ bool same_record(const uint64_t *a, const uint64_t *b)
     return !memcmp(x, y, sizeof x);
 }
 
-/* One more than the highest number. */
-enum { NUMBERS = DEORASAENG_WRONG_PORT_COUNT + 1 };
+/* One more than the highest number, and the highest reason. */
+enum { NUMBERS = DEORASAENG_WRONG_PORT_COUNT + 1, REASONS = DEORASAENG_REASON_STOPPED_AS_NOT_LISTED + 1 };
 
 static bool is_number(int i)
 {
@@ -230,7 +230,7 @@ static bool is_number(int i)
 
 /* What came of the calls, so that one sees that nothing was left untried. */
 struct tally {
-    long numbers[NUMBERS], events[8], done[65], ports[MOST_PORTS + 1], full, longest, permanent;
+    long numbers[NUMBERS], events[8], reasons[REASONS], done[65], ports[MOST_PORTS + 1], full, longest, permanent;
 };
 
 /* How many lists on a frame's way would stop it if its PGN, which is permanent, were not. */
@@ -257,6 +257,8 @@ static void count(struct tally *t, const struct call *c, const struct lent *l, u
     if (number == 0 && c->kind == FRAME) {
         t->events[l->answer[DEORASAENG_EVENT]]++;
         t->permanent += l->answer[DEORASAENG_CONSUMED] ? 0 : crossed(c, l->record);
+        for (uint32_t port = 1; port <= ports_of(l->record, MOST_WORDS); port++)
+            t->reasons[DEORASAENG_REASON(l->answer[DEORASAENG_REASONS], port)]++;
     }
     if (number == 0 && c->kind == MESSAGE) {
         t->done[c->payload[0]]++;
@@ -274,6 +276,8 @@ static bool is_whole(const struct tally *t, long calls)
         whole &= t->ports[i] > 0;
     for (int i = 0; i < 8; i++)
         whole &= t->events[i] > 0;
+    for (int i = 0; i < REASONS; i++)
+        whole &= t->reasons[i] > 0;
     printf("%ld random calls: the three sides agree. Messages done: Request %ld (%ld of 32 PGNs), Add %ld, Delete %ld, Clear %ld, Create %ld, addresses %ld; %ld of 594 entries.\n",
            calls, t->done[0], t->full, t->done[2], t->done[3], t->done[4], t->done[6], t->done[64], t->longest);
     printf("Refused, by number:");
@@ -283,6 +287,9 @@ static bool is_whole(const struct tally *t, long calls)
     printf("; claim events:");
     for (int i = 1; i < 8; i++)
         printf(" %d:%ld", i, t->events[i]);
+    printf("; reasons:");
+    for (int i = 0; i < REASONS; i++)
+        printf(" %d:%ld", i, t->reasons[i]);
     printf("; permanent PGNs across lists that stop others: %ld; on units with so many ports:", t->permanent);
     for (int i = FEWEST_PORTS; i <= MOST_PORTS; i++)
         printf(" %d:%ld", i, t->ports[i]);

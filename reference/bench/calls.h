@@ -6,7 +6,8 @@
 #include "twin.h"
 #include <stdbool.h>
 
-enum { SIDES = 3, LONGEST = DEORASAENG_REPLY_BYTES };
+/* The longest answer, a frame's, and a word more. */
+enum { SIDES = 3, LONGEST = DEORASAENG_REPLY_BYTES, ANSWER_WORDS = DEORASAENG_FRAME_ANSWER + 1 };
 
 struct side {
     const char *name;
@@ -35,7 +36,7 @@ struct call {
 
 /* What a call is lent. */
 struct lent {
-    uint64_t record[MOST_WORDS + 1], answer[8];
+    uint64_t record[MOST_WORDS + 1], answer[ANSWER_WORDS];
     uint8_t bytes[16], reply[LONGEST + 15];
 };
 

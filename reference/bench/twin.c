@@ -97,21 +97,25 @@ static uint64_t find(const uint64_t *list, uint64_t n, uint64_t x)
 /* Rules 2, 3 and 5. */
 static void forward(struct unit *u, uint32_t ports, uint32_t from, uint32_t pgn, uint64_t head, uint64_t bytes, uint64_t *answer)
 {
-    uint64_t accepted = 0, lost = 0, compared = 0;
+    uint64_t accepted = 0, lost = 0, compared = 0, reasons = 0;
     bool permanent = pgn == CLAIM_PGN || pgn == REQUEST_PGN;
     const struct pair *p = pairs_from(u, ports, from);
     for (uint32_t to = 0; to < ports; to++) {
         if (to == from)
             continue;
-        bool permitted = true;
+        uint64_t reason = permanent ? DEORASAENG_REASON_PERMANENT : DEORASAENG_REASON_CLEARED;
         if (!permanent && p->mode != CLEARED) {
             uint64_t i = find(p->pgns, p->count, pgn);
             bool listed = i < p->count;
             compared += i + listed;
-            permitted = listed == (p->mode == PASS);
+            if (p->mode == PASS)
+                reason = listed ? DEORASAENG_REASON_LISTED_IN_PASS : DEORASAENG_REASON_STOPPED_AS_NOT_LISTED;
+            else
+                reason = listed ? DEORASAENG_REASON_STOPPED_AS_LISTED : DEORASAENG_REASON_NOT_LISTED_IN_BLOCK;
         }
         p++;
-        if (!permitted)
+        reasons |= reason << 4 * to;
+        if (reason >= DEORASAENG_REASON_STOPPED_AS_LISTED)
             continue;
         if (join(&u->queues[to], head, bytes))
             accepted |= 1u << to;
@@ -121,6 +125,7 @@ static void forward(struct unit *u, uint32_t ports, uint32_t from, uint32_t pgn,
     answer[DEORASAENG_ACCEPTED] = accepted;
     answer[DEORASAENG_LOST] = lost;
     answer[DEORASAENG_COMPARED] = compared;
+    answer[DEORASAENG_REASONS] = reasons;
 }
 
 /* ---- addresses */
@@ -210,7 +215,7 @@ uint32_t c_frame(uint64_t *record, size_t record_len, uint32_t port, uint32_t id
     bool consumed = pf < 240 && holds_address(u) && ps == u->address;
     answer[DEORASAENG_CONSUMED] = consumed;
     if (consumed)
-        answer[DEORASAENG_ACCEPTED] = answer[DEORASAENG_LOST] = answer[DEORASAENG_COMPARED] = 0;
+        answer[DEORASAENG_ACCEPTED] = answer[DEORASAENG_LOST] = answer[DEORASAENG_COMPARED] = answer[DEORASAENG_REASONS] = 0;
     else
         forward(u, ports, port - 1, pgn, id | (uint64_t)len << 32, word, answer);
     answer[DEORASAENG_EVENT] = answer[DEORASAENG_OLD_NAME] = answer[DEORASAENG_OWN_LOST] = 0;

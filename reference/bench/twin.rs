@@ -31,6 +31,15 @@ const CLAIM_PGN: u32 = 60928;
 const REPLY_PGN: u64 = 60672;
 const ACKNOWLEDGMENT_PGN: u64 = 59392;
 
+mod reason {
+    pub const PERMANENT: u64 = 1;
+    pub const CLEARED: u64 = 2;
+    pub const LISTED_IN_PASS: u64 = 3;
+    pub const NOT_LISTED_IN_BLOCK: u64 = 4;
+    pub const STOPPED_AS_LISTED: u64 = 5;
+    pub const STOPPED_AS_NOT_LISTED: u64 = 6;
+}
+
 const REQUEST: u8 = 0;
 const ADD: u8 = 2;
 const DELETE: u8 = 3;
@@ -83,6 +92,7 @@ struct FrameAnswer {
     event: Event,
     own_lost: u64,
     compared: u64,
+    reasons: u64,
 }
 
 struct Taken {
@@ -124,15 +134,17 @@ fn entries_of(pair: &Pair) -> &[u64] {
     }
 }
 
-/// Whether a pair permits a PGN, and the entries compared.
-fn ask(pair: &Pair, pgn: u32) -> (bool, u64) {
+/// Why a pair lets a PGN through or stops it, and the entries compared.
+fn ask(pair: &Pair, pgn: u32) -> (u64, u64) {
     if pair[0] == CLEARED {
-        return (true, 0);
+        return (reason::CLEARED, 0);
     }
     let entries = entries_of(pair);
-    match entries.iter().position(|&x| x == u64::from(pgn)) {
-        Some(i) => (pair[0] == PASS, i as u64 + 1),
-        None => (pair[0] == BLOCK, entries.len() as u64),
+    match (pair[0], entries.iter().position(|&x| x == u64::from(pgn))) {
+        (PASS, Some(i)) => (reason::LISTED_IN_PASS, i as u64 + 1),
+        (PASS, None) => (reason::STOPPED_AS_NOT_LISTED, entries.len() as u64),
+        (_, Some(i)) => (reason::STOPPED_AS_LISTED, i as u64 + 1),
+        (_, None) => (reason::NOT_LISTED_IN_BLOCK, entries.len() as u64),
     }
 }
 
@@ -362,16 +374,17 @@ impl<'a> Unit<'a> {
         (Event::Displaced, Some(own_id(NO_ADDRESS)))
     }
 
-    /// Rules 2, 3 and 5: accepted, lost, compared.
-    fn forward(&mut self, from: usize, pgn: u32, head: u64, bytes: u64) -> (u64, u64, u64) {
-        let (mut accepted, mut lost, mut total) = (0, 0, 0);
+    /// Rules 2, 3 and 5: accepted, lost, compared, reasons.
+    fn forward(&mut self, from: usize, pgn: u32, head: u64, bytes: u64) -> (u64, u64, u64, u64) {
+        let (mut accepted, mut lost, mut total, mut reasons) = (0, 0, 0, 0);
         let permanent = pgn == CLAIM_PGN || pgn == REQUEST_PGN;
         let n = self.ports() - 1;
         let pairs = &self.pairs[n * from..][..n];
         for (pair, to) in pairs.iter().zip((0..=n).filter(|&to| to != from)) {
-            let (permitted, compared) = if permanent { (true, 0) } else { ask(pair, pgn) };
+            let (reason, compared) = if permanent { (reason::PERMANENT, 0) } else { ask(pair, pgn) };
             total += compared;
-            if !permitted {
+            reasons |= reason << (4 * to);
+            if reason >= reason::STOPPED_AS_LISTED {
                 continue;
             }
             if join(&mut self.queues[to], head, bytes) {
@@ -380,7 +393,7 @@ impl<'a> Unit<'a> {
                 lost |= 1 << to;
             }
         }
-        (accepted, lost, total)
+        (accepted, lost, total, reasons)
     }
 
     fn frame(&mut self, port: usize, id: u32, bytes: &[u8]) -> Result<FrameAnswer, u32> {
@@ -398,7 +411,7 @@ impl<'a> Unit<'a> {
         let word = pack(bytes);
         let consumed = pf < 240 && self.is_own(u64::from(ps));
         let head = u64::from(id) | (bytes.len() as u64) << 32;
-        let (accepted, lost, compared) = if consumed { (0, 0, 0) } else { self.forward(port - 1, pgn, head, word) };
+        let (accepted, lost, compared, reasons) = if consumed { (0, 0, 0, 0) } else { self.forward(port - 1, pgn, head, word) };
         let (event, own) = if pgn == CLAIM_PGN && ps == 255 && bytes.len() == 8 {
             self.claim(port as u64, sa as usize, word)
         } else if pgn == REQUEST_PGN && bytes == [0x00, 0xEE, 0x00] && (consumed || ps == 255) && self.own[0] != UNSTARTED {
@@ -407,7 +420,7 @@ impl<'a> Unit<'a> {
             (Event::Nothing, None)
         };
         let own_lost = own.map_or(0, |id| self.announce(id));
-        Ok(FrameAnswer { consumed, accepted, lost, event, own_lost, compared })
+        Ok(FrameAnswer { consumed, accepted, lost, event, own_lost, compared, reasons })
     }
 
     /// A command on pairs, where `to` may be all.
@@ -550,10 +563,10 @@ fn lent<'a>(words: &'a mut [u64], port: u32, good: bool) -> Result<Unit<'a>, u32
 }
 
 fn frame(words: &mut [u64], port: u32, id: u32, bytes: &[u8], answer: &mut [u64]) -> Result<(), u32> {
-    let mut unit = lent(words, port, answer.len() == 7)?;
+    let mut unit = lent(words, port, answer.len() == 8)?;
     let a = unit.frame(port as usize, id, bytes)?;
     let (event, old_name) = event_words(a.event);
-    answer.copy_from_slice(&[u64::from(a.consumed), a.accepted, a.lost, event, old_name, a.own_lost, a.compared]);
+    answer.copy_from_slice(&[u64::from(a.consumed), a.accepted, a.lost, event, old_name, a.own_lost, a.compared, a.reasons]);
     Ok(())
 }
 

@@ -95,13 +95,31 @@ static uint32_t some_id(void)
     }
 }
 
-/* A frame of a permanent PGN that is not consumed is accepted or lost at every other port, and no entry is compared. */
-static void check_permanent(uint32_t port, uint32_t id, const uint64_t *answer)
+static uint32_t pgn_of(uint32_t id)
 {
-    uint32_t pgn = id >> 8 & 0x3FF00;
-    uint64_t others = ((1u << ports) - 1) & ~(1u << (port - 1));
-    if ((pgn == 60928 || pgn == 59904) && !answer[DEORASAENG_CONSUMED])
-        check((answer[DEORASAENG_ACCEPTED] | answer[DEORASAENG_LOST]) == others && answer[DEORASAENG_COMPARED] == 0, "a permanent PGN");
+    return id >> 8 & ((id >> 16 & 0xFF) < 240 ? 0x3FF00 : 0x3FFFF);
+}
+
+static int is_permanent(uint32_t pgn)
+{
+    return pgn == 60928 || pgn == 59904;
+}
+
+/* A pair is asked at every port but the arrival port, unless the frame is consumed. Its reason lets the frame through exactly where it is accepted or lost, and is
+   "permanent" exactly for a permanent PGN, for which no entry is compared. */
+static void check_reasons(uint32_t port, uint32_t id, const uint64_t *answer)
+{
+    uint64_t word = answer[DEORASAENG_REASONS], crossed = answer[DEORASAENG_ACCEPTED] | answer[DEORASAENG_LOST];
+    int permanent = is_permanent(pgn_of(id));
+    for (uint32_t q = 1; q <= ports; q++) {
+        uint32_t reason = DEORASAENG_REASON(word, q);
+        int asked = q != port && !answer[DEORASAENG_CONSUMED];
+        check(asked == (reason != DEORASAENG_REASON_NOT_ASKED) && reason <= DEORASAENG_REASON_STOPPED_AS_NOT_LISTED, "asked or not");
+        check((crossed >> (q - 1) & 1) == (asked && reason < DEORASAENG_REASON_STOPPED_AS_LISTED), "a reason and what became of the frame");
+        check((asked && permanent) == (reason == DEORASAENG_REASON_PERMANENT), "a permanent PGN");
+    }
+    check(word >> 4 * ports == 0, "a reason of no port");
+    check(!permanent || answer[DEORASAENG_COMPARED] == 0, "a permanent PGN that was compared");
 }
 
 static void some_bytes(uint8_t *bytes, uint32_t id, size_t length)

@@ -171,7 +171,7 @@ static void fuzz_frame(size_t length, uint64_t *record)
     if (right && bytes == NULL)
         judge_null(port, id, number, record, answer);
     if (number == 0)
-        check_permanent(port, id, answer);
+        check_reasons(port, id, answer);
     if (is_port(port) && right) {
         check((id >> 29 != 0) == (number == 3), "number 3");
         check((id >> 29 == 0 && size > 8) == (number == 4), "number 4");

@@ -98,6 +98,22 @@ static void check_joined(uint32_t port, uint64_t accepted, uint64_t lost, uint64
     check((accepted | lost | own_lost) >> ports == 0, "ports");
 }
 
+/* What a pair's words say of a PGN. */
+static enum deorasaeng_reason due_reason(uint32_t from, uint32_t to, uint32_t pgn)
+{
+    const uint64_t *pair = record + PAIRS_AT(ports) + PAIR_WORDS * pair_number(ports, from, to);
+    int listed = 0;
+    if (is_permanent(pgn))
+        return DEORASAENG_REASON_PERMANENT;
+    if (pair[0] == 0)
+        return DEORASAENG_REASON_CLEARED;
+    for (uint64_t i = 0; i < pair[1]; i++)
+        listed |= pair[2 + i] == pgn;
+    if (pair[0] == 1)
+        return listed ? DEORASAENG_REASON_STOPPED_AS_LISTED : DEORASAENG_REASON_NOT_LISTED_IN_BLOCK;
+    return listed ? DEORASAENG_REASON_LISTED_IN_PASS : DEORASAENG_REASON_STOPPED_AS_NOT_LISTED;
+}
+
 static void frame(void)
 {
     uint32_t port = some_port(), id = some_id();
@@ -113,10 +129,14 @@ static void frame(void)
     }
     check_same(PAIRS_AT(ports), words, "a frame changed a list");
     check_joined(port, answer[DEORASAENG_ACCEPTED], answer[DEORASAENG_LOST], answer[DEORASAENG_OWN_LOST]);
+    int has_address = before[0] == DEORASAENG_STATE_CLAIMING || before[0] == DEORASAENG_STATE_CLAIMED;
+    check(answer[DEORASAENG_CONSUMED] == (has_address && (id >> 16 & 0xFF) < 240 && (id >> 8 & 0xFF) == before[1]), "consumed or not");
     if (answer[DEORASAENG_CONSUMED])
         check((answer[DEORASAENG_ACCEPTED] | answer[DEORASAENG_LOST] | answer[DEORASAENG_COMPARED]) == 0, "consumed and forwarded");
-    check_permanent(port, id, answer);
-    check(answer[DEORASAENG_CONSUMED] <= 1 && answer[DEORASAENG_COMPARED] <= LIST * (ports - 1), "consumed, compared");
+    check_reasons(port, id, answer);
+    for (uint32_t q = 1; q <= ports; q++)
+        check(q == port || answer[DEORASAENG_CONSUMED] || DEORASAENG_REASON(answer[DEORASAENG_REASONS], q) == due_reason(port, q, pgn_of(id)), "another reason");
+    check(answer[DEORASAENG_COMPARED] <= LIST * (ports - 1), "compared");
     check(answer[DEORASAENG_EVENT] <= 7 && (answer[DEORASAENG_EVENT] == 6 || answer[DEORASAENG_OLD_NAME] == 0), "event");
 }
 

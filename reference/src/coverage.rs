@@ -5,10 +5,10 @@ use std::collections::{BTreeMap, BTreeSet};
 use crate::address::{is_claim, is_request_for_address_claimed, name_of, ClaimState, Event, StartAnswer};
 use crate::frame::{self, Frame, PERMANENT};
 use crate::message::entries;
-use crate::pair::{added, Pair, LONGEST_LIST};
+use crate::pair::{added, Pair, Reason, LONGEST_LIST};
 use crate::script::{apply, is_passed_over, lines_of, read_call, Answer, Call};
 use crate::unit::{FrameAnswer, Unit, LONGEST_QUEUE, PORT_COUNTS};
-use crate::words::WORDS;
+use crate::words::{REASONS, WORDS};
 
 /// The call letters of a script.
 pub const LETTERS: [&str; 7] = ["P", "S", "Q", "F", "T", "M", "U"];
@@ -158,6 +158,9 @@ impl Coverage {
         self.add_if(answer.consumed, "frame consumed");
         let asked = if answer.consumed { Vec::new() } else { before.other_ports(port) };
         self.add_if(port == before.ports, "frame at the last port");
+        for port in before.all_ports() {
+            self.add(&format!("reason {}", answer.reason_number(port)));
+        }
         for to in &asked {
             self.add(&format!("mode {}", mode_row(&before.pairs[&(port, *to)])));
         }
@@ -196,8 +199,8 @@ impl Coverage {
                 });
             }
         } else if PERMANENT.contains(&(pgn & 0xFFFF)) {
-            let stopped = pairs.iter().any(|pair| !pair.permits(pgn));
-            let listed = pairs.iter().any(|pair| pair.mode() == 1 && pair.permits(pgn));
+            let stopped = pairs.iter().any(|pair| !pair.ask(pgn).crosses());
+            let listed = pairs.iter().any(|pair| pair.ask(pgn) == Reason::ListedInPass);
             self.add_if(stopped, "permanent PGN with a page bit stopped");
             self.add_if(listed, "permanent PGN with a page bit let through by a list");
         }
@@ -313,6 +316,8 @@ impl Coverage {
         lines.push(self.line_of("calls in state", &STATES, "state "));
         lines.push(self.line_of("unit told in state", &STATES, "told "));
         lines.push(self.line_of("pairs asked in mode", &MODES, "mode "));
+        let reasons = REASONS.map(|(number, words)| format!("{words} {}", self.reached(&format!("reason {number}"))));
+        lines.push(format!("ports by reason: {}", reasons.join(", ")));
         lines.push(self.line_of("permanent PGNs to", &DESTINATIONS, "permanent to "));
         lines.push(self.line_of("permanent PGNs of length", &LENGTHS, "permanent of "));
         lines.push(self.line_of("done by function", &["0", "2", "3", "4", "6", "64"], "done "));

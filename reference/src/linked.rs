@@ -12,7 +12,7 @@ use crate::unit::{Unit, LONGEST_QUEUE, PORT_COUNTS, USUAL_PORTS};
 /// The published length of a queue, in words; `record_words` has the record's.
 pub const QUEUE_WORDS: usize = 1 + 2 * LONGEST_QUEUE;
 /// The lengths of the answers, in words.
-pub const FRAME_ANSWER: usize = 7;
+pub const FRAME_ANSWER: usize = 8;
 pub const TAKE_ANSWER: usize = 3;
 pub const MESSAGE_ANSWER: usize = 2;
 pub const START_ANSWER: usize = 2;
@@ -148,6 +148,11 @@ impl Record<'_> {
 pub fn take_queue(queue: &mut [u64; QUEUE_WORDS], answer: &mut [u64], bytes: &mut [u8]) -> u32 {
     let (words, to) = (queue.as_mut_ptr(), answer.as_mut_ptr());
     unsafe { deorasaeng_take_queue(words, to, answer.len(), bytes.as_mut_ptr(), bytes.len()) }
+}
+
+/// The number of a port's reason in the last word of a frame's answer.
+pub fn reason(word: u64, port: u32) -> u32 {
+    (word >> (4 * (port - 1)) & 15) as u32
 }
 
 /// The words of a port's queue in the record.

@@ -5,6 +5,36 @@ use crate::frame::PERMANENT;
 /// The longest filter list.
 pub const LONGEST_LIST: usize = 32;
 
+/// Why a pair lets a frame cross or stops it (02, ticket 11).
+#[derive(Clone, Copy, Debug, PartialEq, Eq)]
+pub enum Reason {
+    /// A permanent PGN, whatever the pair.
+    Permanent,
+    Cleared,
+    ListedInPass,
+    NotListedInBlock,
+    StoppedAsListed,
+    StoppedAsNotListed,
+}
+
+impl Reason {
+    pub fn crosses(self) -> bool {
+        !matches!(self, Reason::StoppedAsListed | Reason::StoppedAsNotListed)
+    }
+
+    /// Its number; 0 is "not asked".
+    pub fn number(self) -> u32 {
+        match self {
+            Reason::Permanent => 1,
+            Reason::Cleared => 2,
+            Reason::ListedInPass => 3,
+            Reason::NotListedInBlock => 4,
+            Reason::StoppedAsListed => 5,
+            Reason::StoppedAsNotListed => 6,
+        }
+    }
+}
+
 /// Cleared is not the same as a block pair with no entries (numbers 14 and 15).
 #[derive(Clone, Debug, PartialEq, Eq)]
 pub enum Pair {
@@ -45,13 +75,15 @@ impl Pair {
         }
     }
 
-    /// Forwarding rule 2: a permanent PGN always, else by mode and list.
-    pub fn permits(&self, pgn: u32) -> bool {
+    /// Forwarding rule 2: a permanent PGN crosses, the others by mode and list.
+    pub fn ask(&self, pgn: u32) -> Reason {
         match self {
-            _ if PERMANENT.contains(&pgn) => true,
-            Pair::Cleared => true,
-            Pair::Block(entries) => !entries.contains(&pgn),
-            Pair::Pass(entries) => entries.contains(&pgn),
+            _ if PERMANENT.contains(&pgn) => Reason::Permanent,
+            Pair::Cleared => Reason::Cleared,
+            Pair::Pass(entries) if entries.contains(&pgn) => Reason::ListedInPass,
+            Pair::Pass(_) => Reason::StoppedAsNotListed,
+            Pair::Block(entries) if entries.contains(&pgn) => Reason::StoppedAsListed,
+            Pair::Block(_) => Reason::NotListedInBlock,
         }
     }
 

@@ -6,6 +6,7 @@ use crate::address::{Event, StartAnswer, UnitAnswer};
 use crate::frame::Frame;
 use crate::message::{MessageAnswer, LONGEST_MESSAGE};
 use crate::unit::{FrameAnswer, Number, Unit, USUAL_PORTS};
+use crate::words::REASONS;
 
 /// One call of a script.
 #[derive(Clone, Debug, PartialEq, Eq)]
@@ -263,17 +264,26 @@ pub fn print_answer(answer: &Answer) -> String {
     }
 }
 
-/// Consumed, accepted ports, lost ports, event, ports where the unit's own frame was lost, compared.
+/// Consumed, accepted ports, lost ports, event, ports where the unit's own frame was lost, compared; then the reasons.
 fn print_frame_answer(answer: &FrameAnswer) -> String {
     format!(
-        "F {} {} {} {} {} {}",
+        "F {} {} {} {} {} {}  {}",
         if answer.consumed { "c" } else { "-" },
         print_ports(&answer.accepted),
         print_ports(&answer.lost),
         print_event(&answer.event),
         print_ports(&answer.own_lost),
-        answer.compared
+        answer.compared,
+        print_reasons(answer)
     )
+}
+
+/// Each reason that some ports have, behind these ports; every port of the unit stands once.
+fn print_reasons(answer: &FrameAnswer) -> String {
+    let ports = 1..=answer.reasons.len() as u32;
+    let with = |number| ports.clone().filter(|&port| answer.reason_number(port) == number).collect::<Vec<u32>>();
+    let named = REASONS.iter().map(|(number, words)| (with(*number), words)).filter(|(ports, _)| !ports.is_empty());
+    named.map(|(ports, words)| format!("{}: {words}", print_ports(&ports))).collect::<Vec<_>>().join(", ")
 }
 
 /// State, address, `-` for none, preferred address, NAME, number of ports.

@@ -4,15 +4,14 @@ use std::collections::BTreeMap;
 
 use crate::script::{Answer, Call};
 use crate::unit::{FrameAnswer, Number, USUAL_PORTS};
-use crate::words::told;
+use crate::words::{told, REASONS};
 
 /// The counts of one script.
 #[derive(Default)]
 pub struct Summary {
     not_calls: u64,
     power_ons: Outcomes,
-    /// How many ports the unit has, and the most that a unit of the script had.
-    ports: u32,
+    /// The most ports that a unit of the script had.
     most_ports: u32,
     starts: Outcomes,
     quiets: Outcomes,
@@ -23,9 +22,10 @@ pub struct Summary {
     consumed: u64,
     given: u64,
     accepted: ByPort,
-    stopped: ByPort,
     lost: ByPort,
     own_lost: ByPort,
+    /// By port and the reason's number.
+    reasons: BTreeMap<(u32, u32), u64>,
 }
 
 /// How the calls of one kind went: 0 for those that were done, else the number that refused them.
@@ -89,10 +89,10 @@ impl Summary {
                 }
             }
             (Call::Quiet, _) => self.quiets.add(number),
-            (Call::Frame { port, .. }, Answer::Frame(answer)) => {
+            (Call::Frame { .. }, Answer::Frame(answer)) => {
                 self.frames.add(number);
                 if let Ok(answer) = answer {
-                    self.add_frame(*port, answer);
+                    self.add_frame(answer);
                 }
             }
             (Call::Take { .. }, Answer::Take(taken)) => {
@@ -103,25 +103,26 @@ impl Summary {
             (Call::Unit, _) => self.units.add(number),
             (Call::PowerOn { ports, .. }, _) => {
                 self.power_ons.add(number);
-                self.ports = if number == 0 { *ports } else { USUAL_PORTS };
-                self.most_ports = self.most_ports.max(self.ports);
+                let ports = if number == 0 { *ports } else { USUAL_PORTS };
+                self.most_ports = self.most_ports.max(ports);
             }
             _ => {}
         }
     }
 
-    /// A frame stops at the ports that it was offered to and that neither accepted nor lost it.
-    fn add_frame(&mut self, port: u32, answer: &FrameAnswer) {
-        self.own_lost.add(&answer.own_lost);
-        if answer.consumed {
-            self.consumed += 1;
-            return;
-        }
-        let permitted = |to: &u32| answer.accepted.contains(to) || answer.lost.contains(to);
-        let stopped: Vec<u32> = (1..=self.ports).filter(|to| *to != port && !permitted(to)).collect();
+    fn add_frame(&mut self, answer: &FrameAnswer) {
+        self.consumed += u64::from(answer.consumed);
         self.accepted.add(&answer.accepted);
         self.lost.add(&answer.lost);
-        self.stopped.add(&stopped);
+        self.own_lost.add(&answer.own_lost);
+        for port in 1..=answer.reasons.len() as u32 {
+            *self.reasons.entry((port, answer.reason_number(port))).or_insert(0) += 1;
+        }
+    }
+
+    /// How many frames met this reason at a port.
+    fn met(&self, port: u32, reason: u32) -> u64 {
+        self.reasons.get(&(port, reason)).copied().unwrap_or(0)
     }
 
     /// The summary as printed lines.
@@ -134,21 +135,26 @@ impl Summary {
         lines.extend(outcome_lines("unit", &format!("told {}", self.units.done()), &self.units));
         lines.extend(outcome_lines("frames", &format!("consumed {}", self.consumed), &self.frames));
         let ports = if self.most_ports == 0 { USUAL_PORTS } else { self.most_ports };
-        lines.extend((1..=ports).map(|port| self.port_line(port)));
+        lines.extend((1..=ports).flat_map(|port| self.port_lines(port)));
         let given = format!("given {}, nothing waiting {nothing}", self.given);
         lines.extend(outcome_lines("takes", &given, &self.takes));
         lines.extend(outcome_lines("messages", &format!("answered {}", self.messages.done()), &self.messages));
         lines
     }
 
-    fn port_line(&self, port: u32) -> String {
-        format!(
-            "  port {port}: accepted {}, stopped {}, lost {}, own lost {}",
-            self.accepted.at(port),
-            self.stopped.at(port),
-            self.lost.at(port),
-            self.own_lost.at(port)
-        )
+    /// What became of frames at a port, and by which reasons, if any were met.
+    fn port_lines(&self, port: u32) -> Vec<String> {
+        let (accepted, lost, own_lost) = (self.accepted.at(port), self.lost.at(port), self.own_lost.at(port));
+        let stopped = self.met(port, 5) + self.met(port, 6);
+        let mut lines =
+            vec![format!("  port {port}: accepted {accepted}, stopped {stopped}, lost {lost}, own lost {own_lost}")];
+        let met =
+            REASONS.iter().map(|(reason, words)| (words, self.met(port, *reason))).filter(|(_, count)| *count > 0);
+        let counts: Vec<String> = met.map(|(words, count)| format!("{words} {count}")).collect();
+        if !counts.is_empty() {
+            lines.push(format!("    {}", counts.join(", ")));
+        }
+        lines
     }
 }
 

@@ -5,7 +5,7 @@ use std::ops::RangeInclusive;
 
 use crate::address::{ClaimState, Event, Holder};
 use crate::frame::{self, Frame};
-use crate::pair::Pair;
+use crate::pair::{Pair, Reason};
 
 /// How many ports a unit may have (02, ticket 10).
 pub const PORT_COUNTS: RangeInclusive<u32> = 2..=8;
@@ -42,6 +42,20 @@ pub struct FrameAnswer {
     pub event: Event,
     pub own_lost: Vec<u32>,
     pub compared: usize,
+    /// For each port from 1 on, what its pair said; nothing where none was asked.
+    pub reasons: Vec<Option<Reason>>,
+}
+
+impl FrameAnswer {
+    /// The number of a port's reason; 0 where no pair was asked, and for a port that the unit has not.
+    pub fn reason_number(&self, port: u32) -> u32 {
+        self.reasons.get(port as usize - 1).copied().flatten().map_or(0, Reason::number)
+    }
+
+    /// The reasons as one word: four bits a port, port 1's the lowest.
+    pub fn reason_word(&self) -> u64 {
+        self.reasons.iter().rev().fold(0, |word, reason| word << 4 | u64::from(reason.map_or(0, Reason::number)))
+    }
 }
 
 impl Unit {
@@ -103,6 +117,7 @@ impl Unit {
             event: Event::None,
             own_lost: Vec::new(),
             compared: 0,
+            reasons: vec![None; self.ports as usize],
         };
         if !answer.consumed {
             self.forward(port, &frame, &mut answer);
@@ -116,13 +131,15 @@ impl Unit {
         frame::pf(id) < 240 && self.address() == Some(frame::ps(id))
     }
 
-    /// Forwarding rules 2 and 3, and the count of rule 5.
+    /// Forwarding rules 2 and 3, and the count and reasons of rule 5.
     fn forward(&mut self, port: u32, frame: &Frame, answer: &mut FrameAnswer) {
         let pgn = frame::pgn(frame.id);
         for to in self.other_ports(port) {
             let pair = &self.pairs[&(port, to)];
+            let reason = pair.ask(pgn);
             answer.compared += pair.compared(pgn);
-            if pair.permits(pgn) {
+            answer.reasons[to as usize - 1] = Some(reason);
+            if reason.crosses() {
                 if self.join(to, frame) {
                     answer.accepted.push(to);
                 } else {

@@ -1,4 +1,4 @@
-//! What a person reads beside a number.
+//! What a person reads for a number.
 
 use crate::unit::Number;
 
@@ -30,3 +30,14 @@ pub fn told(number: Number) -> String {
     let words = WORDS.iter().find(|(listed, _)| *listed == number).map_or("", |(_, words)| words);
     format!("{number} {words}")
 }
+
+/// The reasons in words, in the order in which they are printed.
+pub const REASONS: [(u32, &str); 7] = [
+    (1, "permanent"),
+    (2, "cleared"),
+    (3, "listed in pass"),
+    (4, "not listed in block"),
+    (5, "stopped as listed"),
+    (6, "stopped as not listed"),
+    (0, "not asked"),
+];

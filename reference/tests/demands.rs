@@ -274,6 +274,7 @@ fn generator_reaches_deep_states() {
     assert!(STATES.iter().all(|row| coverage.reached(&format!("state {row}")) > 0));
     assert!(STATES.iter().all(|row| coverage.reached(&format!("told {row}")) > 0));
     assert!(MODES.iter().all(|row| coverage.reached(&format!("mode {row}")) > 0));
+    assert!((0..=6).all(|reason| coverage.reached(&format!("reason {reason}")) > 0));
     assert!(DESTINATIONS.iter().all(|row| coverage.reached(&format!("permanent to {row}")) > 0));
     assert!(LENGTHS.iter().all(|row| coverage.reached(&format!("permanent of {row}")) > 0));
     for ports in 2..=8 {

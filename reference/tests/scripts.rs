@@ -3,7 +3,7 @@
 use reference::generate::{generate, sweep};
 use reference::run::{run_script, Run};
 use reference::script::{read_call, write_call, Call, LONGEST_LINE};
-use reference::words::{told, WORDS};
+use reference::words::{told, REASONS, WORDS};
 
 fn check(script: &str, output: &str) {
     assert_eq!(String::from_utf8(Run::of(script).beside()).unwrap(), output);
@@ -72,7 +72,7 @@ fn printed_forms() {
         "Q",
         "Q R 18",
         "S R 18",
-        "F - 234 - - - 0",
+        "F - 234 - - - 0  234: cleared, 1: not asked",
         "F R 3",
         "T 18EEFFC8 8 2301C00A001C0020",
         "T 18FEF100 0 -",
@@ -84,6 +84,58 @@ fn printed_forms() {
         "M 7 0 0 -",
     ];
     assert_eq!(run_script(script), printed);
+}
+
+/// The reasons behind a frame's answer: each port once, by the reasons' numbers and "not asked" last.
+#[test]
+fn printed_reasons() {
+    let lists = "M 1 33 062301F1FE00FFFF\nM 1 33 06240004F000FFFF\nM 1 33 062500F1FE00FFFF\nM 1 33 06260104F000FFFF\n";
+    let script = format!(
+        "P 20001C000AC00123 200 8\nS\nQ\n{lists}F 2 18FEF105 -\nF 2 18EEFF05 -\nF 2 18EFC805 -\nF 8 18FEF105 -\nF 2 18FEF1FF -\n\
+        P 20001C000AC00123 200 2\nF 2 18FEF105 -\n"
+    );
+    let printed = [
+        "F - 13478 - - - 4  178: cleared, 3: listed in pass, 4: not listed in block, 5: stopped as listed, \
+        6: stopped as not listed, 2: not asked",
+        "F - 1345678 - - - 0  1345678: permanent, 2: not asked",
+        "F c - - - - 0  12345678: not asked",
+        "F - 1234567 - - - 0  1234567: cleared, 8: not asked",
+        "F R 5",
+        "P",
+        "F - 1 - - - 0  1: cleared, 2: not asked",
+    ];
+    assert_eq!(run_script(&script)[7..], printed);
+    let lines = Run::of(script).summary.lines();
+    let of_ports: Vec<&str> =
+        lines.iter().map(|line| &line[..]).skip_while(|line| !line.starts_with("  port")).collect();
+    let expected = [
+        "  port 1: accepted 4, stopped 0, lost 0, own lost 0",
+        "    permanent 1, cleared 3, not asked 1",
+        "  port 2: accepted 1, stopped 0, lost 0, own lost 0",
+        "    cleared 1, not asked 4",
+        "  port 3: accepted 3, stopped 0, lost 0, own lost 0",
+        "    permanent 1, cleared 1, listed in pass 1, not asked 1",
+        "  port 4: accepted 3, stopped 0, lost 0, own lost 0",
+        "    permanent 1, cleared 1, not listed in block 1, not asked 1",
+        "  port 5: accepted 2, stopped 1, lost 0, own lost 0",
+        "    permanent 1, cleared 1, stopped as listed 1, not asked 1",
+        "  port 6: accepted 2, stopped 1, lost 0, own lost 0",
+        "    permanent 1, cleared 1, stopped as not listed 1, not asked 1",
+        "  port 7: accepted 3, stopped 0, lost 0, own lost 0",
+        "    permanent 1, cleared 2, not asked 1",
+        "  port 8: accepted 2, stopped 0, lost 0, own lost 0",
+        "    permanent 1, cleared 1, not asked 2",
+    ];
+    assert_eq!(of_ports[..16], expected);
+}
+
+/// The bundled morning shows every reason.
+#[test]
+fn morning_shows_every_reason() {
+    let answers = run_script(include_str!("../scripts/morning.txt"));
+    for (_, words) in REASONS {
+        assert!(answers.iter().any(|answer| answer.contains(&format!(": {words}"))), "{words}");
+    }
 }
 
 /// Each line that is no call, and what is said of it.
@@ -173,7 +225,7 @@ fn beside() {
     assert_eq!(Run::of("").beside(), Run::of("").plain());
 }
 
-/// The help of `./replay`, the header and the rules have the numbers in the same words.
+/// The help of `./replay`, the header and the rules have the numbers and the reasons in the same words.
 #[test]
 fn words_are_the_same_everywhere() {
     let help = include_str!("../../replay");
@@ -185,6 +237,13 @@ fn words_are_the_same_everywhere() {
         assert_eq!(line.split([' ', ',']).nth(6), Some(&number.to_string()[..]), "header: {line}");
         assert!(help.contains(&format!(" {}\n", told(number))), "replay: {number}");
         assert!(rules.contains(&format!("| {number} | {words} |")), "rules: {number}");
+    }
+    for (number, words) in REASONS {
+        let comment = format!("/* {words} */");
+        let line = header.lines().find(|line| line.ends_with(&comment)).expect(words);
+        assert_eq!(line.split([' ', ',']).nth(6), Some(&number.to_string()[..]), "header: {line}");
+        assert!(help.contains(&format!("\n  {words}  ")), "replay: {words}");
+        assert!(rules.contains(&format!("| {number} | {words} |")), "rules: {words}");
     }
 }
 
@@ -229,9 +288,13 @@ fn summary() {
         "    1 port not 1 to the number of ports: 2",
         "    3 identifier 2^29 or more: 1",
         "  port 1: accepted 0, stopped 0, lost 0, own lost 0",
+        "    not asked 2",
         "  port 2: accepted 0, stopped 1, lost 0, own lost 0",
+        "    stopped as not listed 1, not asked 1",
         "  port 3: accepted 1, stopped 0, lost 0, own lost 0",
+        "    cleared 1, not asked 1",
         "  port 4: accepted 1, stopped 0, lost 0, own lost 0",
+        "    cleared 1, not asked 1",
         "takes 3: given 1, nothing waiting 1, refused 1",
         "    1 port not 1 to the number of ports: 1",
         "messages 3: answered 1, refused 2",
@@ -247,7 +310,8 @@ fn summary_of_a_full_port() {
     let lines = Run::of(&format!("P 1 2\n{frames}S\n")).summary.lines();
     assert_eq!(lines[1], "Start 1: done 1, refused 0");
     assert_eq!(lines[5], "  port 1: accepted 32, stopped 0, lost 1, own lost 1");
-    assert_eq!(lines[7], "  port 3: accepted 0, stopped 0, lost 0, own lost 0");
+    assert_eq!(lines[6], "    cleared 33");
+    assert_eq!(lines[9], "  port 3: accepted 0, stopped 0, lost 0, own lost 0");
 }
 
 /// A power-on with another number of ports, and one with none that there is, which goes on with four.
@@ -258,14 +322,14 @@ fn ports_of_a_script() {
     let printed = [
         "P",
         "U Unstarted - 2 0000000000000001 8",
-        "F - 1234567 - - - 0",
+        "F - 1234567 - - - 0  1234567: cleared, 8: not asked",
         "F R 1",
         "P",
-        "F - 2 - - - 0",
+        "F - 2 - - - 0  2: cleared, 1: not asked",
         "F R 1",
         "P R 27",
         "U Unstarted - 2 0000000000000001 4",
-        "F - 123 - - - 0",
+        "F - 123 - - - 0  123: cleared, 4: not asked",
         "F R 1",
     ];
     assert_eq!(run_script(script), printed);
@@ -278,7 +342,11 @@ fn ports_of_a_script() {
     assert_eq!(ports[1], "  port 2: accepted 3, stopped 0, lost 0, own lost 0");
     assert_eq!(ports[6], "  port 7: accepted 1, stopped 0, lost 0, own lost 0");
     assert_eq!(Run::of("P 1 2 3").summary.lines().iter().filter(|line| line.starts_with("  port ")).count(), 3);
-    assert_eq!(Run::of("").summary.lines().iter().filter(|line| line.starts_with("  port ")).count(), 4);
+    // Without a frame there are no reasons.
+    assert_eq!(
+        Run::of("").summary.lines()[5..9],
+        [1, 2, 3, 4].map(|port| format!("  port {port}: accepted 0, stopped 0, lost 0, own lost 0"))
+    );
 }
 
 #[test]

@@ -1,6 +1,6 @@
 -- The table of examples, each by computing. Assumes nothing.
 use mathlib.Core.Path.{refl}
-use Rattle.filter.specs.Filter.{asked, isPermanent, permits, place, reportedMode, isCleared}
+use Rattle.filter.specs.Filter.{asked, isPermanent, reasonOf, place, reportedMode, isCleared}
 use Rattle.entries.specs.Entries.{listed, entriesOf, every, wellFormed, reported}
 use Rattle.pgn_list.specs.PgnList.{addOne, addAll}
 use Rattle.filter_commands.specs.Changes.{wouldPass, mayCreate, modeFor, created}
@@ -9,7 +9,7 @@ use Rattle.checks.specs.Ports.{isPort}
 use Rattle.replies.specs.Replies.{controlOf, acknowledgment, filled, listBody, listReply}
 use Rattle.storage.specs.Bytes.{packed, bytesOf}
 use Rattle.unit.specs.Count.{pairCount}
-use Rattle.unit.specs.Ports.{each, mask, total}
+use Rattle.unit.specs.Ports.{each, mask, total, digits}
 use Rattle.unit.specs.Own.{consumes, isOwn}
 use Rattle.forwarding.specs.Forwarding.{verdict}
 use Rattle.bridge.specs.Calls.{offered}
@@ -24,7 +24,7 @@ use Rattle.demand_3.specs.Demand3.{answer}
 use Rattle.assurance.specs.Examples.{Examples}
 
 pub examples : Examples
-unfolding pairCount frameAnswer frameRefusal takeAnswer takeRefusal isPort answer next refusal performed restAfter asks sends frameActed isClaim isRequest isRequestToUnit sentWithoutAddress pgnOf destinationOf wrongSource framePassed mask total offered consumes isOwn verdict asked isPermanent permits listed place messaged messageRefusal decoded refusalOf isKnown namesPorts isPair mayBeAll mayName hasGoodBody holdsEntries entriesEnd isFilling wellFormed entriesOf every packed isPgn hasWrongMode commandOf performedBy listRefusal listChecks anyNamed anyBelow names holdsOf isCleared wouldPass addAll addOne commanded changeNamed each changeOf created mayCreate modeFor acknowledgment controlOf listReply filled listBody reportedMode reported bytesOf
+unfolding pairCount frameAnswer frameRefusal takeAnswer takeRefusal isPort answer next refusal performed restAfter asks sends frameActed isClaim isRequest isRequestToUnit sentWithoutAddress pgnOf destinationOf wrongSource framePassed mask total digits offered consumes isOwn verdict asked isPermanent reasonOf listed place messaged messageRefusal decoded refusalOf isKnown namesPorts isPair mayBeAll mayName hasGoodBody holdsEntries entriesEnd isFilling wellFormed entriesOf every packed isPgn hasWrongMode commandOf performedBy listRefusal listChecks anyNamed anyBelow names holdsOf isCleared wouldPass addAll addOne commanded changeNamed each changeOf created mayCreate modeFor acknowledgment controlOf listReply filled listBody reportedMode reported bytesOf
 examples = record {
   p1 = (refl, refl);
   p2 = (refl, refl);

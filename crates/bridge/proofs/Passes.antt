@@ -28,7 +28,7 @@ use Rattle.claims.specs.Claims.{Acted, frameActed, started}
 use Rattle.forwarding.specs.Steps.{forwardedTo, sharesTo, Forwarding, announcedTo, unsentTo, Announcing}
 use Rattle.claims.specs.Steps.{Acting}
 use Rattle.bridge.specs.Steps.{Sharing, Responding, Passing}
-use Rattle.unit.proofs.Ports.{each-at, each-same, each-twice, mask-same, mask-none, total-none}
+use Rattle.unit.proofs.Ports.{each-at, each-same, each-twice, mask-same, mask-none, total-none, digits-none}
 use Rattle.record.proofs.Regions.{rows-long}
 use Rattle.bridge.proofs.Answers.{call-refused, call-done}
 
@@ -50,10 +50,10 @@ responded A B = record {
 module _ {ports : ℕ} {words after : List ℕ} (port : ℕ) (f : Frame) (r : Response) where
   -- ---- a consumed frame
   pub consumed : consumes (modelOf ports words .rest .own) (f .id) ≡ true → Responding ports words after (frameActed (modelOf ports words .rest) port true f) r
-      → Passing ports words after port f (record { refusal = 0; consumed = true; accepted = 0; lost = 0; event = r .event; unsent = r .unsent; compared = 0 })
+      → Passing ports words after port f (record { refusal = 0; consumed = true; accepted = 0; lost = 0; event = r .event; unsent = r .unsent; compared = 0; reasons = 0 })
   unfolding framePassed offered unsentTo announcedTo
   consumed h R = record {
-    answer = rw (h, mask-none ports, total-none ports, R .event, R .unsent);
+    answer = rw (h, mask-none ports, total-none ports, digits-none ports, R .event, R .unsent);
     state = rw h (R .state);
   }
 
@@ -96,7 +96,7 @@ module _ {ports : ℕ} {words after : List ℕ} (port : ℕ) (f : Frame) (r : Re
         (λ q row. sym (join-append row (sentIf (verdict ports (modelOf ports words .rest .pairs) (port - 1) (pgnOf (f .id)) q) f) (framesSent (done .sent))))
         ports (modelOf ports words .rows)
 
-    pub carried : Passing ports words after port f (record { refusal = 0; consumed = false; accepted = s .accepted; lost = s .lost; event = r .event; unsent = r .unsent; compared = s .compared })
+    pub carried : Passing ports words after port f (record { refusal = 0; consumed = false; accepted = s .accepted; lost = s .lost; event = r .event; unsent = r .unsent; compared = s .compared; reasons = s .reasons })
     unfolding framePassed offered sharesTo announcedTo
     carried = record {
       answer = rw (h, event-is, unsent-is, F .answer);
@@ -107,7 +107,7 @@ module _ {ports : ℕ} {words after : List ℕ} (port : ℕ) (f : Frame) (r : Re
     }
 
 -- ---- a frame that is not refused: for the unit or for others, as `consumed` says
-pub kept-still : {ports : ℕ} {words : List ℕ} {port : ℕ} {b : Bool} {f : Frame} → b ≡ true → Sharing ports words words port b f (record { accepted = 0; lost = 0; compared = 0 })
+pub kept-still : {ports : ℕ} {words : List ℕ} {port : ℕ} {b : Bool} {f : Frame} → b ≡ true → Sharing ports words words port b f (record { accepted = 0; lost = 0; reasons = 0; compared = 0 })
 kept-still h = record { kept = λ _. (refl, refl); sent = λ g. absurd (true≢false (sym h ∙ g)) }
 
 pub shared : {ports : ℕ} {words mid : List ℕ} {port pgn : ℕ} {b : Bool} {f : Frame} {s : Share} → b ≡ false → pgn ≡ pgnOf (f .id) → Forwarding ports words mid (verdict ports (modelOf ports words .rest .pairs) (port - 1) pgn) f s → Sharing ports words mid port b f s
@@ -115,7 +115,7 @@ shared h g F = record { kept = λ k. absurd (true≢false (sym k ∙ h)); sent =
 
 pub passed : {ports : ℕ} {words mid after : List ℕ} (port : ℕ) (f : Frame) (b : Bool) (s : Share) (r : Response) → b ≡ consumes (modelOf ports words .rest .own) (f .id) → Sharing ports words mid port b f s
     → Responding ports mid after (frameActed (modelOf ports mid .rest) port b f) r
-    → Passing ports words after port f (record { refusal = 0; consumed = b; accepted = s .accepted; lost = s .lost; event = r .event; unsent = r .unsent; compared = s .compared })
+    → Passing ports words after port f (record { refusal = 0; consumed = b; accepted = s .accepted; lost = s .lost; event = r .event; unsent = r .unsent; compared = s .compared; reasons = s .reasons })
 passed port f true s r h S R =
     let k = S .kept refl in
     rw (k .1) (consumed port f r (sym h) (rw (k .0) at R))

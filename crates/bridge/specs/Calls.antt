@@ -12,14 +12,14 @@ use Rattle.identifier.specs.Identifier.{pgnOf}
 use Rattle.delivery.specs.Row.{pull, given}
 use Rattle.delivery.specs.Unit.{joinAll, rowNext}
 use Rattle.filter.specs.declared.Asked.{Asked}
-use Rattle.filter.specs.Filter.{Filter}
+use Rattle.filter.specs.Filter.{Filter, reasonNumber}
 use Rattle.queue.specs.declared.Frame.{Frame}
 use Rattle.queue.specs.declared.Taken.{Taken}
 use Rattle.queue.specs.Queue.{size, priority, takenOf, blockLength as queueLength}
 use Rattle.address_claims.specs.declared.Event.{Event}
 use Rattle.network_message.specs.Decoding.{decoded}
 use Rattle.unit.specs.declared.Claim.the-variants.{Unstarted, Claimed}
-use Rattle.unit.specs.Ports.{each, mask, total}
+use Rattle.unit.specs.Ports.{each, mask, total, digits}
 use Rattle.unit.specs.Count.{portsOf}
 use Rattle.unit.specs.Model.{Rest, Model, rowAt, withOwn, withPairs, rowsFrom, modelOf}
 use Rattle.unit.specs.Own.{consumes, moved, framesSent}
@@ -116,7 +116,7 @@ unfoldable pub next : ℕ → ℕ → Model → Call → Model
 next ports lent m k = cond (eqb (refusal ports lent (m .rest) k) 0) (performed ports lent m k) m
 
 -- ---- what a call answers
--- "A refused frame has no ports, no event, is not consumed and compares 0."
+-- "A refused frame has no ports, no event, is not consumed and compares 0."; no pair was asked
 abbrev pub frameRefused : ℕ → FrameAnswer
 frameRefused number = record {
   refusal = number;
@@ -126,6 +126,7 @@ frameRefused number = record {
   event = Event.Nothing;
   unsent = 0;
   compared = 0;
+  reasons = 0;
 }
 
 -- "Accepted ports, lost ports and the ports where the unit's own frame was lost are those rule 3 names."
@@ -141,6 +142,7 @@ framePassed ports m port f = record {
       (λ q. losesOwn (frameDone (m .rest) port f .sent) (joinAll size (rowAt m q) (sentIf (offered ports (m .rest) (port - 1) (f .id) q) f)))
       ports;
   compared = total (λ q. offered ports (m .rest) (port - 1) (f .id) q .compared) ports;
+  reasons = digits (λ q. reasonNumber (offered ports (m .rest) (port - 1) (f .id) q .reason)) ports;
 }
 
 unfoldable pub frameAnswer : ℕ → ℕ → Model → ℕ → ℕ → List ℕ → FrameAnswer

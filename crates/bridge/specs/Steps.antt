@@ -20,7 +20,7 @@ use Rattle.bridge.specs.Calls.{frameDone, frameSends, framePassed}
 
 -- a frame for others was forwarded, one for the unit was not
 pub record Sharing (ports : ℕ) (before after : List ℕ) (port : ℕ) (consumed : Bool) (f : Frame) (r : Share) : Type 0 where
-  pub kept : consumed ≡ true → (after ≡ before) × (r ≡ record { accepted = 0; lost = 0; compared = 0 })
+  pub kept : consumed ≡ true → (after ≡ before) × (r ≡ record { accepted = 0; lost = 0; reasons = 0; compared = 0 })
   pub sent : consumed ≡ false → Forwarding ports before after (verdict ports (modelOf ports before .rest .pairs) (port - 1) (pgnOf (f .id))) f r
 
 -- the event, and the ports where the unit's own frame was lost

@@ -18,7 +18,8 @@ ghost use Rattle.claims.specs.Claims.{frameActed};
 ghost use Rattle.bridge.specs.Calls.{frameRefused, startRefused, Framing, TakingOut, Messaging, Starting, Quieting, Reading};
 ghost use Rattle.bridge.specs.Steps.{Responding, Sharing, Passing};
 
-// What came of a frame. Ports are masks, bit p - 1 for port p. A refusal of 0 is none; refused, the rest is empty.
+// What came of a frame. Ports are masks, bit p - 1 for port p. The reasons are those of each port's pair, four bits a port, port p's from bit 4(p - 1), by
+// `Reason::number`. A refusal of 0 is none; refused, the rest is empty.
 pub struct FrameAnswer {
     pub refusal: u32,
     pub consumed: bool,
@@ -27,6 +28,7 @@ pub struct FrameAnswer {
     pub event: Event,
     pub unsent: u32,
     pub compared: u32,
+    pub reasons: u64,
 }
 
 // What a take gave, or the number that refused it.
@@ -88,6 +90,7 @@ fn share(words: &mut [u64], ports: u32, port: u32, consumed: bool, f: Frame) -> 
         return Share {
             accepted: 0,
             lost: 0,
+            reasons: 0,
             compared: 0,
         };
     }
@@ -112,6 +115,7 @@ fn pass(words: &mut [u64], ports: u32, port: u32, f: Frame) -> FrameAnswer
         event,
         unsent: r.unsent,
         compared: s.compared,
+        reasons: s.reasons,
     }
 }
 
@@ -127,6 +131,7 @@ fn refused(number: u32) -> FrameAnswer
         event: Event::Nothing,
         unsent: 0,
         compared: 0,
+        reasons: 0,
     }
 }
 

@@ -240,7 +240,7 @@ either false b e = inl refl
 pub is-call : {w w′ : List ℕ} {c : Exported} {g : Gave} → length w ≡ recordLength (portsOf w) → Made w c g w′ → lends c ≡ true → IsCall w c g w′
 is-call full (frame-made (arrived κs w w′ b b′ a a′ port id r f)) l =
     let F = f tt in
-    let e = eqb-true (length (a .now)) 7 l in
+    let e = eqb-true (length (a .now)) 8 l in
     let P = frame-framing refl F e in
     record {
       answer = ToFrame (frameAnswer (portsOf (w .now)) (length (w .now)) (modelOf (portsOf (w .now)) (w .now)) port id (b .now));
@@ -309,7 +309,7 @@ is-call full (queue-made (tookQueue κs w w′ port answer bytes r block told wr
     }
 
 pub is-none : {w w′ : List ℕ} {c : Exported} {g : Gave} → Made w c g w′ → lends c ≡ false → IsNone w c g w′
-is-none (frame-made (arrived κs w w′ b b′ a a′ port id r f)) l = frame-none refl (f tt) (eqb-false (length (a .now)) 7 l)
+is-none (frame-made (arrived κs w w′ b b′ a a′ port id r f)) l = frame-none refl (f tt) (eqb-false (length (a .now)) 8 l)
 is-none (take-made (tookOut κs w w′ a a′ b b′ port r f)) l =
     let T = f tt in
     ⊎-elim

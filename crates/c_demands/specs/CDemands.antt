@@ -107,7 +107,7 @@ pub record EveryCall : Type 0 where
 -- ---- 2. as calls of the bridge
 -- the answer's words and the frame's bytes are of their published lengths
 abbrev pub lends : Exported → Bool
-lends (CFrame port id bytes answer) = eqb (length answer) 7
+lends (CFrame port id bytes answer) = eqb (length answer) 8
 lends (CTake port answer bytes) = eqb (length answer) 3 && eqb (length bytes) 8
 lends (CMessage port requester payload reply answer) = eqb (length answer) 2
 lends (CStart answer) = eqb (length answer) 2
@@ -194,7 +194,7 @@ pub data AsHandedIn (name : ℕ) (before : List Exported) (id len : ℕ) (writte
 abbrev pub numbers : List ℕ → Exported → List Check
 numbers w (CFrame port id bytes answer) =
     check (noPort (portsOf w) port) 1
-    ∷ check (notLong (portsOf w) (length w) || not (eqb (length answer) 7)) 2
+    ∷ check (notLong (portsOf w) (length w) || not (eqb (length answer) 8)) 2
     ∷ check (tooWide id) 3
     ∷ check (ltb 8 (length bytes)) 4
     ∷ check (wrongSource id) 5

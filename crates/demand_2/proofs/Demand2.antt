@@ -37,6 +37,7 @@ use Rattle.bridge.proofs.Laws.{not-offered-back, not-sent-back, not-accepted-ba
 use Rattle.demand_2.specs.Demand2.{unitIn, restOf, pairOn, IsPair, NotBack, namesPair, Outside, OnlyNamed, SameTo, listOf, MayCreate, Demand2}
 use Rattle.made.proofs.Made.{framing, messaging}
 use Rattle.demand_2.proofs.Permanent.{crossing}
+use Rattle.demand_2.proofs.Reasons.{reasons}
 use Rattle.demand_2.proofs.Pairs.{unit-in, pair-in}
 use Rattle.demand_2.proofs.Commands.{untouched, messaged-other}
 use Rattle.demand_2.proofs.Privacy.{messaged-told}
@@ -178,6 +179,7 @@ pub demand-2 : Demand2
 demand-2 = record {
   not-back = λ h. frame-back (framing h);
   always = λ h done free which. crossing (framing h) done free which;
+  why = λ h. reasons (framing h);
   only-named = λ h. message-named (messaging h);
   private = λ least most same long S h g. same-told least most same long S (messaging h) (rw (← same) at (messaging g));
   again = λ R h request answered some T P empty may g.

@@ -1,4 +1,5 @@
 pub mod Permanent
+pub mod Reasons
 pub mod Pairs
 pub mod Commands
 pub mod Privacy

@@ -10,6 +10,7 @@ use lib.Dec.{eqb}
 use lib.ListN.{length}
 use Rattle.checks.specs.Ports.{isPort}
 use Rattle.identifier.specs.Identifier.{pgnOf}
+use Rattle.filter.specs.declared.Reason.{Reason}
 use Rattle.filter.specs.declared.Asked.{Asked}
 use Rattle.filter.specs.Filter.{isPermanent, asked}
 use Rattle.bridge.specs.declared.FrameAnswer.{FrameAnswer}
@@ -31,7 +32,7 @@ permanent which = ⊎-elim (λ e. rw e refl) (λ e. rw e refl) which
 
 -- what is answered for a port: the frame crosses, and no entry is compared
 abbrev across : Asked
-across = record { permitted = true; compared = 0 }
+across = record { reason = Reason.Permanent; compared = 0 }
 
 module _ (ports : ℕ) (rest : Rest) (p id : ℕ) (always : isPermanent (pgnOf id) ≡ true) (free : consumes (rest .own) id ≡ false) where
   offered-is : (q : ℕ) → offered ports rest p id q ≡ cond (eqb p q) silent across

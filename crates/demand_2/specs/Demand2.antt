@@ -1,9 +1,9 @@
--- Demand 2, by the contracts of the functions alone. About any records: no frame goes back, claims and requests cross, a command changes the pairs that it names, a tool sees its own.
+-- Demand 2, by the contracts of the functions alone. About any records: no frame goes back, claims and requests cross, what crosses is told with its reason, a command changes the pairs that it names, a tool sees its own.
 -- About records that calls from power-on led to: a list that is reported and sent back is that list. Proved in proofs/Demand2.antt. The quoted words are
 -- the customer's.
 use mathlib.Core.Path.{_≡_}
 use mathlib.Core.Logic.{_⊎_, _↔_}
-use mathlib.Core.Bool.{Bool, true, false, not, _&&_, _||_}
+use mathlib.Core.Bool.{Bool, true, false, not, _&&_, _||_, cond}
 use mathlib.Core.List.{List, [], _∷_}
 use Prim.Native.Nat.{ℕ, _+_, _-_, _*_, _/_, _%_, _≤_, _<_}
 use lib.ListN.{length, take, drop, getD}
@@ -11,7 +11,7 @@ use lib.Dec.{eqb, ltb}
 use Rattle.identifier.specs.Identifier.{pgnOf}
 use Rattle.delivery.specs.Calls.{Run}
 use Rattle.delivery.specs.Unit.{joinAll}
-use Rattle.filter.specs.Filter.{Filter, clear, blockSize as filterLength}
+use Rattle.filter.specs.Filter.{Mode, cleared, block, pass, Filter, clear, blockSize as filterLength}
 use Rattle.entries.specs.Entries.{listed}
 use Rattle.queue.specs.Queue.{size}
 use Rattle.addresses.specs.declared.Place.the-variants.{Free, Held}
@@ -19,7 +19,7 @@ use Rattle.checks.specs.Ports.{isPort}
 use Rattle.bridge.specs.declared.FrameAnswer.{FrameAnswer}
 use Rattle.message_answers.specs.declared.MessageAnswer.{MessageAnswer}
 use Rattle.unit.specs.declared.Claim.the-variants.{Claimed}
-use Rattle.unit.specs.Ports.{bitAt}
+use Rattle.unit.specs.Ports.{bitAt, digitAt}
 use Rattle.unit.specs.Count.{portsOf}
 use Rattle.unit.specs.Model.{Model, Rest, rowAt, pairAt, pairsFrom, modelOf}
 use Rattle.bridge.specs.Calls.{frameOf}
@@ -60,6 +60,30 @@ pub record Crossing (words : List ℕ) (port : ℕ) (r : FrameAnswer) : Type 0 w
   pub accepted : (q : ℕ) → isPort (portsOf words) q ≡ true → (port ≡ q → ⊥) → bitAt (r .accepted) (q - 1) ≡ ltb (length (rowAt (unitIn words) (q - 1))) 32
   pub lost : (q : ℕ) → isPort (portsOf words) q ≡ true → (port ≡ q → ⊥) → bitAt (r .lost) (q - 1) ≡ not (ltb (length (rowAt (unitIn words) (q - 1))) 32)
   pub compared : r .compared ≡ 0
+
+-- ---- document 02, ticket 11: "a reason: permanent, else cleared, listed in pass, not listed in block, stopped as listed, stopped as not listed", 1 to 6 in
+-- this order, by the pair's mode and list; "or ‘not asked’ where rule 2 asks no pair", 0
+abbrev pub listReason : Mode → Bool → ℕ
+listReason cleared here = 2
+listReason pass true = 3
+listReason block false = 4
+listReason block true = 5
+listReason pass false = 6
+
+abbrev pub pairReason : Filter → ℕ → ℕ
+pairReason f pgn = cond (eqb pgn 60928 || eqb pgn 59904) 1 (listReason (f .mode) (listed pgn (f .entries)))
+
+-- what the answer tells for port q: four bits a port
+abbrev pub reasonAt : FrameAnswer → ℕ → ℕ
+reasonAt r q = digitAt (r .reasons) (q - 1)
+
+pub record Reasons (words : List ℕ) (port id : ℕ) (r : FrameAnswer) : Type 0 where
+  pub asked : r .refusal ≡ 0 → r .consumed ≡ false → (q : ℕ) → isPort (portsOf words) q ≡ true → (port ≡ q → ⊥) → reasonAt r q ≡ pairReason (pairOn words port q) (pgnOf id)
+  -- not asked: the arrival port, a port that the unit has not, a refused frame, a consumed one
+  pub back : 1 ≤ port → reasonAt r port ≡ 0
+  pub past : (q : ℕ) → portsOf words < q → reasonAt r q ≡ 0
+  pub refused : (r .refusal ≡ 0 → ⊥) → r .reasons ≡ 0
+  pub consumed : r .consumed ≡ true → r .reasons ≡ 0
 
 -- ---- "A command changes the pairs it names and no other."
 -- The pairs that a payload names, by its own bytes: in functions 2, 3, 4 and 6, "byte 2 holds From in the upper four bits, To in the lower. To may be 15,
@@ -115,6 +139,7 @@ pub record Demand2 : Type 0 where
   -- a frame of such a PGN that is neither refused nor consumed
   pub always : {words bytes after : List ℕ} {port id : ℕ} {r : FrameAnswer} → Arrived words port id bytes r after
       → r .refusal ≡ 0 → r .consumed ≡ false → (pgnOf id ≡ 60928) ⊎ (pgnOf id ≡ 59904) → Crossing words port r
+  pub why : {words bytes after : List ℕ} {port id : ℕ} {r : FrameAnswer} → Arrived words port id bytes r after → Reasons words port id r
   pub only-named : {words payload lent after back : List ℕ} {port requester : ℕ} {r : MessageAnswer} → Handed words port requester payload lent r after back
       → OnlyNamed words port payload after
   -- two records that a tool on port p cannot tell apart, the same message, the same buffer

@@ -24,6 +24,7 @@ use Rattle.made.proofs.Made.{powering}
 use Rattle.demand_3.specs.Demand3.{Made, frame-made, take-made, message-made, start-made, quiet-made, unit-made, Answer, words, next, answer, bridge, modelAfter, Demand3, EveryList}
 use Rattle.demand_3.proofs.OneCall.{Good, simulates}
 use Rattle.demand_3.proofs.Named.{number-is, rule-3}
+use Rattle.demand_3.proofs.Reasons.{by-reason}
 use Rattle.demand_3.proofs.Unchanged.{unchanged, named-so}
 use Rattle.demand_3.proofs.AtPort.{Fine, lawful, powered-on}
 
@@ -41,6 +42,7 @@ module _ (ports : ℕ) where
     refuses = λ js k x a. rw (answered (next ports) (answer ports) (fresh ports name preferred) said a) (number-is ports (modelAfter ports name preferred js) k);
     unmoved = λ js k n. after-append (next ports) (fresh ports name preferred) js (k ∷ []) ∙ refused-same (modelAfter ports name preferred js) k n;
     named = λ js k x a q. rw (answered (next ports) (answer ports) (fresh ports name preferred) said a) (rule-3 ports (modelAfter ports name preferred js) q k);
+    reasoned = λ js k x a q. rw (answered (next ports) (answer ports) (fresh ports name preferred) said a) (by-reason ports (modelAfter ports name preferred js) q k);
     obeys = obeys (bridge ports) (Fine ports) (lawful ports) (fresh ports name preferred) (powered-on ports name preferred) ks xs said;
     unchanged = unchanged ports name preferred;
     named-so = named-so ports name preferred;

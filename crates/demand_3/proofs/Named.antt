@@ -12,6 +12,7 @@ use lib.Dec.{eqb}
 use lib.ListN.{length}
 use Rattle.delivery.specs.Row.{room}
 use Rattle.delivery.specs.Unit.{joinAll}
+use Rattle.filter.specs.Filter.{crosses}
 use Rattle.queue.specs.declared.Frame.{Frame}
 use Rattle.queue.specs.Queue.{size}
 use Rattle.unit.specs.declared.Sent.{Sent}
@@ -71,7 +72,7 @@ module _ (ports : ℕ) where
 
   -- ---- bits
   -- a mask of the ports names ports alone
-  no-port : (x q : ℕ) → x < 2 ^ ports → ports ≤ q → bitAt x q ≡ false
+  pub no-port : (x q : ℕ) → x < 2 ^ ports → ports ≤ q → bitAt x q ≡ false
   unfolding bitAt
   no-port x q s h =
       let small : x < 2 ^ q = omega (arith, pow-le-pow-right {n = 2} (omega arith) {i = ports} {j = q} h) in
@@ -102,11 +103,11 @@ module _ (ports : ℕ) where
       accepted =
           rw e
           (mask-exactly (λ q. accepts (offered ports (m .rest) (port - 1) id q) (rowAt m q)) q
-          (accepts-if (offered ports (m .rest) (port - 1) id q .permitted) (frameOf id bytes) (rowAt m q)));
+          (accepts-if (crosses (offered ports (m .rest) (port - 1) id q .reason)) (frameOf id bytes) (rowAt m q)));
       lost =
           rw e
           (mask-exactly (λ q. loses (offered ports (m .rest) (port - 1) id q) (rowAt m q)) q
-          (loses-if (offered ports (m .rest) (port - 1) id q .permitted) (frameOf id bytes) (rowAt m q)));
+          (loses-if (crosses (offered ports (m .rest) (port - 1) id q .reason)) (frameOf id bytes) (rowAt m q)));
       ownLost =
           rw e
           (mask-exactly

@@ -12,6 +12,7 @@ use Rattle.storage.proofs.Bytes.{packed-back}
 use Rattle.identifier.specs.Identifier.{saOf}
 use Rattle.delivery.specs.Calls.{afterCalls}
 use Rattle.delivery.proofs.Calls.{after-append}
+use Rattle.filter.specs.Filter.{crosses}
 use Rattle.queue.specs.declared.Frame.{Frame}
 use Rattle.addresses.specs.declared.Place.the-variants.{Free}
 use Rattle.address_claims.specs.declared.Event.{Event}
@@ -111,7 +112,7 @@ module _ (ports : ℕ) where
     permitted own k port id bytes false f e small m = none-sent k f m
 
     forwarded-so : (own : Unit) (k : Call) (q : ℕ) (f : Frame) → ((i : ℕ) → getD (bytesIn k) i 0 < 256) → List·Memᴰ f (forwarded ports rest k q) → AsHandedIn own k f
-    forwarded-so own (FrameIn port id bytes) q f small m = permitted own (FrameIn port id bytes) port id bytes (offered ports rest (port - 1) id q .permitted) f refl small m
+    forwarded-so own (FrameIn port id bytes) q f small m = permitted own (FrameIn port id bytes) port id bytes (crosses (offered ports rest (port - 1) id q .reason)) f refl small m
     forwarded-so own (TakeOut port) q f small m = none-sent (TakeOut port) f m
     forwarded-so own (Message port requester payload lentReply) q f small m = none-sent (Message port requester payload lentReply) f m
     forwarded-so own Start q f small m = none-sent Start f m

@@ -9,12 +9,12 @@
 --   4. the claim
 -- What demand 3 says of any product is `Obeys` of the crate `delivery` (specs/Product.antt): when a frame leaves, once, unchanged, what a take gives.
 use mathlib.Core.Path.{_≡_}
-use mathlib.Core.Bool.{Bool, true, cond}
+use mathlib.Core.Bool.{Bool, true, not, _&&_, cond}
 use mathlib.Core.Logic.{_↔_, _⊎_}
 use mathlib.Core.List.{List, [], _∷_, _++_, List·Memᴰ}
 use mathlib.Core.Option.{Option, none}
 use Prim.Native.Nat.{ℕ, suc, _+_, _-_, _%_, _≤_, _<_}
-use lib.Dec.{eqb}
+use lib.Dec.{eqb, ltb, leb}
 use lib.ListN.{length, take, getD}
 use Rattle.storage.specs.Bytes.{bytesOf}
 use Rattle.delivery.specs.Calls.{Run, afterCalls, answersOf}
@@ -30,7 +30,7 @@ use Rattle.bridge.specs.declared.StartAnswer.{StartAnswer}
 use Rattle.bridge.specs.declared.UnitAnswer.{UnitAnswer}
 use Rattle.unit.specs.declared.Unit.{Unit}
 use Rattle.unit.specs.Count.{countOf}
-use Rattle.unit.specs.Ports.{bitAt}
+use Rattle.unit.specs.Ports.{bitAt, digitAt}
 use Rattle.unit.specs.Model.{Rest, Model, rowAt, recordLength, modelOf}
 use Rattle.refusals.specs.Refusals.{quietRefusal}
 use Rattle.bridge.specs.Calls.{frameOf, offered}
@@ -188,6 +188,25 @@ ownLostPorts (ToStart r) = r .unsent
 ownLostPorts (ToQuiet number) = 0
 ownLostPorts (ToUnit r) = 0
 
+-- The reasons that an answer tells, a digit to the base 16 for each port: digit q for port q.
+abbrev pub reasonsIn : Answer → ℕ
+reasonsIn (ToFrame r) = r .reasons
+reasonsIn (ToTake r) = 0
+reasonsIn (ToMessage r reply) = 0
+reasonsIn (ToStart r) = 0
+reasonsIn (ToQuiet number) = 0
+reasonsIn (ToUnit r) = 0
+
+-- A frame crosses with the reasons 1 permanent, 2 cleared, 3 listed in pass and 4 not listed in block; not with 5 and 6, nor where no pair is asked, 0.
+abbrev pub crossing : ℕ → Bool
+crossing reason = leb 1 reason && leb reason 4
+
+-- 02, ticket 11: which ports are accepted and lost follows from the reason that is told for each, and from room. The call found the book m and was answered
+-- x; q is any number.
+pub record ByReason (m : Model) (x : Answer) (q : ℕ) : Type 0 where
+  pub accepted : bitAt (acceptedPorts x) q ≡ crossing (digitAt (reasonsIn x) q) && ltb (length (rowAt m q)) 32
+  pub lost : bitAt (lostPorts x) q ≡ crossing (digitAt (reasonsIn x) q) && not (ltb (length (rowAt m q)) 32)
+
 -- Something was sent.
 abbrev pub Sent : List Frame → Type 0
 Sent fs = fs ≡ [] → ⊥
@@ -236,6 +255,7 @@ module _ (ports name preferred : ℕ) where
     pub unmoved : (js : List Call) (k : Call) → (refusal ports (words ports) (modelAfter js .rest) k ≡ 0 → ⊥) → modelAfter (js ++ (k ∷ [])) ≡ modelAfter js
     -- "The ports that answers name as accepted or lost are those of document 01's book."
     pub named : (js : List Call) (k : Call) (x : Answer) → Answered ks xs js k x → (q : ℕ) → Rule3 ports (modelAfter js) k x q
+    pub reasoned : (js : List Call) (k : Call) (x : Answer) → Answered ks xs js k x → (q : ℕ) → ByReason (modelAfter js) x q
     -- When and where every accepted frame leaves, and what every take gives. What is accepted is what a call sent.
     pub obeys : Obeys (bridge ports) (fresh ports name preferred) ks xs
     -- And what a call sends is what was handed in to it, or the unit's own frame, with the NAME of power-on.

@@ -11,10 +11,10 @@ ghost use Rattle.bridge.specs.Calls.{Quieting};
 ghost use Rattle.deorasaeng.specs.Interface.{lentRefusal, FrameCall, TakeCall, MessageCall, StartCall, UnitCall, QueueCall};
 
 // The version of the interface, which the header names: it rises with every function, number or word that is added.
-pub const VERSION: u64 = 3;
+pub const VERSION: u64 = 4;
 
 // The published lengths of the answers.
-pub const FRAME_WORDS: usize = 7;
+pub const FRAME_WORDS: usize = 8;
 
 pub const TAKE_WORDS: usize = 3;
 

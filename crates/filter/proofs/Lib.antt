@@ -1,2 +1,3 @@
 pub mod Meaning
 mod Asking
+pub mod Reasons

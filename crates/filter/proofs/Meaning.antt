@@ -4,11 +4,12 @@ use mathlib.Core.Bool.{Bool, true, false, cond, false≢true}
 use mathlib.Core.List.{List, [], _∷_}
 use Prim.Native.Nat.{ℕ, zero, suc, _+_, _-_, _≤_, _<_, min, zero-le}
 use native.Mathlib.Omega.{arith}
-use borrow.Author.Tests.{ne-eqb, lt-ltb}
+use borrow.Author.Tests.{lt-ltb}
 use lib.Dec.{eqb, ltb, eqb·suc-zero}
 use lib.ListN.{length, getD, take, drop, set, length-take, length-drop}
 use lib.Seq.{getD-take, getD-drop, length-take-le}
-use Rattle.filter.specs.Filter.{modePlace, countPlace, listPlace, listOf, blockSize, clear, meant, filterOf, reportedMode, permits, Counting, isCleared}
+use Rattle.filter.specs.declared.Reason.{Reason}
+use Rattle.filter.specs.Filter.{modePlace, countPlace, listPlace, listOf, blockSize, clear, meant, filterOf, reportedMode, reasonOf, Counting, isCleared}
 use Rattle.pgn_list.specs.PgnList.{listSize}
 
 -- ---- the mode word
@@ -24,13 +25,22 @@ reported-test zero es = refl
 reported-test (suc zero) es = refl
 reported-test (suc (suc m)) es = rw (lt-ltb 1 (suc (suc m)) (omega arith))
 
-pub permits-test : (m : ℕ) (es : List ℕ) (here : Bool) → (m ≡ 0 → ⊥) → permits (meant m es .mode) here ≡ cond here (ltb 1 m) (eqb m 1)
-unfolding permits meant
-permits-test zero es here h = absurd (h refl)
-permits-test (suc zero) es true h = refl
-permits-test (suc zero) es false h = refl
-permits-test (suc (suc m)) es true h = sym (lt-ltb 1 (suc (suc m)) (omega arith))
-permits-test (suc (suc m)) es false h = sym (ne-eqb (suc (suc m)) 1 (λ z. omega arith))
+-- the reason, by the mode word
+pub reason-cleared : {m : ℕ} (es : List ℕ) (here : Bool) → m ≡ 0 → Reason.Cleared ≡ reasonOf (meant m es .mode) here
+unfolding reasonOf meant
+reason-cleared es here e = rw e
+
+pub reason-block : {m : ℕ} (es : List ℕ) (here : Bool) → m ≡ 1 → cond here Reason.StoppedAsListed Reason.NotListedInBlock ≡ reasonOf (meant m es .mode) here
+unfolding reasonOf meant
+reason-block es true e = rw e
+reason-block es false e = rw e
+
+pub reason-pass : (m : ℕ) (es : List ℕ) (here : Bool) → (m ≡ 0 → ⊥) → (m ≡ 1 → ⊥) → cond here Reason.ListedInPass Reason.StoppedAsNotListed ≡ reasonOf (meant m es .mode) here
+unfolding reasonOf meant
+reason-pass zero es here h k = absurd (h refl)
+reason-pass (suc zero) es here h k = absurd (k refl)
+reason-pass (suc (suc m)) es true h k = refl
+reason-pass (suc (suc m)) es false h k = refl
 
 -- ---- the list
 pub list-long : (words : List ℕ) → length words ≡ blockSize → length (listOf words) ≡ listSize

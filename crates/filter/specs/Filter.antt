@@ -9,6 +9,7 @@ use lib.Dec.{eqb}
 use Rattle.identifier.specs.Identifier.{request, addressClaimed}
 use Rattle.entries.specs.Entries.{listed}
 use Rattle.pgn_list.specs.PgnList.{listSize}
+use Rattle.filter.specs.declared.Reason.{Reason}
 use Rattle.filter.specs.declared.Asked.{Asked}
 
 -- where a block has its mode, its count and its list, which is of as many words as a list holds
@@ -73,12 +74,44 @@ place x (y ∷ ys) = cond (eqb y x) 1 (suc (place x ys))
 unfoldable pub isPermanent : ℕ → Bool
 isPermanent pgn = eqb pgn addressClaimed || eqb pgn request
 
+-- whether a pair permits a PGN
+unfoldable pub permitted : Filter → ℕ → Bool
+permitted f pgn = isPermanent pgn || permits (f .mode) (listed pgn (f .entries))
+
+-- document 02, ticket 11: the reason why a PGN that is not permanent crosses a pair of that mode or not, by whether it is listed
+unfoldable pub reasonOf : Mode → Bool → Reason
+reasonOf cleared here = Reason.Cleared
+reasonOf block true = Reason.StoppedAsListed
+reasonOf block false = Reason.NotListedInBlock
+reasonOf pass true = Reason.ListedInPass
+reasonOf pass false = Reason.StoppedAsNotListed
+
+-- whether it crosses with that reason: proved to be what the pair permits (proofs/Reasons.antt)
+abbrev pub crosses : Reason → Bool
+crosses Reason.NotAsked = false
+crosses Reason.Permanent = true
+crosses Reason.Cleared = true
+crosses Reason.ListedInPass = true
+crosses Reason.NotListedInBlock = true
+crosses Reason.StoppedAsListed = false
+crosses Reason.StoppedAsNotListed = false
+
+-- the number of a reason, as C has it
+abbrev pub reasonNumber : Reason → ℕ
+reasonNumber Reason.NotAsked = 0
+reasonNumber Reason.Permanent = 1
+reasonNumber Reason.Cleared = 2
+reasonNumber Reason.ListedInPass = 3
+reasonNumber Reason.NotListedInBlock = 4
+reasonNumber Reason.StoppedAsListed = 5
+reasonNumber Reason.StoppedAsNotListed = 6
+
 -- what asking a pair answers: a permanent PGN is looked up in no list; a cleared pair has no entries, so it compares 0
 unfoldable pub asked : Filter → ℕ → Asked
 asked f pgn =
     cond (isPermanent pgn)
-    (record { permitted = true; compared = 0 })
-    (record { permitted = permits (f .mode) (listed pgn (f .entries)); compared = place pgn (f .entries) })
+    (record { reason = Reason.Permanent; compared = 0 })
+    (record { reason = reasonOf (f .mode) (listed pgn (f .entries)); compared = place pgn (f .entries) })
 
 -- function 0: the mode as it is reported; a cleared pair shows mode 0
 unfoldable pub reportedMode : Mode → ℕ

@@ -1,9 +1,10 @@
 // One directed pair's filter, in a lent block of words: mode, count, and the PGNs in order of addition; and what is asked of it.
 use pgn_list::LIST_SIZE;
 ghost use mathlib.Core.Path.{_≡_};
-ghost use Prim.Native.Nat.{_<_};
+ghost use mathlib.Core.List.{List};
+ghost use Prim.Native.Nat.{ℕ, _<_};
 ghost use lib.ListN.{length, getD};
-ghost use Rattle.filter.specs.Filter.{blockSize, filterOf, isCleared, reportedMode, isPermanent, Asking, Counting};
+ghost use Rattle.filter.specs.Filter.{blockSize, meant, filterOf, isCleared, reportedMode, isPermanent, reasonOf, crosses, reasonNumber, Asking, Counting};
 
 // The words of a block.
 pub const BLOCK_SIZE: usize = 34;
@@ -24,10 +25,53 @@ pub const BLOCK: u64 = 1;
 
 pub const PASS: u64 = 2;
 
+// Why a frame crosses a pair or not. NotAsked is of a port whose pair is not asked.
+pub enum Reason {
+    NotAsked,
+    Permanent,
+    Cleared,
+    ListedInPass,
+    NotListedInBlock,
+    StoppedAsListed,
+    StoppedAsNotListed,
+}
+
 // What asking a pair answers.
 pub struct Asked {
-    pub permitted: bool,
+    pub reason: Reason,
     pub compared: u32,
+}
+
+impl Reason {
+    // The reason's number, as C has it.
+    pub fn number(self) -> u32
+        ensures { λ r. ⌜ r ≡ reasonNumber self ⌝ }
+    {
+        match self {
+            Reason::NotAsked => 0,
+            Reason::Permanent => 1,
+            Reason::Cleared => 2,
+            Reason::ListedInPass => 3,
+            Reason::NotListedInBlock => 4,
+            Reason::StoppedAsListed => 5,
+            Reason::StoppedAsNotListed => 6,
+        }
+    }
+
+    // Whether the frame crosses.
+    pub fn crosses(self) -> bool
+        ensures { λ r. ⌜ r ≡ crosses self ⌝ }
+    {
+        match self {
+            Reason::NotAsked => false,
+            Reason::Permanent => true,
+            Reason::Cleared => true,
+            Reason::ListedInPass => true,
+            Reason::NotListedInBlock => true,
+            Reason::StoppedAsListed => false,
+            Reason::StoppedAsNotListed => false,
+        }
+    }
 }
 
 // Whether the pair is cleared: refusal 15 of Add and Delete, and where it is not, 14 of Create.
@@ -81,21 +125,40 @@ pub fn is_permanent(pgn: u32) -> bool
     pgn == identifier::REQUEST
 }
 
-// Whether the pair permits a PGN, and how many entries were compared: forwarding rules 2 and 5.
+// Why a PGN that is not permanent crosses a pair or not, by the mode word and whether the PGN is listed.
+fn by_list(mode: u64, here: bool) -> Reason
+    ensures { λ r. ⌜ ((es : List ℕ) → r ≡ reasonOf (meant mode es .mode) here) ⌝ }
+{
+    if mode == CLEARED {
+        return Reason::Cleared;
+    }
+    if mode == BLOCK {
+        if here {
+            return Reason::StoppedAsListed;
+        }
+        return Reason::NotListedInBlock;
+    }
+    if here {
+        return Reason::ListedInPass;
+    }
+    Reason::StoppedAsNotListed
+}
+
+// Why a PGN crosses the pair or not, and how many entries were compared: forwarding rules 2 and 5.
 pub fn ask(block: &[u64], pgn: u32) -> Asked
     requires { ⌜ length (now block) ≡ blockSize ⌝ }
     ensures { λ r. ⌜ Asking (now (block .entry)) pgn r ⌝ }
 {
     if is_permanent(pgn) {
         return Asked {
-            permitted: true,
+            reason: Reason::Permanent,
             compared: 0,
         };
     }
     let mode = block[MODE];
     if mode == CLEARED {
         return Asked {
-            permitted: true,
+            reason: Reason::Cleared,
             compared: 0,
         };
     }
@@ -103,12 +166,12 @@ pub fn ask(block: &[u64], pgn: u32) -> Asked
     let at = pgn_list::find(&block[LIST..LIST_END], n, pgn as u64);
     if at < n {
         return Asked {
-            permitted: BLOCK < mode,
+            reason: by_list(mode, true),
             compared: at as u32 + 1,
         };
     }
     Asked {
-        permitted: mode == BLOCK,
+        reason: by_list(mode, false),
         compared: n as u32,
     }
 }

@@ -1,7 +1,7 @@
 -- What the rules make of every filter: commands keep it sound, a PGN keeps or changes its place as the rules say, and a list that is created from the
 -- bytes that report it is that list again. From the laws of the lists, by whether the command may be done. Assumes nothing.
 use mathlib.Core.Path.{_≡_, refl, sym, ap, _∙_}
-use mathlib.Core.Bool.{Bool, true, false, cond, not, _&&_, true≢false, and-false}
+use mathlib.Core.Bool.{Bool, true, false, cond, not, _&&_, _||_, true≢false, and-false}
 use mathlib.Core.List.{List, [], _∷_, _++_}
 use Prim.Native.Nat.{ℕ, _^_, _≤_, zero-le}
 use native.Mathlib.Nat.{le-trans}
@@ -11,8 +11,7 @@ use lib.Dec.{ltb, eqb}
 use lib.ListN.{length, replicate, length-append}
 use Rattle.identifier.specs.Identifier.{isPgn}
 use Rattle.entries.proofs.Reported.{pgns-small, reported-back}
-use Rattle.filter.specs.declared.Asked.{Asked}
-use Rattle.filter.specs.Filter.{blockSize, Mode, cleared, block, pass, Filter, clear, meant, filterOf, permits, place, isPermanent, asked, reportedMode, isCleared}
+use Rattle.filter.specs.Filter.{blockSize, Mode, cleared, block, pass, Filter, clear, meant, filterOf, permits, place, isPermanent, permitted, reportedMode, isCleared}
 use Rattle.pgn_list.specs.PgnList.{listSize, addOne, addAll, deleteAll, once}
 use Rattle.entries.specs.Entries.{listed, entriesOf, every, reported}
 use Rattle.filter_commands.specs.Changes.{wouldPass, lacks, mayAdd, mayDelete, mayCreate, added, deleted, modeFor, created, Sound}
@@ -26,15 +25,11 @@ pub fresh-cleared : filterOf (replicate blockSize 0) ≡ clear
 unfolding filterOf meant
 fresh-cleared = refl
 
--- an answer that compared nothing
-abbrev at-once : Bool → Asked
-at-once permitted = record { permitted = permitted; compared = 0 }
-
-pub cleared-permits : (pgn : ℕ) → asked clear pgn ≡ at-once true
-unfolding asked permits place
+pub cleared-permits : (pgn : ℕ) → permitted clear pgn ≡ true
+unfolding permitted permits
 cleared-permits pgn = go (isPermanent pgn)
   where
-    go : (b : Bool) → cond b (at-once true) (at-once true) ≡ at-once true
+    go : (b : Bool) → (b || true) ≡ true
     go true = refl
     go false = refl
 
@@ -46,11 +41,11 @@ cleared-not-block es e =
     omega arith
 
 -- a pass pair with no entries permits nothing but the permanent PGNs
-pub emptied-pass : (pgn : ℕ) → asked (record { mode = pass; entries = [] }) pgn ≡ at-once (isPermanent pgn)
-unfolding asked permits listed place
+pub emptied-pass : (pgn : ℕ) → permitted (record { mode = pass; entries = [] }) pgn ≡ isPermanent pgn
+unfolding permitted permits listed
 emptied-pass pgn = go (isPermanent pgn)
   where
-    go : (b : Bool) → cond b (at-once true) (at-once false) ≡ at-once b
+    go : (b : Bool) → (b || false) ≡ b
     go true = refl
     go false = refl
 

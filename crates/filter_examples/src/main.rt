@@ -1,4 +1,5 @@
-// Hand-made cases from document 01 on one pair, run: forwarding rules 2 and 5, functions 2, 3, 4 and 6, and what is an entry.
+// Hand-made cases from document 01 on one pair, run: forwarding rules 2 and 5 and the reason of each answer, functions 2, 3, 4 and 6, and what is an entry.
+use filter::Reason;
 use libc::STDOUT_FILENO;
 ghost use mathlib.Core.Path.{_≡_};
 ghost use lib.ListN.{length};
@@ -65,17 +66,30 @@ fn outcome(block: &[u64], done: bool, refusal: u64)
     pair(block);
 }
 
+// A reason in words.
+fn why(reason: Reason) {
+    match reason {
+        Reason::NotAsked => say(b" not asked"),
+        Reason::Permanent => say(b" permanent"),
+        Reason::Cleared => say(b" cleared"),
+        Reason::ListedInPass => say(b" listed in pass"),
+        Reason::NotListedInBlock => say(b" not listed in block"),
+        Reason::StoppedAsListed => say(b" stopped as listed"),
+        Reason::StoppedAsNotListed => say(b" stopped as not listed"),
+    }
+}
+
 // Asks the pair for a PGN.
 fn ask(block: &[u64], pgn: u32) {
     if block.len() != filter::BLOCK_SIZE {
         return;
     }
     let asked = filter::ask(block, pgn);
+    let reason = asked.reason;
     number(b"  PGN ", pgn as u64);
-    if asked.permitted {
-        say(b" permitted");
-    } else {
-        say(b" stopped");
+    why(reason);
+    if reason.crosses() {
+        say(b", crosses");
     }
     number(b", compared ", asked.compared as u64);
     say(b"\n");
@@ -160,6 +174,25 @@ fn fill(bytes: &mut [u8]) {
     }
 }
 
+// Address claims and requests cross every pair; with a page bit it is another PGN.
+fn permanent(block: &[u64]) {
+    ask(block, 60928);
+    ask(block, 59904);
+    ask(block, 60928 + 65536);
+}
+
+// Claims and requests may be listed, without effect.
+fn listed_claims(block: &mut [u64]) {
+    let bytes = [0x00, 0xEE, 0x00, 0x00, 0xEA, 0x00];
+    create(b"Create block 60928 59904", block, false, &bytes);
+    permanent(block);
+    clear(block);
+    create(b"Create pass 60928 59904", block, true, &bytes);
+    permanent(block);
+    clear(block);
+    permanent(block);
+}
+
 // A cleared pair permits all; Add and Delete are for another.
 fn cleared_pair(block: &mut [u64]) {
     let bytes = [0xF1, 0xFE, 0x00];
@@ -174,6 +207,7 @@ fn pass_pair(block: &mut [u64]) {
     create(b"Create pass 65265", block, true, &bytes);
     ask(block, 65265);
     ask(block, 61444);
+    permanent(block);
     create(b"Create block 65265", block, false, &bytes);
 }
 
@@ -236,6 +270,7 @@ fn three_bytes() {
 // The cases, one after the other on one pair.
 fn main() {
     let mut block = [0u64; filter::BLOCK_SIZE];
+    listed_claims(&mut block);
     cleared_pair(&mut block);
     pass_pair(&mut block);
     longer_pair(&mut block);

@@ -16,11 +16,11 @@ use Rattle.unit.specs.Own.{claimWord}
 
 -- ---- a frame
 abbrev pub frameLength : ℕ
-frameLength = 7
+frameLength = 8
 
--- consumed (0, 1), accepted ports, lost ports, claim event, old NAME, ports where the unit's own frame was lost, entries compared
+-- consumed (0, 1), accepted ports, lost ports, claim event, old NAME, ports where the unit's own frame was lost, entries compared, reasons
 abbrev pub frameWords : FrameAnswer → List ℕ
-frameWords a = cond (a .consumed) 1 0 ∷ a .accepted ∷ a .lost ∷ eventNumber (a .event) ∷ oldName (a .event) ∷ a .unsent ∷ a .compared ∷ []
+frameWords a = cond (a .consumed) 1 0 ∷ a .accepted ∷ a .lost ∷ eventNumber (a .event) ∷ oldName (a .event) ∷ a .unsent ∷ a .compared ∷ a .reasons ∷ []
 
 -- ---- a take
 abbrev pub takeLength : ℕ

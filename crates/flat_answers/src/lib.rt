@@ -35,6 +35,7 @@ pub fn tell_frame(answer: &mut [u64], a: FrameAnswer)
     answer[4] = event.old_name();
     answer[5] = a.unsent as u64;
     answer[6] = a.compared as u64;
+    answer[7] = a.reasons;
 }
 
 // Writes the eight bytes of a word, least significant first.

@@ -9,16 +9,18 @@ use native.Mathlib.Omega.{arith}
 use lib.ListN.{length}
 use Rattle.delivery.specs.Unit.{joinAll}
 use Rattle.filter.specs.declared.Asked.{Asked}
+use Rattle.filter.specs.Filter.{reasonNumber}
+use Rattle.filter.proofs.Reasons.{reason-below}
 use Rattle.pgn_list.specs.PgnList.{listSize}
 use Rattle.queue.specs.declared.Frame.{Frame}
 use Rattle.queue.specs.Queue.{size}
 use Rattle.unit.specs.declared.Sent.the-variants.{One}
 use Rattle.forwarding.specs.declared.Share.{Share}
-use Rattle.unit.specs.Ports.{each, mask, total}
+use Rattle.unit.specs.Ports.{each, mask, digits, total}
 use Rattle.unit.specs.Model.{Rest, modelOf, rowAt, withRow, withRows, recordLength}
 use Rattle.forwarding.specs.Forwarding.{sentIf, accepts, loses, losesOwn}
 use Rattle.forwarding.specs.Steps.{changedTo, share, forwardedTo, sharesTo, Sending, Forwarding, announcedTo, unsentTo, OwnJoining, Announcing}
-use Rattle.unit.proofs.Ports.{each-later, each-step, mask-step, total-step, mask-small, choice-small, each-none, mask-none}
+use Rattle.unit.proofs.Ports.{each-later, each-step, mask-step, digits-step, digits-small, total-step, mask-small, choice-small, each-none, mask-none}
 use Rattle.record.proofs.Regions.{rows-long}
 use Rattle.unit.specs.declared.Sent.{Sent}
 
@@ -63,44 +65,47 @@ module _ {ports : ℕ} {start : List ℕ} {change : ℕ → List Frame → List 
         omega (arith, bit-small h, A .weight)
 
 -- ---- a forwarded frame, by any question
-pub record Going (ports : ℕ) (start : List ℕ) (question : ℕ → Asked) (f : Frame) (words : List ℕ) (accepted lost compared bit n : ℕ) : Type 0 where
+pub record Going (ports : ℕ) (start : List ℕ) (question : ℕ → Asked) (f : Frame) (words : List ℕ) (accepted lost reasons compared bit weight n : ℕ) : Type 0 where
   pub along : Along ports start (λ q row. joinAll size row (sentIf (question q) f)) words bit n
-  pub answer : record { accepted = accepted; lost = lost; compared = compared } ≡ sharesTo n (modelOf ports start) question
+  pub place : weight ≡ 16 ^ n
+  pub answer : record { accepted = accepted; lost = lost; reasons = reasons; compared = compared } ≡ sharesTo n (modelOf ports start) question
   pub small : compared ≤ listSize * n
 
 -- forwarding changes rows alone, so what is asked of the rest is answered as it was at the start
-pub asked-still : {ports : ℕ} (question : Rest → ℕ → Asked) {start words after : List ℕ} {f : Frame} {accepted lost compared bit n : ℕ} {r : Share} → Going ports start (question (modelOf ports start .rest)) f words accepted lost compared bit n
-    → Sending ports words after (question (modelOf ports words .rest) n) n bit f r → Sending ports words after (question (modelOf ports start .rest) n) n bit f r
+pub asked-still : {ports : ℕ} (question : Rest → ℕ → Asked) {start words after : List ℕ} {f : Frame} {accepted lost reasons compared bit weight n : ℕ} {r : Share} → Going ports start (question (modelOf ports start .rest)) f words accepted lost reasons compared bit weight n
+    → Sending ports words after (question (modelOf ports words .rest) n) n bit weight f r → Sending ports words after (question (modelOf ports start .rest) n) n bit weight f r
 asked-still question G S = rw (rest-still (G .along)) at S
 
 module _ {ports : ℕ} {start : List ℕ} {question : ℕ → Asked} {f : Frame} where
-  pub going-start : ports ≤ 8 → length start ≡ recordLength ports → Going ports start question f start 0 0 0 1 0
-  unfolding sharesTo mask total
-  going-start few h = record { along = along-start few h; answer = refl; small = omega arith }
+  pub going-start : ports ≤ 8 → length start ≡ recordLength ports → Going ports start question f start 0 0 0 0 1 1 0
+  unfolding sharesTo mask digits total
+  going-start few h = record { along = along-start few h; place = refl; answer = refl; small = omega arith }
 
-  pub going-done : {words : List ℕ} {accepted lost compared bit n : ℕ} → n ≡ ports → Going ports start question f words accepted lost compared bit n
-      → Forwarding ports start words question f (record { accepted = accepted; lost = lost; compared = compared })
+  pub going-done : {words : List ℕ} {accepted lost reasons compared bit weight n : ℕ} → n ≡ ports → Going ports start question f words accepted lost reasons compared bit weight n
+      → Forwarding ports start words question f (record { accepted = accepted; lost = lost; reasons = reasons; compared = compared })
   unfolding forwardedTo
   going-done e G = record { answer = rw e at (G .answer); state = rw e at (G .along .state) }
 
-  module _ {words after : List ℕ} {accepted lost compared bit n : ℕ} {r : Share} (G : Going ports start question f words accepted lost compared bit n) (S : Sending ports words after (question n) n bit f r) (more : n < ports) where
-    share-is : r ≡ share (2 ^ n) (question n) (rowAt (modelOf ports start) n)
-    share-is = rw (row-still (G .along), G .along .weight) at (S .answer)
+  module _ {words after : List ℕ} {accepted lost reasons compared bit weight n : ℕ} {r : Share} (G : Going ports start question f words accepted lost reasons compared bit weight n) (S : Sending ports words after (question n) n bit weight f r) (more : n < ports) where
+    share-is : r ≡ share (2 ^ n) (16 ^ n) (question n) (rowAt (modelOf ports start) n)
+    share-is = rw (row-still (G .along), G .along .weight, G .place) at (S .answer)
 
-    pub going-more : length after ≡ recordLength ports → Going ports start question f after (accepted + r .accepted) (lost + r .lost) (compared + r .compared) (2 * bit) (n + 1)
+    pub going-more : length after ≡ recordLength ports → Going ports start question f after (accepted + r .accepted) (lost + r .lost) (reasons + r .reasons) (compared + r .compared) (2 * bit) (16 * weight) (n + 1)
     unfolding sharesTo
     going-more h = record {
       along = along-more (G .along) more h (S .state);
+      place = rw (G .place, add-one n, pow-succ' 16 n);
       answer =
           let a : accepted ≡ _ = ap (λ (x : Share). x .accepted) (G .answer) in
           let l : lost ≡ _ = ap (λ (x : Share). x .lost) (G .answer) in
+          let w : reasons ≡ _ = ap (λ (x : Share). x .reasons) (G .answer) in
           let d : compared ≡ _ = ap (λ (x : Share). x .compared) (G .answer) in
-          rw (a, l, d, share-is, mask-step, mask-step, total-step);
+          rw (a, l, w, d, share-is, mask-step, mask-step, digits-step, total-step);
       small = omega (arith, S .small, G .small);
     }
 
     -- no sum overflows
-    pub sums : (accepted + r .accepted < 256) × (lost + r .lost < 256) × (compared + r .compared < 288) × (2 * bit ≤ 256)
+    pub sums : (accepted + r .accepted < 256) × (lost + r .lost < 256) × (compared + r .compared < 288) × (reasons + r .reasons < 2 ^ 36)
     unfolding sharesTo
     sums =
         let row = rowAt (modelOf ports words) n in (
@@ -109,14 +114,28 @@ module _ {ports : ℕ} {start : List ℕ} {question : ℕ → Asked} {f : Frame}
           mask-sum (G .along) (λ q. loses (question q) (rowAt (modelOf ports start) q)) more
               (ap (λ (x : Share). x .lost) (G .answer)) (rw (S .answer) (choice-small (loses (question n) row) bit)),
           omega (arith, S .small, G .small, G .along .few),
-          omega (arith, bit-small (G .along) more),
+          told-below,
         )
+      where
+        told : ℕ → ℕ
+        told q = reasonNumber (question q .reason)
+
+        told-sum : reasons + r .reasons ≡ digits told (n + 1)
+        told-sum =
+            let w : reasons ≡ digits told n = ap (λ (x : Share). x .reasons) (G .answer) in
+            rw (w, share-is, digits-step)
+
+        told-below : reasons + r .reasons < 2 ^ 36
+        told-below = rw told-sum (omega (arith, digits-small told (λ q. reason-below (question q .reason)) (n + 1), pow-le-pow-right {n = 16} (omega arith) {i = n + 1} {j = 8} (omega (arith, G .along .few))))
+
+  pub weight-small : {words : List ℕ} {accepted lost reasons compared bit weight n : ℕ} → Going ports start question f words accepted lost reasons compared bit weight n → n < ports → weight ≤ 2 ^ 28
+  weight-small {n = n} G more = rw (G .place) (pow-le-pow-right {n = 16} (omega arith) {i = n} {j = 7} (omega (arith, G .along .few)))
 
   -- where nothing is asked, nothing is added
-  pub going-self : {words : List ℕ} {accepted lost compared bit n : ℕ} → Going ports start question f words accepted lost compared bit n → n < ports
-      → Sending ports words words (question n) n bit f (record { accepted = 0; lost = 0; compared = 0 }) → Going ports start question f words accepted lost compared (2 * bit) (n + 1)
-  going-self {accepted = accepted} {lost = lost} {compared = compared} G more S =
-      rw (add-zero accepted, add-zero lost, add-zero compared) at (going-more G S more (G .along .whole))
+  pub going-self : {words : List ℕ} {accepted lost reasons compared bit weight n : ℕ} → Going ports start question f words accepted lost reasons compared bit weight n → n < ports
+      → Sending ports words words (question n) n bit weight f (record { accepted = 0; lost = 0; reasons = 0; compared = 0 }) → Going ports start question f words accepted lost reasons compared (2 * bit) (16 * weight) (n + 1)
+  going-self {accepted = accepted} {lost = lost} {reasons = reasons} {compared = compared} G more S =
+      rw (add-zero accepted, add-zero lost, add-zero reasons, add-zero compared) at (going-more G S more (G .along .whole))
 
 -- ---- the unit's own frame
 pub record Telling (ports : ℕ) (start : List ℕ) (f : Frame) (words : List ℕ) (lost bit n : ℕ) : Type 0 where

@@ -3,12 +3,13 @@ use mathlib.Core.Path.{_≡_, sym}
 use mathlib.Core.Bool.{Bool, true, false, not, cond}
 use mathlib.Core.List.{List, []}
 use mathlib.Core.Logic.{inl, inr, ⊎-elim}
-use Prim.Native.Nat.{ℕ, _+_, _-_, _*_, _≤_, _<_}
+use Prim.Native.Nat.{ℕ, _+_, _-_, _*_, _^_, _≤_, _<_}
+use native.Mathlib.Nat.{le-trans, mul-le-mul-left, mul-le-mul-right, mul-zero}
 use native.Mathlib.Omega.{arith}
 use borrow.Author.Tests.{eq-eqb, ne-eqb, lt-ltb, le-ltb}
 use lib.Seq.{set-getD}
 use Rattle.filter.specs.declared.Asked.{Asked}
-use Rattle.filter.specs.Filter.{blockSize as filterLength}
+use Rattle.filter.specs.Filter.{crosses, reasonNumber, blockSize as filterLength}
 use Rattle.queue.specs.declared.Frame.{Frame}
 use Rattle.unit.specs.Count.{pairCount}
 use Rattle.unit.specs.Model.{Model, modelOf, rowAt, withRow, pairsFrom, pairAt}
@@ -20,32 +21,39 @@ use Rattle.forwarding.specs.Steps.{Sending, Standing, OwnJoining}
 row-same : (m : Model) (q : ℕ) → m ≡ withRow m q (rowAt m q)
 row-same m q = rw (set-getD (m .rows) q [])
 
+-- a reason at its place fits a word
+pub told-small : (weight d : ℕ) → weight ≤ 2 ^ 32 → d < 16 → weight * d ≤ 2 ^ 36
+told-small weight d h l = le-trans (mul-le-mul-right d h) (mul-le-mul-left (2 ^ 32) (below l))
+  where
+    below : d < 16 → d ≤ 16
+    below l = omega arith
+
 verdict-is : {ports : ℕ} {before : List ℕ} {p q pgn : ℕ} {v : Asked} → (p ≡ q → ⊥) → PairAsking ports before p q pgn v → verdict ports (modelOf ports before .rest .pairs) p pgn q ≡ v
 unfolding verdict
 verdict-is {ports} {before} {p} {q} ne P = rw (ne-eqb p q ne) (sym (P .answer))
 
-module _ {ports : ℕ} {before : List ℕ} {p q bit : ℕ} (pgn : ℕ) {f : Frame} where
+module _ {ports : ℕ} {before : List ℕ} {p q bit weight : ℕ} (pgn : ℕ) {f : Frame} where
   -- the arrival port
-  pub send-self : p ≡ q → Sending ports before before (verdict ports (modelOf ports before .rest .pairs) p pgn q) q bit f (record { accepted = 0; lost = 0; compared = 0 })
+  pub send-self : p ≡ q → Sending ports before before (verdict ports (modelOf ports before .rest .pairs) p pgn q) q bit weight f (record { accepted = 0; lost = 0; reasons = 0; compared = 0 })
   unfolding verdict
   send-self e = record {
-    answer = rw (eq-eqb p q e);
+    answer = rw (eq-eqb p q e, mul-zero weight);
     state = rw (eq-eqb p q e) (row-same (modelOf ports before) q);
     small = omega arith;
   }
 
-  module _ {v : Asked} (ne : p ≡ q → ⊥) (P : PairAsking ports before p q pgn v) where
-    pub send-stopped : v .permitted ≡ false → Sending ports before before (verdict ports (modelOf ports before .rest .pairs) p pgn q) q bit f (record { accepted = 0; lost = 0; compared = v .compared })
+  module _ {v : Asked} {told : ℕ} (ne : p ≡ q → ⊥) (P : PairAsking ports before p q pgn v) (T : told ≡ reasonNumber (v .reason)) where
+    pub send-stopped : crosses (v .reason) ≡ false → Sending ports before before (verdict ports (modelOf ports before .rest .pairs) p pgn q) q bit weight f (record { accepted = 0; lost = 0; reasons = weight * told; compared = v .compared })
     send-stopped e = record {
-      answer = rw (verdict-is ne P, e);
+      answer = rw (verdict-is ne P, e, T);
       state = rw (verdict-is ne P, e) (row-same (modelOf ports before) q);
       small = P .small;
     }
 
-    pub send-permitted : {after : List ℕ} {w : Bool} (b : Bool) → v .permitted ≡ true → w ≡ b → RowJoining ports before after q f w
-        → Sending ports before after (verdict ports (modelOf ports before .rest .pairs) p pgn q) q bit f (record { accepted = cond b bit 0; lost = cond (not b) bit 0; compared = v .compared })
+    pub send-permitted : {after : List ℕ} {w : Bool} (b : Bool) → crosses (v .reason) ≡ true → w ≡ b → RowJoining ports before after q f w
+        → Sending ports before after (verdict ports (modelOf ports before .rest .pairs) p pgn q) q bit weight f (record { accepted = cond b bit 0; lost = cond (not b) bit 0; reasons = weight * told; compared = v .compared })
     send-permitted b e h J = record {
-      answer = rw (verdict-is ne P, e, ← (J .answer), h);
+      answer = rw (verdict-is ne P, e, ← (J .answer), h, T);
       state = rw (verdict-is ne P, e) (J .state);
       small = P .small;
     }

@@ -6,8 +6,9 @@ use mathlib.Core.List.{List, [], _∷_}
 use lib.ListN.{getD}
 use lib.Dec.{eqb}
 use Rattle.delivery.specs.Row.{room}
+use Rattle.filter.specs.declared.Reason.{Reason}
 use Rattle.filter.specs.declared.Asked.{Asked}
-use Rattle.filter.specs.Filter.{Filter, clear, asked}
+use Rattle.filter.specs.Filter.{Filter, clear, crosses, asked}
 use Rattle.queue.specs.declared.Frame.{Frame}
 use Rattle.queue.specs.Queue.{size}
 use Rattle.unit.specs.declared.Sent.{Sent}
@@ -16,7 +17,7 @@ use Rattle.unit.specs.Model.{pairAt}
 -- ---- rule 2, and what rule 5 counts: what is answered for port q
 -- where no pair is asked: nothing crosses and nothing is compared
 abbrev pub silent : Asked
-silent = record { permitted = false; compared = 0 }
+silent = record { reason = Reason.NotAsked; compared = 0 }
 
 -- the pair p to q is asked; the arrival port is no target
 unfoldable pub verdict : ℕ → List Filter → ℕ → ℕ → ℕ → Asked
@@ -24,13 +25,13 @@ verdict ports pairs p pgn q = cond (eqb p q) silent (asked (getD pairs (pairAt p
 
 -- ---- rule 3: what is sent to port q, and whether it is accepted or lost there
 abbrev pub sentIf : Asked → Frame → List Frame
-sentIf v f = cond (v .permitted) (f ∷ []) []
+sentIf v f = cond (crosses (v .reason)) (f ∷ []) []
 
 abbrev pub accepts : Asked → List Frame → Bool
-accepts v row = v .permitted && room size row
+accepts v row = crosses (v .reason) && room size row
 
 abbrev pub loses : Asked → List Frame → Bool
-loses v row = v .permitted && not (room size row)
+loses v row = crosses (v .reason) && not (room size row)
 
 -- whether the unit's own frame is lost at a row
 abbrev pub losesOwn : Sent → List Frame → Bool

@@ -7,12 +7,12 @@ use mathlib.Core.Path.{_≡_}
 use mathlib.Core.List.{List, [], _∷_}
 use Rattle.delivery.specs.Unit.{joinAll}
 use Rattle.filter.specs.declared.Asked.{Asked}
-use Rattle.filter.specs.Filter.{blockSize as filterLength}
+use Rattle.filter.specs.Filter.{reasonNumber, blockSize as filterLength}
 use Rattle.pgn_list.specs.PgnList.{listSize}
 use Rattle.queue.specs.declared.Frame.{Frame}
 use Rattle.queue.specs.Queue.{size}
 use Rattle.unit.specs.declared.Sent.{Sent}
-use Rattle.unit.specs.Ports.{each, mask, total}
+use Rattle.unit.specs.Ports.{each, mask, digits, total}
 use Rattle.unit.specs.Model.{Model, rowAt, withRow, withRows, pairsFrom, pairAt, modelOf}
 use Rattle.unit.specs.Count.{pairCount}
 use Rattle.unit.specs.Own.{framesSent}
@@ -24,19 +24,24 @@ abbrev pub changedTo : ℕ → Model → (ℕ → List Frame → List Frame) →
 changedTo n m change = withRows m (each change n (m .rows))
 
 -- ---- a frame, by any question that is asked of a port: where port q answered v, and where the first n ports answered `question`
-abbrev pub share : ℕ → Asked → List Frame → Share
-share bit v row = record { accepted = cond (accepts v row) bit 0; lost = cond (loses v row) bit 0; compared = v .compared }
+abbrev pub share : ℕ → ℕ → Asked → List Frame → Share
+share bit weight v row = record {
+  accepted = cond (accepts v row) bit 0;
+  lost = cond (loses v row) bit 0;
+  reasons = weight * reasonNumber (v .reason);
+  compared = v .compared;
+}
 
-pub record Sending (ports : ℕ) (before after : List ℕ) (v : Asked) (q bit : ℕ) (f : Frame) (r : Share) : Type 0 where
-  pub answer : r ≡ share bit v (rowAt (modelOf ports before) q)
+pub record Sending (ports : ℕ) (before after : List ℕ) (v : Asked) (q bit weight : ℕ) (f : Frame) (r : Share) : Type 0 where
+  pub answer : r ≡ share bit weight v (rowAt (modelOf ports before) q)
   pub state : modelOf ports after ≡ withRow (modelOf ports before) q (joinAll size (rowAt (modelOf ports before) q) (sentIf v f))
   pub small : r .compared ≤ listSize
 
 -- from any other port, by the pair whose filter begins at a word, whatever the number of ports
-abbrev pub SendingAt : (before after : List ℕ) (at q bit pgn : ℕ) (f : Frame) (r : Share) → Type 0
-SendingAt before after at q bit pgn f r =
+abbrev pub SendingAt : (before after : List ℕ) (at q bit weight pgn : ℕ) (f : Frame) (r : Share) → Type 0
+SendingAt before after at q bit weight pgn f r =
     (ports p : ℕ) → q < ports → (p ≡ q → ⊥) → pairAt ports p q < pairCount ports → at ≡ pairsFrom ports + filterLength * pairAt ports p q
-    → Sending ports before after (verdict ports (modelOf ports before .rest .pairs) p pgn q) q bit f r
+    → Sending ports before after (verdict ports (modelOf ports before .rest .pairs) p pgn q) q bit weight f r
 
 -- where the filter begins that port p's frame meets next, before port n: port p itself has none
 abbrev pub Standing : ℕ → ℕ → ℕ → ℕ → Type 0
@@ -50,6 +55,7 @@ unfoldable pub sharesTo : ℕ → Model → (ℕ → Asked) → Share
 sharesTo n m question = record {
   accepted = mask (λ q. accepts (question q) (rowAt m q)) n;
   lost = mask (λ q. loses (question q) (rowAt m q)) n;
+  reasons = digits (λ q. reasonNumber (question q .reason)) n;
   compared = total (λ q. question q .compared) n;
 }
 

@@ -2,7 +2,7 @@
 use queue::Frame;
 use unit::Sent;
 ghost use mathlib.Core.Path.{_≡_};
-ghost use Prim.Native.Nat.{ℕ, _+_, _*_, _≤_, _<_};
+ghost use Prim.Native.Nat.{ℕ, _+_, _*_, _^_, _≤_, _<_};
 ghost use lib.ListN.{length};
 ghost use Rattle.queue.specs.Queue.{blockLength as queueLength};
 ghost use Rattle.filter.specs.Filter.{blockSize as filterLength};
@@ -10,38 +10,45 @@ ghost use Rattle.unit.specs.Model.{modelOf, recordLength, rowsFrom};
 ghost use Rattle.forwarding.specs.Forwarding.{verdict};
 ghost use Rattle.forwarding.specs.Steps.{SendingAt, Forwarding, Announcing, OwnJoining};
 
-// What came of a frame: accepted and lost ports as masks, bit p - 1 for port p, and the entries compared.
+// What came of a frame: accepted and lost ports as masks, bit p - 1 for port p; the reasons, four bits a port, port p's from bit 4(p - 1); the entries
+// compared.
 pub struct Share {
     pub accepted: u32,
     pub lost: u32,
+    pub reasons: u64,
     pub compared: u32,
 }
 
 // A frame from one port at another: the pair, whose filter begins at a word, is asked, and the frame joins where it is permitted.
-fn send(words: &mut [u64], at: usize, to: usize, bit: u32, pgn: u32, f: Frame) -> Share
-    requires { ⌜ (at + filterLength ≤ length (now words)) × (rowsFrom + queueLength * to + queueLength ≤ length (now words)) ⌝ }
-    ensures { λ r. ⌜ SendingAt (now (words .entry)) (now (words .exit)) at to bit pgn f r ⌝ }
+fn send(words: &mut [u64], at: usize, to: usize, bit: u32, weight: u64, pgn: u32, f: Frame) -> Share
+    requires { ⌜ (at + filterLength ≤ length (now words)) × (rowsFrom + queueLength * to + queueLength ≤ length (now words)) × (weight ≤ 2 ^ 32) ⌝ }
+    ensures { λ r. ⌜ SendingAt (now (words .entry)) (now (words .exit)) at to bit weight pgn f r ⌝ }
 {
     let v = record::ask_filter(words, at, pgn);
+    let reason = v.reason;
+    let reasons = weight * reason.number() as u64;
     let compared = v.compared;
-    if v.permitted {
+    if reason.crosses() {
         let waits = record::join_row(words, to, f);
         if waits {
             return Share {
                 accepted: bit,
                 lost: 0,
+                reasons,
                 compared,
             };
         }
         return Share {
             accepted: 0,
             lost: bit,
+            reasons,
             compared,
         };
     }
     Share {
         accepted: 0,
         lost: 0,
+        reasons,
         compared,
     }
 }
@@ -53,24 +60,29 @@ pub fn forward(words: &mut [u64], ports: usize, from: usize, pgn: u32, f: Frame)
 {
     let mut accepted: u32 = 0;
     let mut lost: u32 = 0;
+    let mut reasons: u64 = 0;
     let mut compared: u32 = 0;
     let mut bit: u32 = 1;
+    let mut weight: u64 = 1;
     let mut at = record::filters_from(ports, from);
     let mut to: usize = 0;
     while to < ports {
         if from != to {
-            let s = send(words, at, to, bit, pgn, f);
+            let s = send(words, at, to, bit, weight, pgn, f);
             accepted += s.accepted;
             lost += s.lost;
+            reasons += s.reasons;
             compared += s.compared;
             at += filter::BLOCK_SIZE;
         }
         bit = 2 * bit;
+        weight = 16 * weight;
         to += 1;
     }
     Share {
         accepted,
         lost,
+        reasons,
         compared,
     }
 }

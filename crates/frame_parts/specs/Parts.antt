@@ -58,7 +58,7 @@ pairRefusal ports lent from to id len = cond (noPort ports to) 1 (frameRefusal p
 
 -- ---- ask one pair (rule 2): by the identifier alone, which has no length; the arrival port is no target
 abbrev pub askedOf : ℕ → Asked → AskAnswer
-askedOf refusal v = record { refusal = refusal; permitted = v .permitted; compared = v .compared }
+askedOf refusal v = record { refusal = refusal; reason = v .reason; compared = v .compared }
 
 unfoldable pub askAnswer : ℕ → ℕ → Rest → ℕ → ℕ → ℕ → AskAnswer
 askAnswer ports lent rest from to id =

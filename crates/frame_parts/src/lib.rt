@@ -1,5 +1,6 @@
 // What a frame's call is made of, each part as a call of its own that refuses and requires nothing: another product is built on these.
 use address_claims::Event;
+use filter::Reason;
 use queue::Frame;
 use unit::Sent;
 use unit::Unit;
@@ -18,10 +19,10 @@ pub struct Arrival {
     pub claim: bool,
 }
 
-// Whether a pair permits a frame, and the entries compared, or the refusal.
+// Why a frame crosses a pair or not, and the entries compared, or the refusal.
 pub struct AskAnswer {
     pub refusal: u32,
-    pub permitted: bool,
+    pub reason: Reason,
     pub compared: u32,
 }
 
@@ -100,23 +101,24 @@ pub fn ask(words: &[u64], from: u32, to: u32, id: u32) -> AskAnswer
     if number != 0 {
         return AskAnswer {
             refusal: number,
-            permitted: false,
+            reason: Reason::NotAsked,
             compared: 0,
         };
     }
     if from == to {
         return AskAnswer {
             refusal: 0,
-            permitted: false,
+            reason: Reason::NotAsked,
             compared: 0,
         };
     }
     let p = from as usize - 1;
     let q = to as usize - 1;
     let v = record::ask_pair(words, ports as usize, p, q, identifier::pgn(id));
+    let reason = v.reason;
     AskAnswer {
         refusal: 0,
-        permitted: v.permitted,
+        reason,
         compared: v.compared,
     }
 }

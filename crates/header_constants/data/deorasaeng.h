@@ -26,7 +26,7 @@ extern "C" {
 
 /* The version of this interface. A version may add functions, numbers, and words at the end of an answer, whose published length then grows: a call that lends
    the old length is refused with 2. So callers are compiled again with the header of the library that they link. */
-#define DEORASAENG_VERSION 3
+#define DEORASAENG_VERSION 4
 
 /* What a function gives back: 0 for done, else why the call is refused. */
 enum deorasaeng_number {
@@ -86,7 +86,7 @@ enum deorasaeng_number {
      (ports) == 7 ? DEORASAENG_RECORD_WORDS_7 : (ports) == 8 ? DEORASAENG_RECORD_WORDS_8 : DEORASAENG_RECORD_WORDS)
 
 /* Lengths of the answers, in words. */
-#define DEORASAENG_FRAME_ANSWER 7
+#define DEORASAENG_FRAME_ANSWER 8
 #define DEORASAENG_TAKE_ANSWER 3
 #define DEORASAENG_MESSAGE_ANSWER 2
 #define DEORASAENG_START_ANSWER 2
@@ -100,8 +100,24 @@ enum deorasaeng_frame_word {
     DEORASAENG_EVENT = 3,     /* the claim event */
     DEORASAENG_OLD_NAME = 4,  /* the NAME that was taken over from, 0 unless TookOver */
     DEORASAENG_OWN_LOST = 5,  /* ports where the unit's own frame was lost */
-    DEORASAENG_COMPARED = 6   /* entries compared */
+    DEORASAENG_COMPARED = 6,  /* entries compared */
+    DEORASAENG_REASONS = 7    /* what each port's pair said; DEORASAENG_REASON reads one */
 };
+
+/* Why a frame was let through to a port or stopped on the way there. At a port that let it through it may still be lost, if 32 waited there. */
+enum deorasaeng_reason {
+    DEORASAENG_REASON_NOT_ASKED = 0,            /* not asked */
+    DEORASAENG_REASON_PERMANENT = 1,            /* permanent */
+    DEORASAENG_REASON_CLEARED = 2,              /* cleared */
+    DEORASAENG_REASON_LISTED_IN_PASS = 3,       /* listed in pass */
+    DEORASAENG_REASON_NOT_LISTED_IN_BLOCK = 4,  /* not listed in block */
+    DEORASAENG_REASON_STOPPED_AS_LISTED = 5,    /* stopped as listed */
+    DEORASAENG_REASON_STOPPED_AS_NOT_LISTED = 6 /* stopped as not listed */
+};
+
+/* The reason at port 1 to 8 in answer[DEORASAENG_REASONS], which has four bits a port. No pair is asked at the arrival port, at a port that the unit has not, and of a
+   consumed frame. */
+#define DEORASAENG_REASON(word, port) ((enum deorasaeng_reason)((word) >> 4 * ((port) - 1) & 15))
 
 /* The words of a take's answer. */
 enum deorasaeng_take_word {

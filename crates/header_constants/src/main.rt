@@ -4,6 +4,7 @@ mod header;
 
 use address_claims::Event;
 use bridge::FrameAnswer;
+use filter::Reason;
 use header::Meaning;
 use libc::STDIN_FILENO;
 use libc::STDOUT_FILENO;
@@ -284,8 +285,21 @@ fn events() -> [u64; 8] {
     ]
 }
 
+// Why a frame crossed or not.
+fn reasons() -> [u64; 7] {
+    [
+        Reason::NotAsked.number() as u64,
+        Reason::Permanent.number() as u64,
+        Reason::Cleared.number() as u64,
+        Reason::ListedInPass.number() as u64,
+        Reason::NotListedInBlock.number() as u64,
+        Reason::StoppedAsListed.number() as u64,
+        Reason::StoppedAsNotListed.number() as u64,
+    ]
+}
+
 // ---- the words of answers: each value that was told stands at its place
-// A frame's answer that tells 1 to 7.
+// A frame's answer that tells 1 to 8.
 fn frame_answer() -> [u64; deorasaeng::FRAME_WORDS] {
     let mut answer = [0u64; deorasaeng::FRAME_WORDS];
     let told = FrameAnswer {
@@ -296,13 +310,14 @@ fn frame_answer() -> [u64; deorasaeng::FRAME_WORDS] {
         event: Event::TookOver(4),
         unsent: 5,
         compared: 7,
+        reasons: 8,
     };
     flat_answers::tell_frame(&mut answer, told);
     answer
 }
 
-// CONSUMED, ACCEPTED, LOST, EVENT, OLD_NAME, OWN_LOST, COMPARED.
-const FRAME_VALUES: [u64; 7] = [1, 2, 3, 6, 4, 5, 7];
+// CONSUMED, ACCEPTED, LOST, EVENT, OLD_NAME, OWN_LOST, COMPARED, REASONS.
+const FRAME_VALUES: [u64; 8] = [1, 2, 3, 6, 4, 5, 7, 8];
 
 // A take's answer: a frame is given, its identifier 2, its length 3.
 fn take_answer() -> [u64; deorasaeng::TAKE_WORDS] {
@@ -369,6 +384,7 @@ fn compare_all(head: &[u8], names: &[u8]) -> u64 {
     p = answers(head, names, p, &mut words);
     p = all(head, names, p, &states());
     p = all(head, names, p, &events());
+    p = all(head, names, p, &reasons());
     p.same
 }
 

@@ -1,5 +1,6 @@
 // One line of a script: its call on the unit, counted, and the answer as a line.
 use crate::print;
+use crate::reasons;
 use crate::script;
 use crate::tally;
 use crate::words;
@@ -56,12 +57,7 @@ fn claim(out: &mut [u8], at: usize, c: Claim) -> usize
     requires { ⌜ at ≤ length (now out) ⌝ }
     ensures { λ r. ⌜ r ≤ length (now (out .entry)) ⌝ }
 {
-    match c {
-        Claim::Unstarted => print::text(out, at, b" Unstarted"),
-        Claim::Claiming => print::text(out, at, b" Claiming"),
-        Claim::Claimed => print::text(out, at, b" Claimed"),
-        Claim::Lost => print::text(out, at, b" Lost"),
-    }
+    print::one_of(out, at, b" Unstarted| Claiming| Claimed| Lost", c.word())
 }
 
 // Start: what became of the unit, and the ports where its own frame was lost.
@@ -148,39 +144,50 @@ fn ports_of(words: &[u64]) -> usize
     unit::ports_of(words) as usize
 }
 
+// What became of a frame that is not refused, counted.
+fn count_fates(counts: &mut [u64], ports: usize, a: FrameAnswer)
+    requires { ⌜ ports ≤ 8 ⌝ }
+{
+    tally::consumed(counts, a.consumed);
+    tally::ports(counts, tally::ACCEPTED, a.accepted);
+    tally::ports(counts, tally::LOST, a.lost);
+    tally::ports(counts, tally::OWN_LOST, a.unsent);
+    tally::reasons(counts, a.reasons, ports);
+}
+
 // A frame's answer, counted.
-fn count_frame(counts: &mut [u64], ports: usize, port: u32, a: FrameAnswer)
+fn count_frame(counts: &mut [u64], ports: usize, a: FrameAnswer)
     requires { ⌜ ports ≤ 8 ⌝ }
 {
     tally::call(counts, tally::FRAME, a.refusal);
-    tally::ports(counts, tally::OWN_LOST, a.unsent);
-    if a.consumed {
-        tally::count(counts, tally::CONSUMED);
-        return;
-    }
     if a.refusal == 0 {
-        tally::offered(counts, ports, port, a.accepted, a.lost);
+        count_fates(counts, ports, a);
     }
 }
 
 // The event's word, - for none.
+fn event_word(out: &mut [u8], at: usize, e: Event) -> usize
+    requires { ⌜ at ≤ length (now out) ⌝ }
+    ensures { λ r. ⌜ r ≤ length (now (out .entry)) ⌝ }
+{
+    print::one_of(
+        out,
+        at,
+        b" -| Withdrew| Defended| Displaced| Recorded| Refreshed| TookOver:| Beaten",
+        e.number() as u64,
+    )
+}
+
+// The same, with the NAME that an address was taken over from.
 fn event(out: &mut [u8], at: usize, e: Event) -> usize
     requires { ⌜ at ≤ length (now out) ⌝ }
     ensures { λ r. ⌜ r ≤ length (now (out .entry)) ⌝ }
 {
-    match e {
-        Event::Nothing => print::text(out, at, b" -"),
-        Event::Withdrew => print::text(out, at, b" Withdrew"),
-        Event::Defended => print::text(out, at, b" Defended"),
-        Event::Displaced => print::text(out, at, b" Displaced"),
-        Event::Recorded => print::text(out, at, b" Recorded"),
-        Event::Refreshed => print::text(out, at, b" Refreshed"),
-        Event::TookOver(old) => {
-            let next = print::text(out, at, b" TookOver:");
-            print::hex(out, next, old, 16)
-        }
-        Event::Beaten => print::text(out, at, b" Beaten"),
+    let next = event_word(out, at, e);
+    if let Event::TookOver(old) = e {
+        return print::hex(out, next, old, 16);
     }
+    next
 }
 
 // Whether a frame was consumed.
@@ -202,18 +209,27 @@ fn forwarded(out: &mut [u8], a: FrameAnswer) -> usize
     print::ports(out, at, a.lost)
 }
 
-// A frame's answer: that, the event, the ports where the unit's own frame was lost, and the entries compared.
-fn frame_answer(out: &mut [u8], a: FrameAnswer) -> usize
+// That, the event, the ports where the unit's own frame was lost, and the entries compared.
+fn told_frame(out: &mut [u8], a: FrameAnswer) -> usize
     ensures { λ r. ⌜ r ≤ length (now (out .entry)) ⌝ }
 {
-    if a.refusal != 0 {
-        return print::count(out, 0, b"F R ", a.refusal as u64);
-    }
     let at = forwarded(out, a);
     let e = a.event;
     let at = event(out, at, e);
     let at = print::ports(out, at, a.unsent);
     print::count(out, at, b" ", a.compared as u64)
+}
+
+// A frame's answer: that, and the reasons at the ports of the unit, `ports` of them.
+fn frame_answer(out: &mut [u8], ports: usize, a: FrameAnswer) -> usize
+    requires { ⌜ ports ≤ 8 ⌝ }
+    ensures { λ r. ⌜ r ≤ length (now (out .entry)) ⌝ }
+{
+    if a.refusal != 0 {
+        return print::count(out, 0, b"F R ", a.refusal as u64);
+    }
+    let at = told_frame(out, a);
+    reasons::told(out, at, a.reasons, ports)
 }
 
 // A frame.
@@ -230,8 +246,9 @@ fn frame(
     let mut space = [0u8; 2048];
     let n = script::read_bytes(line, &mut space);
     let a = bridge::frame(words, port, id, &space[0..n]);
-    count_frame(counts, ports_of(words), port, a);
-    frame_answer(out, a)
+    let ports = ports_of(words);
+    count_frame(counts, ports, a);
+    frame_answer(out, ports, a)
 }
 
 // The frame that a take gave.
@@ -328,8 +345,8 @@ fn is_power_on(call: Call) -> bool {
     }
 }
 
-// Makes a line's call.
-fn make(words: &mut [u64], counts: &mut [u64], line: &[u8], call: Call, out: &mut [u8]) -> usize
+// Makes a call that is of the unit itself; one that is none of the others is Quiet.
+fn make_of_unit(words: &mut [u64], counts: &mut [u64], call: Call, out: &mut [u8]) -> usize
     ensures { λ r. ⌜ r ≤ length (now (out .entry)) ⌝ }
 {
     match call {
@@ -339,11 +356,20 @@ fn make(words: &mut [u64], counts: &mut [u64], line: &[u8], call: Call, out: &mu
             ports,
         } => power_on(words, counts, name, preferred, ports, out),
         Call::Start => start(words, counts, out),
-        Call::Quiet => quiet(words, counts, out),
         Call::ReadUnit => read_unit(words, counts, out),
+        _ => quiet(words, counts, out),
+    }
+}
+
+// Makes a line's call.
+fn make(words: &mut [u64], counts: &mut [u64], line: &[u8], call: Call, out: &mut [u8]) -> usize
+    ensures { λ r. ⌜ r ≤ length (now (out .entry)) ⌝ }
+{
+    match call {
         Call::Frame { port, id } => frame(words, counts, line, port, id, out),
         Call::Take { port } => take(words, counts, port, out),
         Call::Message { port, requester } => message(words, counts, line, port, requester, out),
+        _ => make_of_unit(words, counts, call, out),
     }
 }
 

@@ -64,14 +64,8 @@ fn is_passed_over(line: &[u8]) -> bool {
     line[0] == b'#'
 }
 
-// A line without blanks at its ends: an answer for each call, the call beside it unless plain.
+// The answer to a call, the call beside it unless plain.
 fn answer(words: &mut [u64], counts: &mut [u64], line: &[u8], is_plain: bool) {
-    if is_passed_over(line) {
-        if !is_plain {
-            show(counts, line);
-        }
-        return;
-    }
     let mut space = [0u8; 4096];
     let out: &mut [u8] = &mut space;
     let n = calls::answer(words, counts, line, out);
@@ -83,6 +77,17 @@ fn answer(words: &mut [u64], counts: &mut [u64], line: &[u8], is_plain: bool) {
     show_beside(counts, line, &written[0..n]);
 }
 
+// A line without blanks at its ends.
+fn pass_trimmed(words: &mut [u64], counts: &mut [u64], line: &[u8], is_plain: bool) {
+    if !is_passed_over(line) {
+        answer(words, counts, line, is_plain);
+        return;
+    }
+    if !is_plain {
+        show(counts, line);
+    }
+}
+
 // A whole line of the script; it begins with no blank.
 pub fn pass(words: &mut [u64], counts: &mut [u64], line: &[u8], is_plain: bool) {
     if tally::has_failed(counts) {
@@ -90,5 +95,5 @@ pub fn pass(words: &mut [u64], counts: &mut [u64], line: &[u8], is_plain: bool) 
     }
     tally::count(counts, tally::LINES);
     let end = script::end_of(line);
-    answer(words, counts, &line[0..end], is_plain);
+    pass_trimmed(words, counts, &line[0..end], is_plain);
 }

@@ -3,6 +3,7 @@
 mod calls;
 mod lines;
 mod print;
+mod reasons;
 mod script;
 mod summary;
 mod tally;
@@ -104,7 +105,17 @@ fn note_failure(counts: &mut [u64], got: isize) {
     }
 }
 
-// One read of the input. There is no more after one that failed, nor after a write that did.
+// What a read of so many bytes left. There is no more after one that failed, nor after a write that did.
+fn left(counts: &[u64], n: usize, len: usize) -> Turn
+    ensures { λ r. ⌜ r .len ≤ len ⌝ }
+{
+    Turn {
+        more: 0 < n && !tally::has_failed(counts),
+        len,
+    }
+}
+
+// One read of the input.
 fn read_some(
     words: &mut [u64],
     counts: &mut [u64],
@@ -120,10 +131,7 @@ fn read_some(
     note_failure(counts, got);
     let n = io::count(got, &buffer);
     let next = feed_all(words, counts, line, len, &buffer[..n], is_plain);
-    Turn {
-        more: 0 < n && !tally::has_failed(counts),
-        len: next,
-    }
+    left(counts, n, next)
 }
 
 // The whole input. A proved loop has to end, and nothing says that the input does: so the turns are counted, from a number that no run uses up.

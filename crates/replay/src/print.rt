@@ -30,6 +30,46 @@ pub fn text(out: &mut [u8], at: usize, word: &[u8]) -> usize
     next
 }
 
+// Where one of the words begins that bars part, by its number from 0; the end where there are fewer.
+fn start_of(words: &[u8], number: u64) -> usize
+    ensures { λ r. ⌜ r ≤ length (now (words .entry)) ⌝ }
+{
+    let mut left = number;
+    let mut i = 0;
+    while i < words.len() && 0 < left {
+        if words[i] == b'|' {
+            left -= 1;
+        }
+        i += 1;
+    }
+    i
+}
+
+// Where a word ends that begins at a place: at the next bar.
+fn end_of(words: &[u8], start: usize) -> usize
+    requires { ⌜ start ≤ length (now words) ⌝ }
+    ensures { λ r. ⌜ (start ≤ r) × (r ≤ length (now (words .entry))) ⌝ }
+{
+    let mut i = start;
+    while i < words.len() {
+        if words[i] == b'|' {
+            return i;
+        }
+        i += 1;
+    }
+    i
+}
+
+// One of the words that bars part, by its number from 0; nothing where there are fewer.
+pub fn one_of(out: &mut [u8], at: usize, words: &[u8], number: u64) -> usize
+    requires { ⌜ at ≤ length (now out) ⌝ }
+    ensures { λ r. ⌜ r ≤ length (now (out .entry)) ⌝ }
+{
+    let start = start_of(words, number);
+    let end = end_of(words, start);
+    text(out, at, &words[start..end])
+}
+
 // A number's decimal digits.
 pub fn number(out: &mut [u8], at: usize, n: u64) -> usize
     requires { ⌜ at ≤ length (now out) ⌝ }
@@ -117,15 +157,12 @@ pub fn word_bytes(out: &mut [u8], at: usize, word: u64, len: u32) -> usize
     next
 }
 
-// A space and the ports of a mask, rising, - for none.
-pub fn ports(out: &mut [u8], at: usize, mask: u32) -> usize
+// The ports of a mask, rising.
+pub fn digits(out: &mut [u8], at: usize, mask: u32) -> usize
     requires { ⌜ at ≤ length (now out) ⌝ }
     ensures { λ r. ⌜ r ≤ length (now (out .entry)) ⌝ }
 {
-    let mut next = byte(out, at, b' ');
-    if mask == 0 {
-        return byte(out, next, b'-');
-    }
+    let mut next = at;
     let mut rest = mask;
     let mut port: u8 = 0;
     while port < 8 {
@@ -136,6 +173,18 @@ pub fn ports(out: &mut [u8], at: usize, mask: u32) -> usize
         rest /= 2;
     }
     next
+}
+
+// A space and the ports of a mask, - for none.
+pub fn ports(out: &mut [u8], at: usize, mask: u32) -> usize
+    requires { ⌜ at ≤ length (now out) ⌝ }
+    ensures { λ r. ⌜ r ≤ length (now (out .entry)) ⌝ }
+{
+    let next = byte(out, at, b' ');
+    if mask == 0 {
+        return byte(out, next, b'-');
+    }
+    digits(out, next, mask)
 }
 
 // Blanks up to a column.

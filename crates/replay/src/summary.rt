@@ -1,7 +1,9 @@
 // The summary of a script: the calls of each kind, what came of them, and what became of frames at each port.
 use crate::print;
+use crate::reasons;
 use crate::tally;
 use crate::words;
+use std::num::wrapping_add_u64;
 use std::num::wrapping_sub_u64;
 ghost use Prim.Native.Nat.{_≤_, _<_};
 ghost use lib.ListN.{length};
@@ -91,19 +93,37 @@ fn frames(counts: &mut [u64], out: &mut [u8]) {
     refusals(counts, out, at, tally::FRAME);
 }
 
+// Frames that a pair stopped on the way to a port: as listed, 5, and as not listed, 6.
+fn stopped(counts: &[u64], index: usize) -> u64
+    requires { ⌜ index < 8 ⌝ }
+{
+    wrapping_add_u64(tally::met(counts, index, 5), tally::met(counts, index, 6))
+}
+
 // What became of frames at a port, by its index from 0.
+fn fates(counts: &[u64], out: &mut [u8], index: usize) -> usize
+    requires { ⌜ index < 8 ⌝ }
+    ensures { λ r. ⌜ r ≤ length (now (out .entry)) ⌝ }
+{
+    let accepted = tally::get(counts, tally::ACCEPTED + index);
+    let at = head(out, b"  port ", index as u64 + 1, b": accepted ", accepted);
+    let at = print::count(out, at, b", stopped ", stopped(counts, index));
+    let at = print::count(out, at, b", lost ", tally::get(counts, tally::LOST + index));
+    print::count(
+        out,
+        at,
+        b", own lost ",
+        tally::get(counts, tally::OWN_LOST + index),
+    )
+}
+
+// That, and by which reasons.
 fn port(counts: &mut [u64], out: &mut [u8], index: usize)
     requires { ⌜ index < 8 ⌝ }
 {
-    let accepted = tally::get(counts, tally::ACCEPTED + index);
-    let stopped = tally::get(counts, tally::STOPPED + index);
-    let lost = tally::get(counts, tally::LOST + index);
-    let own_lost = tally::get(counts, tally::OWN_LOST + index);
-    let at = head(out, b"  port ", index as u64 + 1, b": accepted ", accepted);
-    let at = print::count(out, at, b", stopped ", stopped);
-    let at = print::count(out, at, b", lost ", lost);
-    let at = print::count(out, at, b", own lost ", own_lost);
+    let at = fates(counts, out, index);
     print::finish(counts, out, at);
+    reasons::write(counts, out, index);
 }
 
 // As many ports as the largest unit had.

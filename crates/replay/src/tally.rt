@@ -19,35 +19,36 @@ pub const MESSAGE: usize = 5 * NUMBERS;
 
 pub const UNIT: usize = 6 * NUMBERS;
 
-// A word for each port: frames that it accepted, that a pair stopped on the way to it, that it lost, and the unit's own that it lost.
+// A word for each port: frames that it accepted, that it lost, and the unit's own that it lost.
 pub const ACCEPTED: usize = 7 * NUMBERS;
 
-pub const STOPPED: usize = ACCEPTED + 8;
+pub const LOST: usize = ACCEPTED + 8;
 
-pub const LOST: usize = ACCEPTED + 16;
-
-pub const OWN_LOST: usize = ACCEPTED + 24;
+pub const OWN_LOST: usize = ACCEPTED + 16;
 
 // Frames that were consumed, takes that gave a frame, lines that are no call.
-pub const CONSUMED: usize = ACCEPTED + 32;
+pub const CONSUMED: usize = ACCEPTED + 24;
 
-pub const GIVEN: usize = ACCEPTED + 33;
+pub const GIVEN: usize = ACCEPTED + 25;
 
-pub const NO_CALL: usize = ACCEPTED + 34;
+pub const NO_CALL: usize = ACCEPTED + 26;
 
 // Lines read, and reads and writes that failed.
-pub const LINES: usize = ACCEPTED + 35;
+pub const LINES: usize = ACCEPTED + 27;
 
-pub const FAILED: usize = ACCEPTED + 36;
+pub const FAILED: usize = ACCEPTED + 28;
 
 // The number that refused the last call, 0 for none.
-pub const LAST: usize = ACCEPTED + 37;
+pub const LAST: usize = ACCEPTED + 29;
 
 // The most ports that a unit had, 0 before the first power-on.
-pub const MOST_PORTS: usize = ACCEPTED + 38;
+pub const MOST_PORTS: usize = ACCEPTED + 30;
+
+// Sixteen words for each port, one for each number that a reason's four bits can have: frames that met it there.
+const MET: usize = ACCEPTED + 31;
 
 // How many words the counts take.
-pub const LENGTH: usize = ACCEPTED + 39;
+pub const LENGTH: usize = MET + 128;
 
 // One more.
 pub fn count(counts: &mut [u64], place: usize) {
@@ -92,13 +93,13 @@ pub fn unit(counts: &mut [u64], ports: u32) {
     }
 }
 
-// One more at each port of a mask, of the first `ports`.
-fn first_ports(counts: &mut [u64], place: usize, mask: u32, ports: usize)
-    requires { ⌜ (place < 1000) × (ports ≤ 8) ⌝ }
+// One more at each port of a mask.
+pub fn ports(counts: &mut [u64], place: usize, mask: u32)
+    requires { ⌜ place < 1000 ⌝ }
 {
     let mut rest = mask;
     let mut i = 0;
-    while i < ports {
+    while i < 8 {
         if rest % 2 == 1 {
             count(counts, place + i);
         }
@@ -107,36 +108,24 @@ fn first_ports(counts: &mut [u64], place: usize, mask: u32, ports: usize)
     }
 }
 
-// One more at each port of a mask.
-pub fn ports(counts: &mut [u64], place: usize, mask: u32)
-    requires { ⌜ place < 1000 ⌝ }
-{
-    first_ports(counts, place, mask, 8);
-}
-
-// A port as a mask.
-fn mask_of(port: u32) -> u32 {
-    match port {
-        1 => 1,
-        2 => 2,
-        3 => 4,
-        4 => 8,
-        5 => 16,
-        6 => 32,
-        7 => 64,
-        8 => 128,
-        _ => 0,
+// Whether a frame was consumed.
+pub fn consumed(counts: &mut [u64], is_consumed: bool) {
+    if is_consumed {
+        count(counts, CONSUMED);
     }
 }
 
-// A frame that was offered to the ports of a unit, `count` of them, that it did not arrive at: those that neither accepted nor lost it are those that a pair stopped it from.
-pub fn offered(counts: &mut [u64], count: usize, port: u32, accepted: u32, lost: u32)
-    requires { ⌜ count ≤ 8 ⌝ }
+// The reasons that a frame met at the first ports, one more of each.
+pub fn reasons(counts: &mut [u64], met: u64, ports: usize)
+    requires { ⌜ ports ≤ 8 ⌝ }
 {
-    let reached = (mask_of(port) | accepted | lost) % 256;
-    ports(counts, ACCEPTED, accepted);
-    ports(counts, LOST, lost);
-    first_ports(counts, STOPPED, 255 - reached, count);
+    let mut rest = met;
+    let mut i = 0;
+    while i < ports {
+        count(counts, MET + 16 * i + (rest % 16) as usize);
+        rest /= 16;
+        i += 1;
+    }
 }
 
 // A count.
@@ -145,6 +134,13 @@ pub fn get(counts: &[u64], place: usize) -> u64 {
         return counts[place];
     }
     0
+}
+
+// How many frames met a reason at a port, by its index from 0.
+pub fn met(counts: &[u64], index: usize, reason: u64) -> u64
+    requires { ⌜ (index < 8) × (reason < 16) ⌝ }
+{
+    get(counts, MET + 16 * index + reason as usize)
 }
 
 // How many calls of a kind there were, from a number on.

@@ -5,55 +5,39 @@ use crate::script::Wrong;
 ghost use Prim.Native.Nat.{_≤_};
 ghost use lib.ListN.{length};
 
-// Numbers 1 to 8: what is wrong with a call's own arguments, or with the unit's state.
-fn of_call(out: &mut [u8], at: usize, number: u64) -> usize
+// The words of a number: what is wrong with a call's own arguments or the unit's state, 1 to 8; with a message's payload, 9 to 17; with the moment of Start or
+// Quiet, 18; with the count that a power-on has, 27. The numbers between are of no call here.
+fn of_number(out: &mut [u8], at: usize, number: u64) -> usize
     requires { ⌜ at ≤ length (now out) ⌝ }
     ensures { λ r. ⌜ r ≤ length (now (out .entry)) ⌝ }
 {
-    match number {
-        1 => print::text(out, at, b"port not 1 to the number of ports"),
-        2 => print::text(out, at, b"lent storage not of its published length"),
-        3 => print::text(out, at, b"identifier 2^29 or more"),
-        4 => print::text(out, at, b"frame length over 8"),
-        5 => print::text(
-            out,
-            at,
-            b"source address 255, or 254 in a frame that may not have it",
-        ),
-        6 => print::text(out, at, b"unit not Claimed"),
-        7 => print::text(out, at, b"payload not 8 to 1,785 bytes"),
-        8 => print::text(
-            out,
-            at,
-            b"requester, or at Start the preferred address, not 0 to 253",
-        ),
-        _ => at,
+    if number == 27 {
+        return print::text(out, at, b"port count not 2 to 8");
     }
-}
-
-// Numbers 9 to 27: what is wrong with a message's payload, Start or Quiet in another state than theirs, and power-on with a count that is none.
-fn of_message(out: &mut [u8], at: usize, number: u64) -> usize
-    requires { ⌜ at ≤ length (now out) ⌝ }
-    ensures { λ r. ⌜ r ≤ length (now (out .entry)) ⌝ }
-{
-    match number {
-        9 => print::text(out, at, b"function not listed"),
-        10 => print::text(
-            out,
-            at,
-            b"port outside 1 to the number of ports, or From equals To",
-        ),
-        11 => print::text(out, at, b"pair or port not this tool's"),
-        12 => print::text(out, at, b"body wrong: length, entry or filling"),
-        13 => print::text(out, at, b"Create mode not 0 or 1"),
-        14 => print::text(out, at, b"Create: a named pair not cleared"),
-        15 => print::text(out, at, b"Add, Delete: a named pair cleared"),
-        16 => print::text(out, at, b"a named pair would pass 32"),
-        17 => print::text(out, at, b"Delete: a PGN absent from a named pair"),
-        18 => print::text(out, at, b"Start not in Unstarted, Quiet not in Claiming"),
-        27 => print::text(out, at, b"port count not 2 to 8"),
-        _ => at,
-    }
+    print::one_of(
+        out,
+        at,
+        b"|\
+          port not 1 to the number of ports|\
+          lent storage not of its published length|\
+          identifier 2^29 or more|\
+          frame length over 8|\
+          source address 255, or 254 in a frame that may not have it|\
+          unit not Claimed|\
+          payload not 8 to 1,785 bytes|\
+          requester, or at Start the preferred address, not 0 to 253|\
+          function not listed|\
+          port outside 1 to the number of ports, or From equals To|\
+          pair or port not this tool's|\
+          body wrong: length, entry or filling|\
+          Create mode not 0 or 1|\
+          Create: a named pair not cleared|\
+          Add, Delete: a named pair cleared|\
+          a named pair would pass 32|\
+          Delete: a PGN absent from a named pair|\
+          Start not in Unstarted, Quiet not in Claiming",
+        number,
+    )
 }
 
 // A number and its words.
@@ -63,10 +47,41 @@ pub fn number(out: &mut [u8], at: usize, number: u64) -> usize
 {
     let next = print::number(out, at, number);
     let next = print::byte(out, next, b' ');
-    if number < 9 {
-        return of_call(out, next, number);
+    of_number(out, next, number)
+}
+
+// The words of a reason.
+pub fn reason(out: &mut [u8], at: usize, number: u64) -> usize
+    requires { ⌜ at ≤ length (now out) ⌝ }
+    ensures { λ r. ⌜ r ≤ length (now (out .entry)) ⌝ }
+{
+    print::one_of(
+        out,
+        at,
+        b"not asked|\
+          permanent|\
+          cleared|\
+          listed in pass|\
+          not listed in block|\
+          stopped as listed|\
+          stopped as not listed",
+        number,
+    )
+}
+
+// A field's place among the names.
+fn place(f: Field) -> u64 {
+    match f {
+        Field::Name => 0,
+        Field::Preferred => 1,
+        Field::Ports => 2,
+        Field::Port => 3,
+        Field::Identifier => 4,
+        Field::Bytes => 5,
+        Field::Requester => 6,
+        Field::Payload => 7,
+        Field::End => 8,
     }
-    of_message(out, next, number)
 }
 
 // A field's name.
@@ -74,16 +89,21 @@ fn field(out: &mut [u8], at: usize, f: Field) -> usize
     requires { ⌜ at ≤ length (now out) ⌝ }
     ensures { λ r. ⌜ r ≤ length (now (out .entry)) ⌝ }
 {
+    print::one_of(
+        out,
+        at,
+        b"NAME|preferred address|number of ports|port|identifier|bytes|requester|payload",
+        place(f),
+    )
+}
+
+// A field's place among the forms.
+fn form_place(f: Field) -> u64 {
     match f {
-        Field::Name => print::text(out, at, b"NAME"),
-        Field::Preferred => print::text(out, at, b"preferred address"),
-        Field::Ports => print::text(out, at, b"number of ports"),
-        Field::Port => print::text(out, at, b"port"),
-        Field::Identifier => print::text(out, at, b"identifier"),
-        Field::Bytes => print::text(out, at, b"bytes"),
-        Field::Requester => print::text(out, at, b"requester"),
-        Field::Payload => print::text(out, at, b"payload"),
-        Field::End => at,
+        Field::Name => 0,
+        Field::Identifier => 1,
+        Field::Bytes | Field::Payload => 2,
+        _ => 3,
     }
 }
 
@@ -92,16 +112,61 @@ fn form(out: &mut [u8], at: usize, f: Field) -> usize
     requires { ⌜ at ≤ length (now out) ⌝ }
     ensures { λ r. ⌜ r ≤ length (now (out .entry)) ⌝ }
 {
-    match f {
-        Field::Name => print::text(out, at, b": not 1 to 16 hex digits"),
-        Field::Identifier => print::text(out, at, b": not 1 to 8 hex digits"),
-        Field::Bytes | Field::Payload => print::text(
-            out,
-            at,
-            b": not pairs of hex digits, or - for none",
-        ),
-        _ => print::text(out, at, b": not a decimal number below 2^32"),
+    print::one_of(
+        out,
+        at,
+        b": not 1 to 16 hex digits|\
+          : not 1 to 8 hex digits|\
+          : not pairs of hex digits, or - for none|\
+          : not a decimal number below 2^32",
+        form_place(f),
+    )
+}
+
+// A field that there is no word for.
+fn missing(out: &mut [u8], at: usize, f: Field) -> usize
+    requires { ⌜ at ≤ length (now out) ⌝ }
+    ensures { λ r. ⌜ r ≤ length (now (out .entry)) ⌝ }
+{
+    let next = field(out, at, f);
+    print::text(out, next, b" missing")
+}
+
+// A word that cannot stand for its field.
+fn malformed(out: &mut [u8], at: usize, f: Field) -> usize
+    requires { ⌜ at ≤ length (now out) ⌝ }
+    ensures { λ r. ⌜ r ≤ length (now (out .entry)) ⌝ }
+{
+    let next = field(out, at, f);
+    form(out, next, f)
+}
+
+// The place among the reasons that name no field.
+fn other_place(w: Wrong) -> u64 {
+    match w {
+        Wrong::TooLong => 1,
+        Wrong::NoLetter => 2,
+        Wrong::MoreWords => 3,
+        Wrong::NoUnit => 4,
+        _ => 0,
     }
+}
+
+// What is wrong with a line as a whole.
+fn other(out: &mut [u8], at: usize, w: Wrong) -> usize
+    requires { ⌜ at ≤ length (now out) ⌝ }
+    ensures { λ r. ⌜ r ≤ length (now (out .entry)) ⌝ }
+{
+    print::one_of(
+        out,
+        at,
+        b"|\
+          longer than 4,096 bytes|\
+          the first word is none of P S Q F T M U|\
+          more words than the call has|\
+          no unit yet: a power-on, P, comes first",
+        other_place(w),
+    )
 }
 
 // Why a line is no call.
@@ -110,18 +175,8 @@ pub fn wrong(out: &mut [u8], at: usize, w: Wrong) -> usize
     ensures { λ r. ⌜ r ≤ length (now (out .entry)) ⌝ }
 {
     match w {
-        Wrong::Nothing => at,
-        Wrong::TooLong => print::text(out, at, b"longer than 4,096 bytes"),
-        Wrong::NoLetter => print::text(out, at, b"the first word is none of P S Q F T M U"),
-        Wrong::Missing(f) => {
-            let next = field(out, at, f);
-            print::text(out, next, b" missing")
-        }
-        Wrong::Malformed(f) => {
-            let next = field(out, at, f);
-            form(out, next, f)
-        }
-        Wrong::MoreWords => print::text(out, at, b"more words than the call has"),
-        Wrong::NoUnit => print::text(out, at, b"no unit yet: a power-on, P, comes first"),
+        Wrong::Missing(f) => missing(out, at, f),
+        Wrong::Malformed(f) => malformed(out, at, f),
+        _ => other(out, at, w),
     }
 }

@@ -1,16 +1,16 @@
--- The loop over the ports: one more port, and what the ports' lists, bits and sums say of each port by itself. Assumes nothing.
+-- The loop over the ports: one more port, and what the ports' lists, bits, sums and digits say of each port by itself. Assumes nothing.
 use mathlib.Core.Path.{_≡_, refl, ap, _∙_}
 use mathlib.Core.Bool.{Bool, true, false, cond}
 use mathlib.Core.List.{List, [], _∷_}
 use Prim.Native.Nat.{ℕ, zero, suc, _+_, _-_, _*_, _^_, _/_, _≤_, _<_}
-use native.Mathlib.Nat.{not-suc-le-zero, le-of-suc-le-suc, pow-suc, pow-succ', pow-le-pow-right, add-mul-div-left, add-mul-mod-self-left, add-div-right, div-eq-of-lt}
+use native.Mathlib.Nat.{not-suc-le-zero, le-of-suc-le-suc, pow-suc, pow-succ', pow-le-pow-right, add-mul-div-left, add-mul-mod-self-left, add-div-right, div-eq-of-lt, mod-eq-of-lt, mul-assoc, mul-suc, mul-le-mul-left, zero-add}
 use native.Mathlib.Decide.{ℕ-discrete}
 use native.Mathlib.Numerals.{add-one}
 use native.Mathlib.Omega.{arith}
 use lib.Dec.{eqb, eqb·zero-suc, eqb·suc-zero, eqb·suc-suc}
 use lib.Pow.{pow-add}
 use lib.ListN.{length, getD, set}
-use Rattle.unit.specs.Ports.{each, mask, bitAt, total}
+use Rattle.unit.specs.Ports.{each, mask, bitAt, total, digits, digitAt}
 
 -- ---- a list changed place by place
 module _ {A : Type 0} where
@@ -146,3 +146,57 @@ pub total-none : (n : ℕ) → total (λ q. 0) n ≡ 0
 unfolding total
 total-none zero = refl
 total-none (suc n) = rw (total-none n)
+
+-- ---- digits
+pub digits-step : (f : ℕ → ℕ) (n : ℕ) → digits f (n + 1) ≡ digits f n + 16 ^ n * f n
+unfolding digits
+digits-step f n = rw (add-one n)
+
+pub digits-none : (n : ℕ) → digits (λ q. 0) n ≡ 0
+unfolding digits
+digits-none zero = refl
+digits-none (suc n) = rw (digits-none n) (omega arith)
+
+weight-more : (n d : ℕ) → d < 16 → 16 ^ n * d + 16 ^ n ≤ 16 ^ suc n
+weight-more n d h = rw (pow-suc 16 n, ← (mul-suc (16 ^ n) d)) (mul-le-mul-left (16 ^ n) h)
+
+pub digits-small : (f : ℕ → ℕ) → ((q : ℕ) → f q < 16) → (n : ℕ) → digits f n < 16 ^ n
+unfolding digits
+digits-small f h zero = omega arith
+digits-small f h (suc n) = omega (arith, digits-small f h n, weight-more n (f n) (h n))
+
+sixteen-pow : (n : ℕ) → 0 < 16 ^ n
+sixteen-pow n = omega (arith, pow-le-pow-right {n = 16} (omega arith) {i = 0} {j = n} (omega arith))
+
+digit-above : (x q k d : ℕ) → digitAt (x + 16 ^ (q + suc k) * d) q ≡ digitAt x q
+unfolding digitAt
+digit-above x q k d =
+    let e : 16 ^ (q + suc k) * d ≡ 16 ^ q * (16 * (16 ^ k * d)) = rw (pow-add 16 q (suc k), pow-succ' 16 k, mul-assoc (16 ^ q) (16 * 16 ^ k) d, mul-assoc 16 (16 ^ k) d) in
+    rw (e, add-mul-div-left x (16 * (16 ^ k * d)) {y = 16 ^ q} (sixteen-pow q), add-mul-mod-self-left (x / 16 ^ q) 16 (16 ^ k * d))
+
+digit-top : (x n d : ℕ) → x < 16 ^ n → d < 16 → digitAt (x + 16 ^ n * d) n ≡ d
+unfolding digitAt
+digit-top x n d h l = rw (add-mul-div-left x d {y = 16 ^ n} (sixteen-pow n), div-eq-of-lt h, zero-add d) (mod-eq-of-lt l)
+
+-- digit q is that of port q
+pub digit-at : (f : ℕ → ℕ) → ((q : ℕ) → f q < 16) → (n q : ℕ) → q < n → digitAt (digits f n) q ≡ f q
+unfolding digits
+digit-at f small zero q h = absurd (not-suc-le-zero h)
+digit-at f small (suc n) q h =
+    elim (ℕ-discrete q n) [
+      | yes e ↦ rw e (digit-top (digits f n) n (f n) (digits-small f small n) (small n))
+      | no ne ↦
+          let e : n ≡ q + suc (n - q - 1) = omega arith in
+          lower (digits f n) n q (n - q - 1) (f n) e ∙ digit-at f small n q (omega arith)
+    ]
+  where
+    lower : (x n q k d : ℕ) → n ≡ q + suc k → digitAt (x + 16 ^ n * d) q ≡ digitAt x q
+    lower x n q k d e = rw e (digit-above x q k d)
+
+-- past the ports stands no digit
+pub digit-past : (f : ℕ → ℕ) → ((q : ℕ) → f q < 16) → (n q : ℕ) → n ≤ q → digitAt (digits f n) q ≡ 0
+unfolding digitAt
+digit-past f small n q h = rw (div-eq-of-lt (below (digits-small f small n) (pow-le-pow-right {n = 16} (omega arith) {i = n} {j = q} h)))
+  where
+    below : {x a b : ℕ} → x < a → a ≤ b → x < b
+    below l m = omega arith

@@ -1,6 +1,6 @@
--- What is said of each port by itself, put together over the ports below n: a list changed place by place, a set of ports as bits, a sum.
+-- What is said of each port by itself, put together over the ports below n: a list changed place by place, a set of ports as bits, a sum, a digit for each.
 -- Assumes nothing.
-use Prim.Native.Nat.{ℕ, zero, suc, _+_, _^_, _/_, _%_}
+use Prim.Native.Nat.{ℕ, zero, suc, _+_, _*_, _^_, _/_, _%_}
 use mathlib.Core.Bool.{Bool, cond}
 use mathlib.Core.List.{List, [], _∷_}
 use lib.Dec.{eqb}
@@ -23,3 +23,12 @@ bitAt x q = eqb (x / 2 ^ q % 2) 1
 unfoldable pub total : (ℕ → ℕ) → ℕ → ℕ
 total f zero = 0
 total f (suc n) = total f n + f n
+
+-- a number to the base 16 whose digit q is f q
+unfoldable pub digits : (ℕ → ℕ) → ℕ → ℕ
+digits f zero = 0
+digits f (suc n) = digits f n + 16 ^ n * f n
+
+-- digit q of a number to the base 16
+unfoldable pub digitAt : ℕ → ℕ → ℕ
+digitAt x q = x / 16 ^ q % 16

@@ -19,19 +19,20 @@ use Rattle.demand_3.specs.Demand3.{ToFrame, ToTake, ToUnit, answer}
 use Rattle.witness.specs.Encoding.{answerWords, partOf, code}
 use Rattle.witness.specs.Replay.{Stepping}
 
--- eight words stored
-pub eight : (xs : List ℕ) (a b c d e f g h : ℕ) → length xs ≡ answerWords
-    → set (set (set (set (set (set (set (set xs 0 a) 1 b) 2 c) 3 d) 4 e) 5 f) 6 g) 7 h ≡ a ∷ b ∷ c ∷ d ∷ e ∷ f ∷ g ∷ h ∷ []
-eight [] a b c d e f g h l = absurd (omega arith)
-eight (_ ∷ []) a b c d e f g h l = absurd (omega arith)
-eight (_ ∷ _ ∷ []) a b c d e f g h l = absurd (omega arith)
-eight (_ ∷ _ ∷ _ ∷ []) a b c d e f g h l = absurd (omega arith)
-eight (_ ∷ _ ∷ _ ∷ _ ∷ []) a b c d e f g h l = absurd (omega arith)
-eight (_ ∷ _ ∷ _ ∷ _ ∷ _ ∷ []) a b c d e f g h l = absurd (omega arith)
-eight (_ ∷ _ ∷ _ ∷ _ ∷ _ ∷ _ ∷ []) a b c d e f g h l = absurd (omega arith)
-eight (_ ∷ _ ∷ _ ∷ _ ∷ _ ∷ _ ∷ _ ∷ []) a b c d e f g h l = absurd (omega arith)
-eight (_ ∷ _ ∷ _ ∷ _ ∷ _ ∷ _ ∷ _ ∷ _ ∷ []) a b c d e f g h l = refl
-eight (_ ∷ _ ∷ _ ∷ _ ∷ _ ∷ _ ∷ _ ∷ _ ∷ _ ∷ xs) a b c d e f g h l = absurd (omega arith)
+-- nine words stored
+pub nine : (xs : List ℕ) (a b c d e f g h i : ℕ) → length xs ≡ answerWords
+    → set (set (set (set (set (set (set (set (set xs 0 a) 1 b) 2 c) 3 d) 4 e) 5 f) 6 g) 7 h) 8 i ≡ a ∷ b ∷ c ∷ d ∷ e ∷ f ∷ g ∷ h ∷ i ∷ []
+nine [] a b c d e f g h i l = absurd (omega arith)
+nine (_ ∷ []) a b c d e f g h i l = absurd (omega arith)
+nine (_ ∷ _ ∷ []) a b c d e f g h i l = absurd (omega arith)
+nine (_ ∷ _ ∷ _ ∷ []) a b c d e f g h i l = absurd (omega arith)
+nine (_ ∷ _ ∷ _ ∷ _ ∷ []) a b c d e f g h i l = absurd (omega arith)
+nine (_ ∷ _ ∷ _ ∷ _ ∷ _ ∷ []) a b c d e f g h i l = absurd (omega arith)
+nine (_ ∷ _ ∷ _ ∷ _ ∷ _ ∷ _ ∷ []) a b c d e f g h i l = absurd (omega arith)
+nine (_ ∷ _ ∷ _ ∷ _ ∷ _ ∷ _ ∷ _ ∷ []) a b c d e f g h i l = absurd (omega arith)
+nine (_ ∷ _ ∷ _ ∷ _ ∷ _ ∷ _ ∷ _ ∷ _ ∷ []) a b c d e f g h i l = absurd (omega arith)
+nine (_ ∷ _ ∷ _ ∷ _ ∷ _ ∷ _ ∷ _ ∷ _ ∷ _ ∷ []) a b c d e f g h i l = refl
+nine (_ ∷ _ ∷ _ ∷ _ ∷ _ ∷ _ ∷ _ ∷ _ ∷ _ ∷ _ ∷ xs) a b c d e f g h i l = absurd (omega arith)
 
 -- ---- the bytes that a call names
 part-in : (bytes : List ℕ) (a e : ℕ) → a ≤ e → e ≤ length bytes → take (e - a) (drop a bytes) ≡ drop a (take e bytes)
@@ -71,27 +72,27 @@ module _ {w w′ out : List ℕ} (long : length w ≡ recordLength (portsOf w)) 
   take-step l o = record { state = rw long at (l .call .state); answer = o ∙ ap (λ r. code (ToTake r)) (rw long at (l .answer)); ports = l .call .count }
 
   pub message-step : {port requester : ℕ} {payload lent back : List ℕ} {r : MessageAnswer} → Messaging (portsOf w) w w′ port requester payload lent back r
-      → out ≡ r .refusal ∷ r .pgn ∷ r .length ∷ 0 ∷ 0 ∷ 0 ∷ 0 ∷ 0 ∷ [] → Stepping w w′ (Message port requester payload (length lent)) out
+      → out ≡ r .refusal ∷ r .pgn ∷ r .length ∷ 0 ∷ 0 ∷ 0 ∷ 0 ∷ 0 ∷ 0 ∷ [] → Stepping w w′ (Message port requester payload (length lent)) out
   unfolding answer code
   message-step {r} l o = record {
     state = rw long at (l .call .state);
-    answer = o ∙ ap (λ (r : MessageAnswer). r .refusal ∷ r .pgn ∷ r .length ∷ 0 ∷ 0 ∷ 0 ∷ 0 ∷ 0 ∷ []) (rw long at (l .answer));
+    answer = o ∙ ap (λ (r : MessageAnswer). r .refusal ∷ r .pgn ∷ r .length ∷ 0 ∷ 0 ∷ 0 ∷ 0 ∷ 0 ∷ 0 ∷ []) (rw long at (l .answer));
     ports = l .call .count;
   }
 
-  pub start-step : {r : StartAnswer} → Starting (portsOf w) w w′ r → out ≡ r .refusal ∷ r .unsent ∷ claimWord (r .claim) ∷ 0 ∷ 0 ∷ 0 ∷ 0 ∷ 0 ∷ [] → Stepping w w′ Start out
+  pub start-step : {r : StartAnswer} → Starting (portsOf w) w w′ r → out ≡ r .refusal ∷ r .unsent ∷ claimWord (r .claim) ∷ 0 ∷ 0 ∷ 0 ∷ 0 ∷ 0 ∷ 0 ∷ [] → Stepping w w′ Start out
   unfolding answer code
   start-step l o = record {
     state = rw long at (l .call .state);
-    answer = o ∙ ap (λ (r : StartAnswer). r .refusal ∷ r .unsent ∷ claimWord (r .claim) ∷ 0 ∷ 0 ∷ 0 ∷ 0 ∷ 0 ∷ []) (rw long at (l .answer));
+    answer = o ∙ ap (λ (r : StartAnswer). r .refusal ∷ r .unsent ∷ claimWord (r .claim) ∷ 0 ∷ 0 ∷ 0 ∷ 0 ∷ 0 ∷ 0 ∷ []) (rw long at (l .answer));
     ports = l .call .count;
   }
 
-  pub quiet-step : {r : ℕ} → Quieting (portsOf w) w w′ r → out ≡ r ∷ 0 ∷ 0 ∷ 0 ∷ 0 ∷ 0 ∷ 0 ∷ 0 ∷ [] → Stepping w w′ Quiet out
+  pub quiet-step : {r : ℕ} → Quieting (portsOf w) w w′ r → out ≡ r ∷ 0 ∷ 0 ∷ 0 ∷ 0 ∷ 0 ∷ 0 ∷ 0 ∷ 0 ∷ [] → Stepping w w′ Quiet out
   unfolding answer code
   quiet-step l o = record {
     state = rw long at (l .call .state);
-    answer = o ∙ ap (λ r. r ∷ 0 ∷ 0 ∷ 0 ∷ 0 ∷ 0 ∷ 0 ∷ 0 ∷ []) (rw long at (l .answer));
+    answer = o ∙ ap (λ r. r ∷ 0 ∷ 0 ∷ 0 ∷ 0 ∷ 0 ∷ 0 ∷ 0 ∷ 0 ∷ []) (rw long at (l .answer));
     ports = l .call .count;
   }
 

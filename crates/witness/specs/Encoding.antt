@@ -1,5 +1,5 @@
 -- Calls and answers as words. A call is five words: its kind, the port, a further argument, and the place of its bytes, from where to where, among the
--- bytes of all calls. An answer is eight words. Assumes nothing.
+-- bytes of all calls. An answer is nine words. Assumes nothing.
 use Prim.Native.Nat.{ℕ, _%_, _^_}
 use mathlib.Core.Bool.{cond}
 use mathlib.Core.List.{List, [], _∷_, _++_}
@@ -18,7 +18,7 @@ abbrev pub callWords : ℕ
 callWords = 5
 
 abbrev pub answerWords : ℕ
-answerWords = 8
+answerWords = 9
 
 -- ---- calls
 -- 0 a frame with this identifier, 1 a take, 2 a message from this requester, 3 Start, 5 the unit is read, any other Quiet
@@ -45,15 +45,15 @@ callOf bytes lentReply call =
 -- ---- answers
 unfoldable pub code : Answer → List ℕ
 code (ToFrame r) =
-    r .refusal ∷ cond (r .consumed) 1 0 ∷ r .accepted ∷ r .lost ∷ r .unsent ∷ r .compared ∷ eventNumber (r .event) ∷ oldName (r .event) ∷ []
-code (ToTake (Refused number)) = number ∷ 0 ∷ 0 ∷ 0 ∷ 0 ∷ 0 ∷ 0 ∷ 0 ∷ []
-code (ToTake (Took (Given f))) = 0 ∷ 1 ∷ f .id ∷ f .len ∷ f .bytes ∷ 0 ∷ 0 ∷ 0 ∷ []
-code (ToTake (Took Nothing)) = 0 ∷ 0 ∷ 0 ∷ 0 ∷ 0 ∷ 0 ∷ 0 ∷ 0 ∷ []
-code (ToMessage r reply) = r .refusal ∷ r .pgn ∷ r .length ∷ 0 ∷ 0 ∷ 0 ∷ 0 ∷ 0 ∷ []
-code (ToStart r) = r .refusal ∷ r .unsent ∷ claimWord (r .claim) ∷ 0 ∷ 0 ∷ 0 ∷ 0 ∷ 0 ∷ []
-code (ToQuiet number) = number ∷ 0 ∷ 0 ∷ 0 ∷ 0 ∷ 0 ∷ 0 ∷ 0 ∷ []
-code (ToUnit (UnitAnswer.Refused number)) = number ∷ 0 ∷ 0 ∷ 0 ∷ 0 ∷ 0 ∷ 0 ∷ 0 ∷ []
-code (ToUnit (Told own)) = 0 ∷ claimWord (own .claim) ∷ own .address ∷ own .preferred ∷ own .name ∷ own .ports ∷ 0 ∷ 0 ∷ []
+    r .refusal ∷ cond (r .consumed) 1 0 ∷ r .accepted ∷ r .lost ∷ r .unsent ∷ r .compared ∷ eventNumber (r .event) ∷ oldName (r .event) ∷ r .reasons ∷ []
+code (ToTake (Refused number)) = number ∷ 0 ∷ 0 ∷ 0 ∷ 0 ∷ 0 ∷ 0 ∷ 0 ∷ 0 ∷ []
+code (ToTake (Took (Given f))) = 0 ∷ 1 ∷ f .id ∷ f .len ∷ f .bytes ∷ 0 ∷ 0 ∷ 0 ∷ 0 ∷ []
+code (ToTake (Took Nothing)) = 0 ∷ 0 ∷ 0 ∷ 0 ∷ 0 ∷ 0 ∷ 0 ∷ 0 ∷ 0 ∷ []
+code (ToMessage r reply) = r .refusal ∷ r .pgn ∷ r .length ∷ 0 ∷ 0 ∷ 0 ∷ 0 ∷ 0 ∷ 0 ∷ []
+code (ToStart r) = r .refusal ∷ r .unsent ∷ claimWord (r .claim) ∷ 0 ∷ 0 ∷ 0 ∷ 0 ∷ 0 ∷ 0 ∷ []
+code (ToQuiet number) = number ∷ 0 ∷ 0 ∷ 0 ∷ 0 ∷ 0 ∷ 0 ∷ 0 ∷ 0 ∷ []
+code (ToUnit (UnitAnswer.Refused number)) = number ∷ 0 ∷ 0 ∷ 0 ∷ 0 ∷ 0 ∷ 0 ∷ 0 ∷ 0 ∷ []
+code (ToUnit (Told own)) = 0 ∷ claimWord (own .claim) ∷ own .address ∷ own .preferred ∷ own .name ∷ own .ports ∷ 0 ∷ 0 ∷ 0 ∷ []
 
 -- the words of several answers
 abbrev pub codes : List Answer → List ℕ

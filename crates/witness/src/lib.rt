@@ -20,12 +20,12 @@ ghost use Rattle.witness.specs.Replay.{Stepping, Running, Replaying};
 // The words of a call, and of an answer.
 pub const CALL_WORDS: usize = 5;
 
-pub const ANSWER_WORDS: usize = 8;
+pub const ANSWER_WORDS: usize = 9;
 
-// An answer's eight words.
-fn put(out: &mut [u64], a: u64, b: u64, c: u64, d: u64, e: u64, f: u64, g: u64, h: u64)
+// An answer's nine words.
+fn put(out: &mut [u64], a: u64, b: u64, c: u64, d: u64, e: u64, f: u64, g: u64, h: u64, i: u64)
     requires { ⌜ length (now out) ≡ answerWords ⌝ }
-    ensures { λ _. ⌜ now (out .exit) ≡ a ∷ b ∷ c ∷ d ∷ e ∷ f ∷ g ∷ h ∷ [] ⌝ }
+    ensures { λ _. ⌜ now (out .exit) ≡ a ∷ b ∷ c ∷ d ∷ e ∷ f ∷ g ∷ h ∷ i ∷ [] ⌝ }
 {
     out[0] = a;
     out[1] = b;
@@ -35,6 +35,7 @@ fn put(out: &mut [u64], a: u64, b: u64, c: u64, d: u64, e: u64, f: u64, g: u64, 
     out[5] = f;
     out[6] = g;
     out[7] = h;
+    out[8] = i;
 }
 
 // A truth value as a number.
@@ -66,6 +67,7 @@ fn write_frame(r: FrameAnswer, out: &mut [u64])
         r.compared as u64,
         number as u64,
         old,
+        r.reasons,
     );
 }
 
@@ -75,10 +77,10 @@ fn write_take(r: TakeAnswer, out: &mut [u64])
     ensures { λ _. ⌜ now (out .exit) ≡ code (ToTake r) ⌝ }
 {
     match r {
-        TakeAnswer::Refused(number) => put(out, number as u64, 0, 0, 0, 0, 0, 0, 0),
+        TakeAnswer::Refused(number) => put(out, number as u64, 0, 0, 0, 0, 0, 0, 0, 0),
         TakeAnswer::Took(taken) => match taken {
-            Taken::Given(f) => put(out, 0, 1, f.id as u64, f.len as u64, f.bytes, 0, 0, 0),
-            Taken::Nothing => put(out, 0, 0, 0, 0, 0, 0, 0, 0),
+            Taken::Given(f) => put(out, 0, 1, f.id as u64, f.len as u64, f.bytes, 0, 0, 0, 0),
+            Taken::Nothing => put(out, 0, 0, 0, 0, 0, 0, 0, 0, 0),
         },
     }
 }
@@ -89,7 +91,7 @@ fn write_unit(r: UnitAnswer, out: &mut [u64])
     ensures { λ _. ⌜ now (out .exit) ≡ code (ToUnit r) ⌝ }
 {
     match r {
-        UnitAnswer::Refused(number) => put(out, number as u64, 0, 0, 0, 0, 0, 0, 0),
+        UnitAnswer::Refused(number) => put(out, number as u64, 0, 0, 0, 0, 0, 0, 0, 0),
         UnitAnswer::Told(unit) => {
             let claim = unit.claim;
             put(
@@ -100,6 +102,7 @@ fn write_unit(r: UnitAnswer, out: &mut [u64])
                 unit.preferred as u64,
                 unit.name,
                 unit.ports as u64,
+                0,
                 0,
                 0,
             );
@@ -146,6 +149,7 @@ fn message(
         0,
         0,
         0,
+        0,
     );
 }
 
@@ -165,6 +169,7 @@ fn start(words: &mut [u64], out: &mut [u64])
         0,
         0,
         0,
+        0,
     );
 }
 
@@ -173,7 +178,7 @@ fn quiet(words: &mut [u64], out: &mut [u64])
     ensures { λ _. ⌜ Stepping (now (words .entry)) (now (words .exit)) Quiet (now (out .exit)) ⌝ }
 {
     let number = bridge::quiet(words);
-    put(out, number as u64, 0, 0, 0, 0, 0, 0, 0);
+    put(out, number as u64, 0, 0, 0, 0, 0, 0, 0, 0);
 }
 
 fn read_unit(words: &[u64], out: &mut [u64])

@@ -1,9 +1,10 @@
 // Any encoded list of calls, run by `witness::replay`. Standard input has numbers in hex: the NAME, the preferred address, the number of ports, how many calls there
-// are, five words for each call, and the bytes of all calls; what stands behind a # is passed over. A line for each call, its answer's eight words, and how many frames
+// are, five words for each call, and the bytes of all calls; what stands behind a # is passed over. A line for each call, its answer's nine words, and how many frames
 // wait at each port.
 use libc::STDIN_FILENO;
 use libc::STDOUT_FILENO;
 use unit::Unit;
+use witness::ANSWER_WORDS;
 ghost use Prim.Native.Nat.{_+_, _*_, _≤_};
 ghost use lib.ListN.{length};
 
@@ -13,6 +14,9 @@ const NUMBERS: usize = 32768;
 const BYTES: usize = 16384;
 
 const CALLS: usize = 1024;
+
+// The last word of an answer, from 0.
+const LAST_WORD: usize = ANSWER_WORDS - 1;
 
 // How many numbers come before the calls.
 const HEAD: usize = 4;
@@ -140,11 +144,11 @@ fn print_word(n: u64, is_last: bool) {
     number(n, b" ");
 }
 
-// The answers' words in hex, eight a line.
+// The answers' words in hex, those of an answer a line.
 fn print_answers(answers: &[u64]) {
     let mut i = 0;
     while i < answers.len() {
-        print_word(answers[i], i % 8 == 7);
+        print_word(answers[i], i % ANSWER_WORDS == LAST_WORD);
         i += 1;
     }
 }
@@ -227,12 +231,12 @@ fn run(numbers: &[u64])
     let ports = Unit::count_of(numbers[2]) as usize;
     let length = record_length(ports);
     let mut record = [0u64; MOST_WORDS];
-    let mut space = [0u64; 8 * CALLS];
+    let mut space = [0u64; ANSWER_WORDS * CALLS];
     let words: &mut [u64] = &mut record;
     let answers: &mut [u64] = &mut space;
     make_calls(&mut words[0..length], numbers, answers, n);
     let written = &answers[..];
-    print_answers(&written[0..8 * n]);
+    print_answers(&written[0..ANSWER_WORDS * n]);
     print_record(words, ports);
 }
 

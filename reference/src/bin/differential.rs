@@ -181,6 +181,10 @@ impl Both {
         told.number = Record(self.record.contents()).frame(port, id, bytes, told.words.contents());
         let result = self.reference.frame(port, id, bytes);
         told.is(result.as_ref().err(), result.as_ref().ok().map(frame_words), None)?;
+        if let Ok(answer) = &result {
+            let word = told.words.contents()[FRAME_ANSWER - 1];
+            (1..=8).try_for_each(|port| same("reason", reason(word, port), answer.reason_number(port)))?;
+        }
         Ok(Answer::Frame(result))
     }
 
@@ -362,9 +366,9 @@ fn frame_words(answer: &FrameAnswer) -> Vec<u64> {
         Event::TookOver(old) => (6, old),
         Event::Beaten => (7, 0),
     };
-    let consumed = u64::from(answer.consumed);
-    let compared = answer.compared as u64;
-    vec![consumed, mask(&answer.accepted), mask(&answer.lost), event, old_name, mask(&answer.own_lost), compared]
+    let (consumed, compared) = (u64::from(answer.consumed), answer.compared as u64);
+    let [accepted, lost, own_lost] = [&answer.accepted, &answer.lost, &answer.own_lost].map(|ports| mask(ports));
+    vec![consumed, accepted, lost, event, old_name, own_lost, compared, answer.reason_word()]
 }
 
 /// The address is 254 for none.

@@ -67,8 +67,8 @@ fn print_answers(lines: &[&[u8]]) {
     println!("waiting {}", waiting.join(" "));
 }
 
-/// An answer's eight words.
-fn words(answer: &Answer) -> [u64; 8] {
+/// An answer's nine words.
+fn words(answer: &Answer) -> [u64; 9] {
     let number = u64::from(answer.number());
     match answer {
         Answer::Frame(Ok(told)) => {
@@ -83,14 +83,15 @@ fn words(answer: &Answer) -> [u64; 8] {
                 compared,
                 event,
                 old,
+                told.reason_word(),
             ]
         }
         Answer::Take(Ok(Some(frame))) => {
             let bytes = frame.bytes.iter().rev().fold(0, |word, &byte| word << 8 | u64::from(byte));
-            [0, 1, u64::from(frame.id), frame.bytes.len() as u64, bytes, 0, 0, 0]
+            [0, 1, u64::from(frame.id), frame.bytes.len() as u64, bytes, 0, 0, 0, 0]
         }
-        Answer::Message(told, _) => [number, u64::from(told.pgn), told.length as u64, 0, 0, 0, 0, 0],
-        Answer::Start(Ok(told)) => [0, mask(&told.own_lost), u64::from(told.state.number()), 0, 0, 0, 0, 0],
+        Answer::Message(told, _) => [number, u64::from(told.pgn), told.length as u64, 0, 0, 0, 0, 0, 0],
+        Answer::Start(Ok(told)) => [0, mask(&told.own_lost), u64::from(told.state.number()), 0, 0, 0, 0, 0, 0],
         Answer::Unit(told) => {
             let address = u64::from(told.address.unwrap_or(NULL));
             [
@@ -102,9 +103,10 @@ fn words(answer: &Answer) -> [u64; 8] {
                 u64::from(told.ports),
                 0,
                 0,
+                0,
             ]
         }
-        _ => [number, 0, 0, 0, 0, 0, 0, 0],
+        _ => [number, 0, 0, 0, 0, 0, 0, 0, 0],
     }
 }
 

@@ -32,24 +32,32 @@ part-find-end c = search needs
 find-requires : tie.Need-find-requires
 find-requires c κs = search needs
 
-cast-t15 : tie.Need-cast-t15
-cast-t15 c = search needs
-
-add-t16 : tie.Need-add-t16
-add-t16 c = search needs
-
-returns-3 : tie.Need-returns-3
-returns-3 c =
-    let at-mode = c .before .before .before .before in
-    ask-found (sym (at-mode .before .before .before .is-permanent .ensures) ∙ at-mode .before .before .if1 .left) (at-mode .if2 .left) (c .before .before .before .count .ensures) (c .before .find .ensures) (c .if3 .taken)
+by-list-requires : tie.Need-by-list-requires
+by-list-requires c κs = search needs
 
 cast-t17 : tie.Need-cast-t17
 cast-t17 c = search needs
 
+add-t18 : tie.Need-add-t18
+add-t18 c = search needs
+
+returns-3 : tie.Need-returns-3
+returns-3 c =
+    let at-find = c .before .before in
+    let at-mode = at-find .before .before .before in
+    ask-found (sym (at-mode .before .before .before .is-permanent .ensures) ∙ at-mode .before .before .if1 .left) (at-find .before .before .count .ensures) (at-find .find .ensures) (c .before .if3 .taken) (c .by-list .ensures)
+
+by-list-requires-2 : tie.Need-by-list-requires-2
+by-list-requires-2 c κs = search needs
+
+cast-t20 : tie.Need-cast-t20
+cast-t20 c = search needs
+
 returns-4 : tie.Need-returns-4
 returns-4 c =
-    let at-mode = c .before .before .before .before in
-    ask-absent (sym (at-mode .before .before .before .is-permanent .ensures) ∙ at-mode .before .before .if1 .left) (at-mode .if2 .left) (c .before .before .before .count .ensures) (c .before .find .ensures) (c .if3 .left)
+    let at-find = c .before .before in
+    let at-mode = at-find .before .before .before in
+    ask-absent (sym (at-mode .before .before .before .is-permanent .ensures) ∙ at-mode .before .before .if1 .left) (at-find .before .before .count .ensures) (at-find .find .ensures) (c .before .if3 .left) (c .by-list2 .ensures)
 
 pub ask-spec : {M : Type 1} → statement M
 ask-spec =
@@ -64,8 +72,10 @@ ask-spec =
     part-find-start
     part-find-end
     find-requires
-    cast-t15
-    add-t16
-    returns-3
+    by-list-requires
     cast-t17
+    add-t18
+    returns-3
+    by-list-requires-2
+    cast-t20
     returns-4)

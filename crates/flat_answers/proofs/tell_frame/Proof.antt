@@ -1,4 +1,4 @@
--- `flat_answers::tell_frame` meets its contract: seven words are stored in a place for seven. Assumes nothing.
+-- `flat_answers::tell_frame` meets its contract: eight words are stored in a place for eight. Assumes nothing.
 use mathlib.Core.Path.{_∙_}
 use mathlib.Core.List.{[], _∷_}
 use native.Mathlib.Omega.{arith}
@@ -53,6 +53,9 @@ cast-answer-5 c = search needs
 slice-write-answer-7 : tie.Need-slice-write-answer-7
 slice-write-answer-7 c = simp length-set (omega arith)
 
+slice-write-answer-8 : tie.Need-slice-write-answer-8
+slice-write-answer-8 c = simp length-set (omega arith)
+
 same-length : tie.Need-same-length
 same-length c = search needs
 
@@ -62,7 +65,7 @@ returns c =
     let args = at .before .before .args in
     let event = c .before .before .before .number in
     let old = c .before .before .old-name in
-    let words = at .flag .result ∷ args .a .accepted ∷ args .a .lost ∷ event .result ∷ old .result ∷ args .a .unsent ∷ args .a .compared ∷ [] in
+    let words = at .flag .result ∷ args .a .accepted ∷ args .a .lost ∷ event .result ∷ old .result ∷ args .a .unsent ∷ args .a .compared ∷ args .a .reasons ∷ [] in
     stored words (args .answer .now) (omega arith) ∙ rw (at .flag .ensures, event .ensures, old .ensures)
 
 pub tell-frame-spec : {M : Type 1} → statement M
@@ -84,5 +87,6 @@ tell-frame-spec =
     slice-write-answer-6
     cast-answer-5
     slice-write-answer-7
+    slice-write-answer-8
     same-length
     returns)

@@ -12,7 +12,7 @@ use Rattle.forwarding.specs.declared.Share.{Share}
 use Rattle.forwarding.specs.Forwarding.{verdict}
 use Rattle.forwarding.specs.Steps.{Sending, SendingAt, Standing}
 use Rattle.forwarding.proofs.Sends.{send-self, stand-self, stand-pair, stand-count, stand-next}
-use Rattle.forwarding.proofs.Loop.{Going, asked-still, going-start, going-more, going-self, going-done, sums, bit-small}
+use Rattle.forwarding.proofs.Loop.{Going, asked-still, going-start, going-more, going-self, going-done, sums, bit-small, weight-small}
 use Rattle.forwarding.proofs.forward.Statement.{statement}
 use Rattle.forwarding.proofs.forward.Tie as tie
 
@@ -21,16 +21,16 @@ abbrev question : ℕ → ℕ → ℕ → Rest → ℕ → Asked
 question ports from pgn rest = verdict ports (rest .pairs) from pgn
 
 abbrev Inv-loop : tie.InvT-loop
-Inv-loop words₀ ports from pgn f accepted₀ lost₀ compared₀ bit₀ at₀ to₀ words accepted lost compared bit at to =
-    Going ports words₀ (question ports from pgn (modelOf ports words₀ .rest)) f words accepted lost compared bit to × Standing ports from at to
+Inv-loop words₀ ports from pgn f accepted₀ lost₀ reasons₀ compared₀ bit₀ weight₀ at₀ to₀ words accepted lost reasons compared bit weight at to =
+    Going ports words₀ (question ports from pgn (modelOf ports words₀ .rest)) f words accepted lost reasons compared bit weight to × Standing ports from at to
 
 abbrev μ-loop : tie.MeasureT-loop
-μ-loop words₀ ports from pgn f accepted₀ lost₀ compared₀ bit₀ at₀ to₀ words accepted lost compared bit at to = ports - to
+μ-loop words₀ ports from pgn f accepted₀ lost₀ reasons₀ compared₀ bit₀ weight₀ at₀ to₀ words accepted lost reasons compared bit weight at to = ports - to
 
 -- what came of the frame at another port
-came : (pgn : ℕ) {ports from : ℕ} {start words after : List ℕ} {f : Frame} {accepted lost compared bit at n : ℕ} {r : Share}
-    → Going ports start (question ports from pgn (modelOf ports start .rest)) f words accepted lost compared bit n × Standing ports from at n
-    → from < ports → n < ports → (from ≡ n → ⊥) → SendingAt words after at n bit pgn f r → Sending ports words after (question ports from pgn (modelOf ports start .rest) n) n bit f r
+came : (pgn : ℕ) {ports from : ℕ} {start words after : List ℕ} {f : Frame} {accepted lost reasons compared bit weight at n : ℕ} {r : Share}
+    → Going ports start (question ports from pgn (modelOf ports start .rest)) f words accepted lost reasons compared bit weight n × Standing ports from at n
+    → from < ports → n < ports → (from ≡ n → ⊥) → SendingAt words after at n bit weight pgn f r → Sending ports words after (question ports from pgn (modelOf ports start .rest) n) n bit weight f r
 came pgn {ports} {from} I port more ne S =
     asked-still (question ports from pgn) (I .0) (S ports from more ne (stand-count port (I .1) ne more) (stand-pair port (I .1) ne))
 
@@ -46,7 +46,7 @@ send-requires c κs =
     let at-loop = at-if .before .before in
     let port = at-loop .before .before .before .pre .2 in
     let L = at-loop .loop .inv .1 in
-    omega (arith, stand-pair port L (at-if .if1 .taken), stand-count port L (at-if .if1 .taken) (at-if .before .loop-test .taken))
+    omega (arith, stand-pair port L (at-if .if1 .taken), stand-count port L (at-if .if1 .taken) (at-if .before .loop-test .taken), weight-small (at-loop .loop .inv .0) (at-if .before .loop-test .taken))
 
 add-accepted : tie.Need-add-accepted Inv-loop μ-loop
 add-accepted c =
@@ -68,9 +68,19 @@ add-lost c =
     let S = came (start .args .pgn) (at-loop .loop .inv) (start .pre .2) more (at-if .if1 .taken) (at-send .send .ensures) in
     omega (arith, sums (at-loop .loop .inv .0) S more .1)
 
+add-reasons : tie.Need-add-reasons Inv-loop μ-loop
+add-reasons c =
+    let at-send = c .before .before .before .before .before in
+    let at-if = at-send .before .before in
+    let at-loop = at-if .before .before in
+    let start = at-loop .before .before .before in
+    let more = at-if .before .loop-test .taken in
+    let S = came (start .args .pgn) (at-loop .loop .inv) (start .pre .2) more (at-if .if1 .taken) (at-send .send .ensures) in
+    omega (arith, sums (at-loop .loop .inv .0) S more .3)
+
 add-compared : tie.Need-add-compared Inv-loop μ-loop
 add-compared c =
-    let at-send = c .before .before .before .before .before in
+    let at-send = c .before .before .before .before .before .before in
     let at-if = at-send .before .before in
     let at-loop = at-if .before .before in
     let start = at-loop .before .before .before in
@@ -80,14 +90,14 @@ add-compared c =
 
 add-at : tie.Need-add-at Inv-loop μ-loop
 add-at c =
-    let at-if = c .before .before .before .before .before .before .before in
+    let at-if = c .before .before .before .before .before .before .before .before in
     let at-loop = at-if .before .before in
     let start = at-loop .before .before .before in
     let L = at-loop .loop .inv .1 in
     omega (arith, stand-pair (start .pre .2) L (at-if .if1 .taken), stand-count (start .pre .2) L (at-if .if1 .taken) (at-if .before .loop-test .taken), pairs-most {ports = start .args .ports} (start .pre .0))
 
 -- where the ways meet, one more port is passed
-stepped : (c : tie.Joined1 Inv-loop μ-loop) → let at-loop = c .before .before in let args = at-loop .before .before .before .args in Going (args .ports) (args .words .now) (question (args .ports) (args .from) (args .pgn) (modelOf (args .ports) (args .words .now) .rest)) (args .f) (c .if1 .words) (c .if1 .accepted) (c .if1 .lost) (c .if1 .compared) (2 * at-loop .loop .bit) (at-loop .loop .to + 1) × Standing (args .ports) (args .from) (c .if1 .at) (at-loop .loop .to + 1)
+stepped : (c : tie.Joined1 Inv-loop μ-loop) → let at-loop = c .before .before in let args = at-loop .before .before .before .args in Going (args .ports) (args .words .now) (question (args .ports) (args .from) (args .pgn) (modelOf (args .ports) (args .words .now) .rest)) (args .f) (c .if1 .words) (c .if1 .accepted) (c .if1 .lost) (c .if1 .reasons) (c .if1 .compared) (2 * at-loop .loop .bit) (16 * at-loop .loop .weight) (at-loop .loop .to + 1) × Standing (args .ports) (args .from) (c .if1 .at) (at-loop .loop .to + 1)
 stepped c =
     let at-loop = c .before .before in
     let start = at-loop .before .before .before in
@@ -97,11 +107,11 @@ stepped c =
     let G = at-loop .loop .inv .0 in
     let L = at-loop .loop .inv .1 in
     ⊎-elim
-    (λ w. rw (w .8, w .9, w .10, w .11, w .12) (
+    (λ w. rw (w .9, w .10, w .11, w .12, w .13, w .14) (
       going-more G (came (args .pgn) (at-loop .loop .inv) port more (w .0 .taken) (w .2 .ensures)) more (omega arith),
       stand-next port L (w .0 .taken),
     ))
-    (λ w. rw (w .1, w .2, w .3, w .4, w .5) (
+    (λ w. rw (w .1, w .2, w .3, w .4, w .5, w .6) (
       going-self G more (asked-still (question (args .ports) (args .from) (args .pgn)) G (send-self (args .pgn) (w .0 .left))),
       stand-self port L (w .0 .left),
     ))
@@ -109,6 +119,9 @@ stepped c =
 
 mul-bit : tie.Need-mul-bit Inv-loop μ-loop
 mul-bit c = omega (arith, bit-small (c .before .before .loop .inv .0 .along) (c .before .loop-test .taken))
+
+mul-weight : tie.Need-mul-weight Inv-loop μ-loop
+mul-weight c = omega (arith, weight-small (c .before .before .loop .inv .0) (c .before .loop-test .taken))
 
 add-to : tie.Need-add-to Inv-loop μ-loop
 add-to c = omega arith
@@ -136,9 +149,11 @@ forward-spec =
     send-requires
     add-accepted
     add-lost
+    add-reasons
     add-compared
     add-at
     mul-bit
+    mul-weight
     add-to
     loop-less
     loop-again

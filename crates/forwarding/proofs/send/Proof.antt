@@ -1,12 +1,29 @@
 -- `forwarding::send` meets its contract, by the way that the code went. Assumes nothing.
 use mathlib.Core.Bool.{true, false}
-use Rattle.forwarding.proofs.Sends.{send-stopped, send-permitted}
+use mathlib.Core.Path.{sym, _∙_}
+use native.Mathlib.Omega.{arith}
+use Rattle.filter.proofs.Reasons.{reason-below}
+use Rattle.forwarding.proofs.Sends.{told-small, send-stopped, send-permitted}
 use borrow.Author.Needs.{needs}
 use Rattle.forwarding.proofs.send.Statement.{statement}
 use Rattle.forwarding.proofs.send.Tie as tie
 
 ask-filter-requires : tie.Need-ask-filter-requires
 ask-filter-requires c κs = search needs
+
+number-requires : tie.Need-number-requires
+number-requires c κs = search needs
+
+cast-reasons : tie.Need-cast-reasons
+cast-reasons c = search needs
+
+mul-reasons : tie.Need-mul-reasons
+mul-reasons c =
+    let start = c .before .before .before .before in
+    omega (arith, told-small (start .args .weight) (c .number .result) (start .pre .2) (rw (c .number .ensures) (reason-below (c .before .ask-filter .result .reason))))
+
+crosses-requires : tie.Need-crosses-requires
+crosses-requires c κs = search needs
 
 join-row-requires : tie.Need-join-row-requires
 join-row-requires c κs = search needs
@@ -17,9 +34,11 @@ same-length c = search needs
 returns : tie.Need-returns
 returns c = λ ports from more ne h e.
     let at-join = c .before .before .before in
-    let at-ask = at-join .before .before .before in
+    let at-crosses = at-join .before .before .before in
+    let at-number = at-crosses .before in
+    let at-ask = at-number .before in
     let args = at-ask .before .before .before .args in
-    send-permitted (args .pgn) ne (at-ask .ask-filter .ensures ports from (args .to) h e) true (at-join .before .before .if1 .taken) (c .if2 .taken) (at-join .join-row .ensures ports more)
+    send-permitted (args .pgn) ne (at-ask .ask-filter .ensures ports from (args .to) h e) (at-number .number .ensures) true (sym (at-crosses .crosses .ensures) ∙ at-join .before .before .if1 .taken) (c .if2 .taken) (at-join .join-row .ensures ports more)
 
 same-length-2 : tie.Need-same-length-2
 same-length-2 c = search needs
@@ -27,24 +46,32 @@ same-length-2 c = search needs
 returns-2 : tie.Need-returns-2
 returns-2 c = λ ports from more ne h e.
     let at-join = c .before .before .before in
-    let at-ask = at-join .before .before .before in
+    let at-crosses = at-join .before .before .before in
+    let at-number = at-crosses .before in
+    let at-ask = at-number .before in
     let args = at-ask .before .before .before .args in
-    send-permitted (args .pgn) ne (at-ask .ask-filter .ensures ports from (args .to) h e) false (at-join .before .before .if1 .taken) (c .if2 .left) (at-join .join-row .ensures ports more)
+    send-permitted (args .pgn) ne (at-ask .ask-filter .ensures ports from (args .to) h e) (at-number .number .ensures) false (sym (at-crosses .crosses .ensures) ∙ at-join .before .before .if1 .taken) (c .if2 .left) (at-join .join-row .ensures ports more)
 
 same-length-3 : tie.Need-same-length-3
 same-length-3 c = search needs
 
 returns-3 : tie.Need-returns-3
 returns-3 c = λ ports from more ne h e.
-    let at-ask = c .before in
+    let at-crosses = c .before in
+    let at-number = at-crosses .before in
+    let at-ask = at-number .before in
     let args = at-ask .before .before .before .args in
-    send-stopped (args .pgn) ne (at-ask .ask-filter .ensures ports from (args .to) h e) (c .if1 .left)
+    send-stopped (args .pgn) ne (at-ask .ask-filter .ensures ports from (args .to) h e) (at-number .number .ensures) (sym (at-crosses .crosses .ensures) ∙ c .if1 .left)
 
 pub send-spec : {M : Type 1} → statement M
 send-spec =
     tie.close
     (tie.spec
     ask-filter-requires
+    number-requires
+    cast-reasons
+    mul-reasons
+    crosses-requires
     join-row-requires
     same-length
     returns

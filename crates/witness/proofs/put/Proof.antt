@@ -1,7 +1,7 @@
--- `put` meets its contract: eight stores. Assumes nothing.
+-- `put` meets its contract: nine stores. Assumes nothing.
 use native.Mathlib.Omega.{arith}
 use lib.ListN.{length-set}
-use Rattle.witness.proofs.Steps.{eight}
+use Rattle.witness.proofs.Steps.{nine}
 use borrow.Author.Needs.{needs}
 use Rattle.witness.proofs.put.Statement.{statement}
 use Rattle.witness.proofs.put.Tie as tie
@@ -30,13 +30,16 @@ slice-write-out-7 c = simp length-set (omega arith)
 slice-write-out-8 : tie.Need-slice-write-out-8
 slice-write-out-8 c = simp length-set (omega arith)
 
+slice-write-out-9 : tie.Need-slice-write-out-9
+slice-write-out-9 c = simp length-set (omega arith)
+
 same-length : tie.Need-same-length
 same-length c = search needs
 
 returns : tie.Need-returns
 returns c =
     let args = c .args in
-    eight (args .out .now) (args .a) (args .b) (args .c) (args .d) (args .e) (args .f) (args .g) (args .h) (c .pre)
+    nine (args .out .now) (args .a) (args .b) (args .c) (args .d) (args .e) (args .f) (args .g) (args .h) (args .i) (c .pre)
 
 pub put-spec : {M : Type 1} → statement M
 put-spec =
@@ -50,5 +53,6 @@ put-spec =
     slice-write-out-6
     slice-write-out-7
     slice-write-out-8
+    slice-write-out-9
     same-length
     returns)

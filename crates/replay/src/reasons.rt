@@ -1,0 +1,119 @@
+// The reasons why frames crossed to ports or stopped: in a frame's answer, and counted in the summary. They are told in the order of their numbers, but 0, that a
+// port was not asked, comes last.
+use crate::print;
+use crate::tally;
+use crate::words;
+ghost use Prim.Native.Nat.{_≤_, _<_};
+ghost use lib.ListN.{length};
+
+// How many reasons there are.
+const REASONS: u64 = 7;
+
+// What parts one from the one before it, in a list that begins at `first`.
+fn part(out: &mut [u8], at: usize, first: usize) -> usize
+    requires { ⌜ at ≤ length (now out) ⌝ }
+    ensures { λ r. ⌜ r ≤ length (now (out .entry)) ⌝ }
+{
+    if at == first {
+        return at;
+    }
+    print::text(out, at, b", ")
+}
+
+// 1 where the lowest four bits are a reason, else 0.
+fn bit(reasons: u64, reason: u64) -> u32 {
+    if reasons % 16 == reason {
+        return 1;
+    }
+    0
+}
+
+// The ports that have a reason, of the first `ports`, as a mask.
+fn having(reasons: u64, ports: usize, reason: u64) -> u32
+    requires { ⌜ ports ≤ 8 ⌝ }
+{
+    let mut mask = 0;
+    let mut left = ports as u32;
+    while 0 < left {
+        left -= 1;
+        mask = (mask << 1) | bit(reasons >> (4 * left), reason);
+    }
+    mask
+}
+
+// The ports of a mask and the reason that they have; nothing where there are none.
+fn group(out: &mut [u8], at: usize, first: usize, mask: u32, reason: u64) -> usize
+    requires { ⌜ at ≤ length (now out) ⌝ }
+    ensures { λ r. ⌜ r ≤ length (now (out .entry)) ⌝ }
+{
+    if mask == 0 {
+        return at;
+    }
+    let next = part(out, at, first);
+    let next = print::digits(out, next, mask);
+    let next = print::text(out, next, b": ");
+    words::reason(out, next, reason)
+}
+
+// Each reason that some of the ports have.
+fn groups(out: &mut [u8], first: usize, reasons: u64, ports: usize) -> usize
+    requires { ⌜ (first ≤ length (now out)) × (ports ≤ 8) ⌝ }
+    ensures { λ r. ⌜ r ≤ length (now (out .entry)) ⌝ }
+{
+    let mut next = first;
+    let mut k = 0;
+    while k < REASONS {
+        k += 1;
+        let mask = having(reasons, ports, k % REASONS);
+        next = group(out, next, first, mask, k % REASONS);
+    }
+    next
+}
+
+// The reasons of a frame's answer, after two blanks.
+pub fn told(out: &mut [u8], at: usize, reasons: u64, ports: usize) -> usize
+    requires { ⌜ (at ≤ length (now out)) × (ports ≤ 8) ⌝ }
+    ensures { λ r. ⌜ r ≤ length (now (out .entry)) ⌝ }
+{
+    let first = print::text(out, at, b"  ");
+    groups(out, first, reasons, ports)
+}
+
+// A reason and how often it was met; nothing where it never was.
+fn count(out: &mut [u8], at: usize, first: usize, reason: u64, n: u64) -> usize
+    requires { ⌜ at ≤ length (now out) ⌝ }
+    ensures { λ r. ⌜ r ≤ length (now (out .entry)) ⌝ }
+{
+    if n == 0 {
+        return at;
+    }
+    let next = part(out, at, first);
+    let next = words::reason(out, next, reason);
+    print::count(out, next, b" ", n)
+}
+
+// Each reason that was met at a port, by its index from 0.
+fn counted(counts: &[u64], out: &mut [u8], first: usize, index: usize) -> usize
+    requires { ⌜ (first ≤ length (now out)) × (index < 8) ⌝ }
+    ensures { λ r. ⌜ r ≤ length (now (out .entry)) ⌝ }
+{
+    let mut next = first;
+    let mut k = 0;
+    while k < REASONS {
+        k += 1;
+        let n = tally::met(counts, index, k % REASONS);
+        next = count(out, next, first, k % REASONS, n);
+    }
+    next
+}
+
+// The same as a line; none where none was met.
+pub fn write(counts: &mut [u64], out: &mut [u8], index: usize)
+    requires { ⌜ index < 8 ⌝ }
+{
+    let first = print::text(out, 0, b"    ");
+    let end = counted(counts, out, first, index);
+    if first < end {
+        print::finish(counts, out, end);
+    }
+}
