@@ -15,7 +15,9 @@ static const char *words_of(uint32_t number)
     case DEORASAENG_NOT_CLAIMED: return "unit not Claimed";
     case DEORASAENG_ACCESS_DENIED: return "pair or port not this tool's";
     case DEORASAENG_NOT_CLEARED: return "Create: a named pair not cleared";
+    case DEORASAENG_PGN_ABSENT: return "Delete: a PGN absent from a named pair";
     case DEORASAENG_WRONG_STATE: return "Start not in Unstarted, Quiet not in Claiming";
+    case DEORASAENG_WRONG_ENTRY: return "an entry is no PGN";
     default: return "one that this morning does not meet";
     }
 }
@@ -122,7 +124,12 @@ static void message(uint32_t port, uint32_t requester, const uint8_t *payload, s
     uint8_t reply[DEORASAENG_REPLY_BYTES];
     uint32_t number = deorasaeng_message(record, DEORASAENG_RECORD_WORDS, port, requester, payload, length, reply, DEORASAENG_REPLY_BYTES,
                                          answer, DEORASAENG_MESSAGE_ANSWER);
-    printf("message %u at port %" PRIu32 ": %" PRIu32 " %s, PGN %" PRIu64 ":", payload[0], port, number, words_of(number), answer[DEORASAENG_PGN]);
+    printf("message %u at port %" PRIu32 ": %" PRIu32 " %s", payload[0], port, number, words_of(number));
+    if (answer[DEORASAENG_ENTRY] != 0)
+        printf(", entry %" PRIu64, answer[DEORASAENG_ENTRY]);
+    if (number == DEORASAENG_PGN_ABSENT)
+        printf(", PGN %" PRIu64 " from %u to %" PRIu64, answer[DEORASAENG_ABSENT], payload[1] >> 4, answer[DEORASAENG_TO]);
+    printf(", PGN %" PRIu64 ":", answer[DEORASAENG_PGN]);
     print_bytes(reply, answer[DEORASAENG_WRITTEN]);
 }
 
@@ -133,6 +140,8 @@ int main(void)
     static const uint8_t baler[8] = {0x11, 0x00, 0xC0, 0x0B, 0x00, 0x80, 0x0B, 0x20};
     static const uint8_t create[8] = {6, 0x12, 0, 0x04, 0xF0, 0x00, 0xFF, 0xFF};
     static const uint8_t request[8] = {0, 0x12, 0xFF, 0xFF, 0xFF, 0xFF, 0xFF, 0xFF};
+    static const uint8_t swapped[8] = {2, 0x12, 0x0B, 0xF0, 0x00, 0x00, 0xFE, 0xF1};
+    static const uint8_t delete[8] = {3, 0x12, 0x04, 0xF0, 0x00, 0x0B, 0xF0, 0x00};
     static const uint8_t addresses[8] = {64, 3, 0xFF, 0xFF, 0xFF, 0xFF, 0xFF, 0xFF};
 
     printf("power-on: %" PRIu32 "\n", deorasaeng_power_on(record, DEORASAENG_RECORD_WORDS, 0x20001C000AC00123, 0x80));
@@ -150,6 +159,8 @@ int main(void)
     frame(1, 0x0CF00400, engine, 8);           /* to ports 2, 3 and 4 */
     message(1, 0x21, create, sizeof create);   /* block PGN 61444 from 1 to 2 */
     message(1, 0x21, create, sizeof create);   /* 14: the pair is not cleared any more */
+    message(1, 0x21, swapped, sizeof swapped); /* 22: the second PGN's bytes are in the wrong order */
+    message(1, 0x21, delete, sizeof delete);   /* 17: 61451 was not added */
     message(1, 0x21, request, sizeof request);
     message(3, 0x21, request, sizeof request); /* 11: not a pair of port 3 */
     message(1, 0x21, addresses, sizeof addresses);

@@ -225,12 +225,12 @@ enum { NUMBERS = DEORASAENG_WRONG_PORT_COUNT + 1, REASONS = DEORASAENG_REASON_ST
 
 static bool is_number(int i)
 {
-    return i <= DEORASAENG_WRONG_STATE || i == DEORASAENG_WRONG_PORT_COUNT;
+    return i <= DEORASAENG_WRONG_STATE || i == DEORASAENG_WRONG_ENTRY || i == DEORASAENG_WRONG_PORT_COUNT;
 }
 
 /* What came of the calls, so that one sees that nothing was left untried. */
 struct tally {
-    long numbers[NUMBERS], events[8], reasons[REASONS], done[65], ports[MOST_PORTS + 1], full, longest, permanent;
+    long numbers[NUMBERS], events[8], reasons[REASONS], done[65], ports[MOST_PORTS + 1], full, longest, permanent, later_entry, later_absent, later_pair;
 };
 
 /* How many lists on a frame's way would stop it if its PGN, which is permanent, were not. */
@@ -260,6 +260,12 @@ static void count(struct tally *t, const struct call *c, const struct lent *l, u
         for (uint32_t port = 1; port <= ports_of(l->record, MOST_WORDS); port++)
             t->reasons[DEORASAENG_REASON(l->answer[DEORASAENG_REASONS], port)]++;
     }
+    if (number == DEORASAENG_WRONG_ENTRY)
+        t->later_entry += l->answer[DEORASAENG_ENTRY] > 1;
+    if (number == DEORASAENG_PGN_ABSENT) {
+        t->later_absent += l->answer[DEORASAENG_ENTRY] > 1;
+        t->later_pair += (c->payload[1] & 15) == 15 && l->answer[DEORASAENG_TO] > 1u + (c->payload[1] >> 4 == 1);
+    }
     if (number == 0 && c->kind == MESSAGE) {
         t->done[c->payload[0]]++;
         t->full += c->payload[0] == 0 && l->answer[DEORASAENG_WRITTEN] == 99;
@@ -269,7 +275,7 @@ static void count(struct tally *t, const struct call *c, const struct lent *l, u
 
 static bool is_whole(const struct tally *t, long calls)
 {
-    bool whole = t->full && t->longest && t->permanent;
+    bool whole = t->full && t->longest && t->permanent && t->later_entry && t->later_absent && t->later_pair;
     for (int i = 0; i < NUMBERS; i++)
         whole &= !is_number(i) || t->numbers[i] > 0;
     for (int i = FEWEST_PORTS; i <= MOST_PORTS; i++)
@@ -290,7 +296,9 @@ static bool is_whole(const struct tally *t, long calls)
     printf("; reasons:");
     for (int i = 0; i < REASONS; i++)
         printf(" %d:%ld", i, t->reasons[i]);
-    printf("; permanent PGNs across lists that stop others: %ld; on units with so many ports:", t->permanent);
+    printf("; permanent PGNs across lists that stop others: %ld; wrong entries behind the first: %ld; absent ones: %ld, in a pair behind the first of all: %ld", t->permanent,
+           t->later_entry, t->later_absent, t->later_pair);
+    printf("; on units with so many ports:");
     for (int i = FEWEST_PORTS; i <= MOST_PORTS; i++)
         printf(" %d:%ld", i, t->ports[i]);
     printf("\n");

@@ -270,8 +270,13 @@ static uint32_t entry(const uint8_t *bytes)
     return bytes[0] | bytes[1] << 8 | bytes[2] << 16;
 }
 
-/* How many entries stand in n bytes from `bytes` on, which are the payload's last; 0 for a wrong body. */
-static size_t entries(const uint8_t *bytes, size_t n, bool eight)
+/* Which entry was wrong: its number from 1, the To port and the PGN, as they stand in the answer. */
+struct wrong {
+    uint64_t entry, to, pgn;
+};
+
+/* 12 or 22, or in *count how many entries stand in n bytes from `bytes` on, which are the payload's last. */
+static uint32_t entries(const uint8_t *bytes, size_t n, bool eight, size_t *count, struct wrong *wrong)
 {
     if (eight) {
         bool filled = true;
@@ -281,13 +286,16 @@ static size_t entries(const uint8_t *bytes, size_t n, bool eight)
             n = 3;
     }
     if (n % 3)
-        return 0;
-    for (size_t i = 0; i < n; i += 3) {
-        uint32_t pgn = entry(bytes + i);
-        if (pgn >> 18 || ((pgn & 0xF000) != 0xF000 && pgn & 0xFF))
-            return 0;
+        return 12;
+    *count = n / 3;
+    for (size_t i = 0; i < *count; i++) {
+        uint32_t pgn = entry(bytes + 3 * i);
+        if (pgn >> 18 || ((pgn & 0xF000) != 0xF000 && pgn & 0xFF)) {
+            wrong->entry = i + 1;
+            return 22;
+        }
     }
-    return n / 3;
+    return 0;
 }
 
 /* The different PGNs among n entries, in order; LIST + 1 where they are more than a list holds. */
@@ -332,7 +340,8 @@ static uint32_t add(struct pair *pairs, int named, const uint8_t *bytes, size_t 
     return 0;
 }
 
-static uint32_t delete(struct pair *pairs, int named, const uint8_t *bytes, size_t n)
+/* The pairs are all from a port, counted from 1, or the one to `to`. */
+static uint32_t delete(struct pair *pairs, int named, uint32_t from, uint32_t to, const uint8_t *bytes, size_t n, struct wrong *wrong)
 {
     uint32_t gone[MOST - 1] = {0};
     for (int k = 0; k < named; k++)
@@ -341,8 +350,11 @@ static uint32_t delete(struct pair *pairs, int named, const uint8_t *bytes, size
     for (int k = 0; k < named; k++)
         for (size_t i = 0; i < n; i++) {
             uint64_t at = find(pairs[k].pgns, pairs[k].count, entry(bytes + 3 * i));
-            if (at == pairs[k].count)
+            if (at == pairs[k].count) {
+                uint32_t other = (uint32_t)k + 1;
+                *wrong = (struct wrong){i + 1, to != ALL ? to : other + (other >= from), entry(bytes + 3 * i)};
                 return 17;
+            }
             gone[k] |= 1u << at;
         }
     for (int k = 0; k < named; k++) {
@@ -415,8 +427,8 @@ static uint32_t judge(uint32_t ports, uint32_t port, uint8_t function, uint32_t 
     }
 }
 
-/* 12 to 17, and a command on pairs where none applies. */
-static uint32_t command(struct pair *pairs, int named, const uint8_t *payload, size_t n)
+/* 12 to 17 and 22, and a command on pairs where none applies. */
+static uint32_t command(struct pair *pairs, int named, uint32_t from, uint32_t to, const uint8_t *payload, size_t n, struct wrong *wrong)
 {
     size_t start = payload[0] == CREATE ? 3 : 2, m;
     if (payload[0] == CLEAR) {
@@ -426,19 +438,19 @@ static uint32_t command(struct pair *pairs, int named, const uint8_t *payload, s
             pairs[k].mode = CLEARED;
         return 0;
     }
-    m = entries(payload + start, n - start, n == 8);
-    if (m == 0)
-        return 12;
+    uint32_t number = entries(payload + start, n - start, n == 8, &m, wrong);
+    if (number)
+        return number;
     if (payload[0] == ADD)
         return add(pairs, named, payload + start, m);
     if (payload[0] == DELETE)
-        return delete(pairs, named, payload + start, m);
+        return delete(pairs, named, from, to, payload + start, m, wrong);
     return payload[2] > 1 ? 13 : create(pairs, named, BLOCK + payload[2], payload + start, m);
 }
 
-/* 12 to 17, and what a message asks for where none applies; `length` is that of a reply. */
+/* 12 to 17 and 22, and what a message asks for where none applies; `length` is that of a reply. */
 static uint32_t perform(struct unit *u, uint32_t ports, uint32_t from, uint32_t to, const uint8_t *payload, size_t n, uint8_t *reply,
-                        size_t *length)
+                        size_t *length, struct wrong *wrong)
 {
     if (payload[0] == ADDRESSES) {
         if (n != 8)
@@ -448,10 +460,10 @@ static uint32_t perform(struct unit *u, uint32_t ports, uint32_t from, uint32_t 
     }
     struct pair *pairs = pairs_from(u, ports, from - 1);
     if (to == ALL)
-        return command(pairs, ports - 1, payload, n);
+        return command(pairs, ports - 1, from, to, payload, n, wrong);
     pairs += to < from ? to - 1 : to - 2;
     if (payload[0] != REQUEST)
-        return command(pairs, 1, payload, n);
+        return command(pairs, 1, from, to, payload, n, wrong);
     if (n != 8)
         return 12;
     *length = reply_list(pairs, payload[1], reply);
@@ -463,8 +475,9 @@ uint32_t c_message(uint64_t *record, size_t record_len, uint32_t port, uint32_t 
 {
     struct unit *u = (struct unit *)record;
     uint32_t ports = ports_of(record, record_len);
+    struct wrong wrong = {0, 0, 0};
     if (answer_len == DEORASAENG_MESSAGE_ANSWER)
-        answer[DEORASAENG_PGN] = answer[DEORASAENG_WRITTEN] = 0;
+        memset(answer, 0, 8 * DEORASAENG_MESSAGE_ANSWER);
     if (port - 1 >= ports)
         return 1;
     if (record_len != words_for[ports] || reply_len < LONGEST || answer_len != DEORASAENG_MESSAGE_ANSWER)
@@ -479,7 +492,7 @@ uint32_t c_message(uint64_t *record, size_t record_len, uint32_t port, uint32_t 
     uint32_t from = payload[1] >> 4, to = payload[1] & 15, number = judge(ports, port, function, from, to);
     size_t length = 0;
     if (!number)
-        number = perform(u, ports, from, to, payload, payload_len, reply, &length);
+        number = perform(u, ports, from, to, payload, payload_len, reply, &length, &wrong);
     if (length) {
         while (length < 8)
             reply[length++] = FILLING;
@@ -491,6 +504,9 @@ uint32_t c_message(uint64_t *record, size_t record_len, uint32_t port, uint32_t 
     memcpy(reply, bytes, 8);
     answer[DEORASAENG_PGN] = ACKNOWLEDGMENT_PGN;
     answer[DEORASAENG_WRITTEN] = 8;
+    answer[DEORASAENG_ENTRY] = wrong.entry;
+    answer[DEORASAENG_TO] = wrong.to;
+    answer[DEORASAENG_ABSENT] = wrong.pgn;
     return number;
 }
 

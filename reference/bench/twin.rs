@@ -13,6 +13,7 @@ const QUEUE_WORDS: usize = 1 + 2 * QUEUE;
 const PLACE_WORDS: usize = 2;
 const OWN: usize = 5;
 const LONGEST: usize = 1785;
+const MESSAGE_ANSWER: usize = 5;
 const NO_ADDRESS: u64 = 254;
 const ALL: usize = 15;
 const FILLING: u8 = 0xFF;
@@ -156,21 +157,35 @@ fn is_pgn(number: u32) -> bool {
     number < 1 << 18 && (number >> 8 & 0xFF >= 240 || number & 0xFF == 0)
 }
 
-/// The bytes that are entries, or 12.
-fn entries_in(payload: &[u8], start: usize) -> Result<&[u8], u32> {
+/// Why a message is refused: the number, and which entry was wrong, by its number from 1, the To port and the PGN.
+struct Refusal {
+    number: u32,
+    wrong: [u64; 3],
+}
+
+impl From<u32> for Refusal {
+    fn from(number: u32) -> Refusal {
+        Refusal { number, wrong: [0; 3] }
+    }
+}
+
+/// The bytes that are entries, or 12 or 22.
+fn entries_in(payload: &[u8], start: usize) -> Result<&[u8], Refusal> {
     let mut body = &payload[start..];
     if payload.len() == 8 && body[3..].iter().all(|&b| b == FILLING) {
         body = &body[..3];
     }
-    if body.len() % 3 == 0 && entries_from(body).all(is_pgn) {
-        Ok(body)
-    } else {
-        Err(12)
+    if body.len() % 3 != 0 {
+        return Err(12.into());
+    }
+    match entries_from(body).position(|x| !is_pgn(x)) {
+        Some(i) => Err(Refusal { number: 22, wrong: [i as u64 + 1, 0, 0] }),
+        None => Ok(body),
     }
 }
 
 /// The different PGNs of the entries, in order, and how many; 16 where they are more than a list holds.
-fn different(body: &[u8]) -> Result<([u64; LIST], usize), u32> {
+fn different(body: &[u8]) -> Result<([u64; LIST], usize), Refusal> {
     let mut pgns = [0; LIST];
     let mut held = 0;
     for x in entries_from(body).map(u64::from) {
@@ -182,9 +197,9 @@ fn different(body: &[u8]) -> Result<([u64; LIST], usize), u32> {
     Ok((pgns, held))
 }
 
-fn add(pairs: &mut [Pair], body: &[u8]) -> Result<(), u32> {
+fn add(pairs: &mut [Pair], body: &[u8]) -> Result<(), Refusal> {
     if pairs.iter().any(|p| p[0] == CLEARED) {
-        return Err(15);
+        return Err(15.into());
     }
     let (pgns, held) = different(body)?;
     let pgns = &pgns[..held];
@@ -197,7 +212,7 @@ fn add(pairs: &mut [Pair], body: &[u8]) -> Result<(), u32> {
             }
         }
         if entries.len() + fresh.count_ones() as usize > LIST {
-            return Err(16);
+            return Err(16.into());
         }
     }
     for (pair, fresh) in pairs.iter_mut().zip(fresh) {
@@ -211,15 +226,19 @@ fn add(pairs: &mut [Pair], body: &[u8]) -> Result<(), u32> {
     Ok(())
 }
 
-fn delete(pairs: &mut [Pair], body: &[u8]) -> Result<(), u32> {
+/// The pairs lead to the ports that `to` gives, in order.
+fn delete(pairs: &mut [Pair], to: impl Iterator<Item = usize>, body: &[u8]) -> Result<(), Refusal> {
     if pairs.iter().any(|p| p[0] == CLEARED) {
-        return Err(15);
+        return Err(15.into());
     }
     let mut gone = [0u32; MOST - 1];
-    for (pair, gone) in pairs.iter().zip(&mut gone) {
+    for ((pair, gone), to) in pairs.iter().zip(&mut gone).zip(to) {
         let entries = entries_of(pair);
-        for x in entries_from(body).map(u64::from) {
-            *gone |= 1 << entries.iter().position(|&y| y == x).ok_or(17u32)?;
+        for (i, x) in entries_from(body).map(u64::from).enumerate() {
+            let Some(at) = entries.iter().position(|&y| y == x) else {
+                return Err(Refusal { number: 17, wrong: [i as u64 + 1, to as u64, x] });
+            };
+            *gone |= 1 << at;
         }
     }
     for (pair, gone) in pairs.iter_mut().zip(gone) {
@@ -236,12 +255,12 @@ fn delete(pairs: &mut [Pair], body: &[u8]) -> Result<(), u32> {
     Ok(())
 }
 
-fn create(pairs: &mut [Pair], mode: u8, body: &[u8]) -> Result<(), u32> {
+fn create(pairs: &mut [Pair], mode: u8, body: &[u8]) -> Result<(), Refusal> {
     if mode > 1 {
-        return Err(13);
+        return Err(13.into());
     }
     if pairs.iter().any(|p| p[0] != CLEARED) {
-        return Err(14);
+        return Err(14.into());
     }
     let (pgns, held) = different(body)?;
     for pair in pairs {
@@ -252,11 +271,11 @@ fn create(pairs: &mut [Pair], mode: u8, body: &[u8]) -> Result<(), u32> {
     Ok(())
 }
 
-fn has_eight_bytes(payload: &[u8]) -> Result<(), u32> {
+fn has_eight_bytes(payload: &[u8]) -> Result<(), Refusal> {
     if payload.len() == 8 {
         Ok(())
     } else {
-        Err(12)
+        Err(12.into())
     }
 }
 
@@ -424,7 +443,9 @@ impl<'a> Unit<'a> {
     }
 
     /// A command on pairs, where `to` may be all.
-    fn command(&mut self, from: usize, to: usize, payload: &[u8]) -> Result<(), u32> {
+    fn command(&mut self, from: usize, to: usize, payload: &[u8]) -> Result<(), Refusal> {
+        let (first, last) = if to == ALL { (1, self.ports()) } else { (to, to) };
+        let others = (first..=last).filter(|&other| other != from);
         let all = self.pairs_from(from - 1);
         let pairs = match to {
             ALL => all,
@@ -432,7 +453,7 @@ impl<'a> Unit<'a> {
         };
         match payload[0] {
             ADD => add(pairs, entries_in(payload, 2)?),
-            DELETE => delete(pairs, entries_in(payload, 2)?),
+            DELETE => delete(pairs, others, entries_in(payload, 2)?),
             CREATE => create(pairs, payload[2], entries_in(payload, 3)?),
             _ => {
                 has_eight_bytes(payload)?;
@@ -467,45 +488,45 @@ impl<'a> Unit<'a> {
         n
     }
 
-    /// 9 to 17, and what the payload asks for where none applies: a reply's length, or nothing where an acknowledgment is due.
-    fn perform(&mut self, port: usize, payload: &[u8], reply: &mut [u8]) -> Result<Option<usize>, u32> {
+    /// 9 to 17 and 22, and what the payload asks for where none applies: a reply's length, or nothing where an acknowledgment is due.
+    fn perform(&mut self, port: usize, payload: &[u8], reply: &mut [u8]) -> Result<Option<usize>, Refusal> {
         let (from, to) = (usize::from(payload[1] >> 4), usize::from(payload[1] & 15));
         let ports = self.ports();
         let is_port = |p: usize| (1..=ports).contains(&p);
         let function = payload[0];
         match function {
-            ADDRESSES if !is_port(to) => Err(10),
-            ADDRESSES if port != 1 && port != to => Err(11),
+            ADDRESSES if !is_port(to) => Err(10.into()),
+            ADDRESSES if port != 1 && port != to => Err(11.into()),
             ADDRESSES => has_eight_bytes(payload).map(|()| Some(self.reply_addresses(to, reply))),
             REQUEST | ADD | DELETE | CLEAR | CREATE => {
                 if !is_port(from) || from == to || !(is_port(to) || to == ALL && function != REQUEST) {
-                    return Err(10);
+                    return Err(10.into());
                 }
                 // All pairs from a port are a neighbour's too only where there is one.
                 if port != 1 && port != from && port != to && !(to == ALL && ports == 2) {
-                    return Err(11);
+                    return Err(11.into());
                 }
                 if function == REQUEST {
                     return has_eight_bytes(payload).map(|()| Some(self.reply_list(from, to, payload[1], reply)));
                 }
                 self.command(from, to, payload).map(|()| None)
             }
-            _ => Err(9),
+            _ => Err(9.into()),
         }
     }
 
-    /// The number of a message that is not refused with 1, 2, 6, 7 or 8, the PGN and the length of what was written.
-    fn message(&mut self, port: usize, requester: u8, payload: &[u8], reply: &mut [u8]) -> (u32, u64, usize) {
-        let number = match self.perform(port, payload, reply) {
+    /// A message that is not refused with 1, 2, 6, 7 or 8: its number and its answer.
+    fn message(&mut self, port: usize, requester: u8, payload: &[u8], reply: &mut [u8]) -> (u32, [u64; MESSAGE_ANSWER]) {
+        let Refusal { number, wrong: [entry, to, absent] } = match self.perform(port, payload, reply) {
             Ok(Some(mut n)) => {
                 if n < 8 {
                     reply[n..8].fill(FILLING);
                     n = 8;
                 }
-                return (0, REPLY_PGN, n);
+                return (0, [REPLY_PGN, n as u64, 0, 0, 0]);
             }
-            Ok(None) => 0,
-            Err(number) => number,
+            Ok(None) => 0.into(),
+            Err(refusal) => refusal,
         };
         let control = match number {
             0 => 0,
@@ -513,7 +534,7 @@ impl<'a> Unit<'a> {
             _ => 1,
         };
         reply[..8].copy_from_slice(&[control, payload[0], FILLING, FILLING, requester, 0x00, 0xED, 0x00]);
-        (number, ACKNOWLEDGMENT_PGN, 8)
+        (number, [ACKNOWLEDGMENT_PGN, 8, entry, to, absent])
     }
 
     /// The ports where the unit's own frame was lost.
@@ -583,8 +604,8 @@ fn take_out(words: &mut [u64], port: u32, answer: &mut [u64], bytes: &mut [u8]) 
 }
 
 fn message(words: &mut [u64], port: u32, requester: u32, payload: &[u8], reply: &mut [u8], answer: &mut [u64]) -> Result<(), u32> {
-    let two: Result<&mut [u64; 2], _> = answer.try_into();
-    let mut unit = lent(words, port, two.is_ok() && reply.len() >= LONGEST);
+    let told: Result<&mut [u64; MESSAGE_ANSWER], _> = answer.try_into();
+    let mut unit = lent(words, port, told.is_ok() && reply.len() >= LONGEST);
     if let Ok(u) = &unit {
         if u.own[0] != CLAIMED {
             unit = Err(6);
@@ -594,12 +615,12 @@ fn message(words: &mut [u64], port: u32, requester: u32, payload: &[u8], reply: 
             unit = Err(8);
         }
     }
-    let (number, pgn, length) = match unit {
+    let (number, words) = match unit {
         Ok(mut u) => u.message(port as usize, requester as u8, payload, reply),
-        Err(number) => (number, 0, 0),
+        Err(number) => (number, [0; MESSAGE_ANSWER]),
     };
-    if let Ok(answer) = two {
-        *answer = [pgn, length as u64];
+    if let Ok(told) = told {
+        *told = words;
     }
     if number == 0 {
         Ok(())

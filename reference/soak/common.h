@@ -21,7 +21,7 @@ static const uint32_t allowed[KINDS] = {
     1u << 0 | 1u << 2 | 1u << 27,
     0x3Fu,
     0x7u,
-    0x7u | 0x3FFC0u,
+    0x7u | 0x3FFC0u | 1u << 22,
     1u << 0 | 1u << 2 | 1u << 8 | 1u << 18,
     1u << 0 | 1u << 2 | 1u << 18,
     1u << 0 | 1u << 2,
@@ -120,6 +120,57 @@ static void check_reasons(uint32_t port, uint32_t id, const uint64_t *answer)
     }
     check(word >> 4 * ports == 0, "a reason of no port");
     check(!permanent || answer[DEORASAENG_COMPARED] == 0, "a permanent PGN that was compared");
+}
+
+static int is_pgn(uint32_t number)
+{
+    return number < 1u << 18 && ((number >> 8 & 0xFF) >= 240 || (number & 0xFF) == 0);
+}
+
+/* The entry of a command at a place from 1. */
+static uint32_t entry_at(const uint8_t *payload, uint64_t place)
+{
+    const uint8_t *bytes = payload + (payload[0] == 6 ? 3 : 2) + 3 * (place - 1);
+    return bytes[0] | (uint32_t)bytes[1] << 8 | (uint32_t)bytes[2] << 16;
+}
+
+/* How many entries a command has, 0 if its length or its filling is wrong. */
+static uint64_t entries_of(const uint8_t *payload, size_t length)
+{
+    size_t first = payload[0] == 6 ? 3 : 2;
+    int filled = length == 8;
+    for (size_t i = first + 3; filled && i < length; i++)
+        filled = payload[i] == 0xFF;
+    if (filled)
+        return 1;
+    return (length - first) % 3 == 0 ? (length - first) / 3 : 0;
+}
+
+/* 12, and 22 with the first entry that is no PGN, exactly; both stand before 13. */
+static void check_body(uint32_t number, const uint8_t *payload, size_t length, const uint64_t *answer)
+{
+    uint64_t entries = entries_of(payload, length), wrong = 1;
+    while (wrong <= entries && is_pgn(entry_at(payload, wrong)))
+        wrong++;
+    check((number == DEORASAENG_WRONG_BODY) == (entries == 0), "number 12");
+    check((number == DEORASAENG_WRONG_ENTRY) == (wrong <= entries), "number 22");
+    check(number != DEORASAENG_WRONG_ENTRY || answer[DEORASAENG_ENTRY] == wrong, "the first entry that is no PGN");
+}
+
+/* What a message's answer tells of an entry, as far as the command alone says it. */
+static void check_entry(uint32_t number, const uint8_t *payload, size_t length, const uint64_t *answer)
+{
+    uint64_t entry = answer[DEORASAENG_ENTRY], to = answer[DEORASAENG_TO], pgn = answer[DEORASAENG_ABSENT];
+    int judged = number == DEORASAENG_DONE || number >= DEORASAENG_WRONG_BODY;
+    if (judged && (payload[0] == 2 || payload[0] == 3 || payload[0] == 6))
+        check_body(number, payload, length, answer);
+    if (number == DEORASAENG_PGN_ABSENT) {
+        uint32_t named = payload[1] & 15;
+        check(payload[0] == 3 && entry >= 1 && entry <= entries_of(payload, length) && pgn == entry_at(payload, entry), "the PGN that is absent");
+        check(to >= 1 && to <= ports && to != payload[1] >> 4 && (named == 15 || to == named), "the port of the pair that lacks it");
+    } else {
+        check((to | pgn) == 0 && (entry == 0 || number == DEORASAENG_WRONG_ENTRY), "an entry told with another number");
+    }
 }
 
 static void some_bytes(uint8_t *bytes, uint32_t id, size_t length)

@@ -220,6 +220,7 @@ static void fuzz_message(size_t length, uint64_t *record)
     check(written <= room, "more written than there is room for");
     check(written == room || memcmp(reply + written, lent[2].old + written, room - written) == 0, "a byte past what was written");
     check((number >= 1 && number <= 8) == (written == 0), "written");
+    check_entry(number, payload, size, answer);
 }
 
 static void fuzz_start(size_t length, uint64_t *record)

@@ -15,6 +15,7 @@ static uint64_t *const answer = answer_area + GUARDS;
 static uint8_t byte_area[GUARDS + LONGEST + GUARDS];
 static uint8_t *const bytes = byte_area + GUARDS;
 static uint8_t handed_in[LONGEST];
+static uint64_t later_entry, later_pair; /* told with 17 */
 
 /* Everything that is lent is filled with the guards' pattern first. */
 static void lend(size_t byte_length)
@@ -188,6 +189,31 @@ static void take(void)
     check_same(0, words, "a refused take changed the record");
 }
 
+/* Whether a pair's words list a PGN. */
+static int lists(uint32_t from, uint32_t to, uint32_t pgn)
+{
+    const uint64_t *pair = record + PAIRS_AT(ports) + PAIR_WORDS * pair_number(ports, from, to);
+    for (uint64_t i = 0; i < pair[1]; i++)
+        if (pair[2 + i] == pgn)
+            return 1;
+    return 0;
+}
+
+/* 17 by the lists: the pair told lacks the entry told and has those before it; the pairs to lower ports have every entry. */
+static void check_absent(const uint8_t *payload, size_t length)
+{
+    uint32_t from = payload[1] >> 4, to = (uint32_t)answer[DEORASAENG_TO];
+    uint64_t entry = answer[DEORASAENG_ENTRY], entries = entries_of(payload, length);
+    check(!lists(from, to, entry_at(payload, entry)), "absent, though listed");
+    for (uint64_t i = 1; i < entry; i++)
+        check(lists(from, to, entry_at(payload, i)), "an earlier entry is absent too");
+    for (uint32_t q = 1; q < to; q++)
+        for (uint64_t i = 1; i <= entries && q != from && (payload[1] & 15) == 15; i++)
+            check(lists(from, q, entry_at(payload, i)), "an earlier pair lacks an entry too");
+    later_entry += entry > 1;
+    later_pair += (payload[1] & 15) == 15 && to > 1u + (from == 1);
+}
+
 static void message(void)
 {
     size_t length = some_payload_length();
@@ -203,6 +229,9 @@ static void message(void)
     check_same(0, PAIRS_AT(ports), "a message changed the unit, the table or a queue");
     if (number != 0)
         check_same(0, words, "a refused message changed the record");
+    check_entry(number, handed_in, length, answer);
+    if (number == DEORASAENG_PGN_ABSENT)
+        check_absent(handed_in, length);
     if (pgn == 60672)
         check(number == 0 && written >= 8 && written <= 256, "a reply");
     else if (pgn == 59392)
@@ -276,6 +305,7 @@ int main(int argc, char **argv)
         full += waiting(record, 1) == 32;
     }
     print_counts();
+    printf("17 at an entry behind the first %" PRIu64 ", at a pair of all behind the first %" PRIu64 "\n", later_entry, later_pair);
     printf("%" PRIu64 " calls from seed %s, %" PRIu64 " with port 1 full: every check held\n", calls, argc > 1 ? argv[1] : "1", full);
     return 0;
 }

@@ -1,10 +1,11 @@
 //! What a script tried: counts of calls, refusal numbers, events, states, modes and limits.
 
 use std::collections::{BTreeMap, BTreeSet};
+use std::ops::RangeInclusive;
 
 use crate::address::{is_claim, is_request_for_address_claimed, name_of, ClaimState, Event, StartAnswer};
-use crate::frame::{self, Frame, PERMANENT};
-use crate::message::entries;
+use crate::frame::{self, is_pgn, Frame, PERMANENT};
+use crate::message::{entries, entry_places, MessageAnswer, WrongEntry};
 use crate::pair::{added, Pair, Reason, LONGEST_LIST};
 use crate::script::{apply, is_passed_over, lines_of, read_call, Answer, Call};
 use crate::unit::{FrameAnswer, Unit, LONGEST_QUEUE, PORT_COUNTS};
@@ -25,7 +26,7 @@ pub const DESTINATIONS: [&str; 3] = ["all", "the unit", "another"];
 pub const LENGTHS: [&str; 9] = ["0", "1", "2", "3", "4", "5", "6", "7", "8"];
 
 /// The further rows that a deep script reaches.
-pub const DEEP: [&str; 54] = [
+pub const DEEP: [&str; 67] = [
     "frame consumed",
     "frame stopped by a pair",
     "frame lost at some ports, accepted at others",
@@ -64,6 +65,19 @@ pub const DEEP: [&str; 54] = [
     "take of a later frame of higher rank",
     "take from a full queue",
     "take with nothing waiting",
+    "12 though an entry is no PGN",
+    "22 with other entries that are none",
+    "22 at a first entry before filling",
+    "22 at the second entry of eight bytes",
+    "22 at the last of 594 entries",
+    "22 though Create's mode is none",
+    "22 though a pair is cleared or not as the function wants it",
+    "22 though the entries pass 32",
+    "17 at a later entry and a later pair of To 15",
+    "17 where a later pair lacks an entry too",
+    "17 where a later pair lacks an earlier entry",
+    "17 at an entry that the command has twice",
+    "17 at an entry behind one that stands twice",
     "To 15 done by Add",
     "To 15 done by Delete",
     "To 15 done by Clear",
@@ -81,6 +95,12 @@ pub const DEEP: [&str; 54] = [
     "port one past the count refused with 1",
     "pair with the port one past the count refused with 10",
 ];
+
+/// The places from 1 where 22 finds an entry that is no PGN, and where 17 finds one that is absent.
+pub const WRONG_PLACES: RangeInclusive<usize> = 1..=40;
+pub const ABSENT_PLACES: RangeInclusive<usize> = 1..=LONGEST_LIST;
+/// The places from 1 of the pair of To 15 that lacks it.
+pub const ABSENT_PAIRS: RangeInclusive<usize> = 1..=7;
 
 /// The counts of one or more scripts.
 #[derive(Default)]
@@ -252,7 +272,7 @@ impl Coverage {
     fn count_message(&mut self, before: &Unit, port: u32, payload: &[u8], answer: &Answer, after: &Unit) {
         let Answer::Message(answer, _) = answer else { return };
         *self.lengths.entry(payload.len()).or_insert(0) += 1;
-        if !(9..=17).contains(&answer.number) && answer.number != 0 {
+        if (1..=8).contains(&answer.number) {
             return;
         }
         let function = payload[0];
@@ -265,11 +285,61 @@ impl Coverage {
         let halves = [payload[1] >> 4, payload[1] & 0x0F].map(u32::from);
         let past = halves.contains(&(before.ports + 1));
         self.add_if(past && answer.number == 10, "pair with the port one past the count refused with 10");
+        self.count_wrong(before, payload, answer);
         if answer.number == 0 {
             self.add(&format!("done {function}"));
             self.add_if(port != 1, "done from another port than 1");
             self.count_done(before, payload, answer.length, after);
         }
+    }
+
+    /// A command that is refused for an entry, or though one is wrong.
+    fn count_wrong(&mut self, before: &Unit, payload: &[u8], answer: &MessageAnswer) {
+        match answer.wrong {
+            Some(WrongEntry::NoPgn { entry }) => self.count_no_pgn(before, payload, entry),
+            Some(WrongEntry::Absent { entry, to, .. }) => self.count_absent(before, payload, entry, to),
+            None => {
+                let mut whole = payload[first_entry(payload)..].chunks_exact(3);
+                let refused = answer.number == 12 && [2, 3, 6].contains(&payload[0]);
+                self.add_if(refused && whole.any(is_no_pgn), "12 though an entry is no PGN");
+            }
+        }
+    }
+
+    /// 22 at an entry of the command.
+    fn count_no_pgn(&mut self, before: &Unit, payload: &[u8], entry: usize) {
+        let places = entry_places(payload, first_entry(payload)).unwrap_or_default();
+        let none = places.iter().filter(|three| is_no_pgn(&three[..])).count();
+        let different: BTreeSet<&[u8; 3]> = places.iter().collect();
+        let named = before.pairs_named(payload[1]).unwrap_or_default();
+        let (eight, creates) = (payload.len() == 8, payload[0] == 6);
+        let unsuited = named.iter().any(|pair| before.pairs[pair].is_cleared() != creates);
+        self.add(&format!("22 at entry {entry}"));
+        self.add_if(none > 1, "22 with other entries that are none");
+        self.add_if(eight && places.len() == 1, "22 at a first entry before filling");
+        self.add_if(eight && entry == 2, "22 at the second entry of eight bytes");
+        self.add_if(entry == 594, "22 at the last of 594 entries");
+        self.add_if(creates && payload[2] > 1, "22 though Create's mode is none");
+        self.add_if(unsuited, "22 though a pair is cleared or not as the function wants it");
+        self.add_if(different.len() > LONGEST_LIST + none, "22 though the entries pass 32");
+    }
+
+    /// 17 at an entry of the command and at the pair to a port.
+    fn count_absent(&mut self, before: &Unit, payload: &[u8], entry: usize, to: u32) {
+        let named = before.pairs_named(payload[1]).unwrap_or_default();
+        let entries = entries(payload, 2).unwrap_or_default();
+        let lacks = |pair: &(u32, u32)| entries.iter().position(|pgn| !before.pairs[pair].entries().contains(pgn));
+        let later: Vec<usize> = named.iter().filter(|pair| pair.1 > to).filter_map(lacks).collect();
+        let place = named.iter().position(|pair| pair.1 == to).unwrap_or(0);
+        let (earlier, pgn) = (&entries[..entry - 1], entries[entry - 1]);
+        self.add(&format!("17 at entry {entry}"));
+        self.add_if(named.len() > 1, &format!("17 at pair {} of To 15", place + 1));
+        self.add_if(entry > 1 && place > 0, "17 at a later entry and a later pair of To 15");
+        self.add_if(!later.is_empty(), "17 where a later pair lacks an entry too");
+        self.add_if(later.iter().any(|at| at + 1 < entry), "17 where a later pair lacks an earlier entry");
+        self.add_if(entries[entry..].contains(&pgn), "17 at an entry that the command has twice");
+        let different: BTreeSet<&u32> = earlier.iter().collect();
+        self.add_if(different.len() < earlier.len(), "17 at an entry behind one that stands twice");
     }
 
     fn count_done(&mut self, before: &Unit, payload: &[u8], length: usize, after: &Unit) {
@@ -321,6 +391,9 @@ impl Coverage {
         lines.push(self.line_of("permanent PGNs to", &DESTINATIONS, "permanent to "));
         lines.push(self.line_of("permanent PGNs of length", &LENGTHS, "permanent of "));
         lines.push(self.line_of("done by function", &["0", "2", "3", "4", "6", "64"], "done "));
+        lines.push(self.places_of("22 at entry", WRONG_PLACES, ""));
+        lines.push(self.places_of("17 at entry", ABSENT_PLACES, ""));
+        lines.push(self.places_of("17 at pair", ABSENT_PAIRS, " of To 15"));
         for row in DEEP {
             lines.push(format!("{row}: {}", self.reached(row)));
         }
@@ -331,6 +404,15 @@ impl Coverage {
         lines.push(format!("payloads of length {}", shown.join(", ")));
         lines.push(format!("longest queue {}, largest table {}", self.longest_queue, self.largest_table));
         lines
+    }
+
+    /// How many of the places were met, and how often the first and the last.
+    fn places_of(&self, before: &str, places: RangeInclusive<usize>, behind: &str) -> String {
+        let reached = |place: usize| self.reached(&format!("{before} {place}{behind}"));
+        let met = places.clone().filter(|&place| reached(place) > 0).count();
+        let (first, last) = (*places.start(), *places.end());
+        let counts = format!("{first}: {}, {last}: {}", reached(first), reached(last));
+        format!("{before}{behind}: {met} of {} places, {counts}", places.count())
     }
 
     fn line_of(&self, title: &str, rows: &[&str], prefix: &str) -> String {
@@ -393,9 +475,23 @@ fn lists_permanent(pair: &Pair) -> bool {
     pair.entries().iter().any(|pgn| PERMANENT.contains(pgn))
 }
 
+/// Where a command's entries begin.
+fn first_entry(payload: &[u8]) -> usize {
+    if payload[0] == 6 {
+        3
+    } else {
+        2
+    }
+}
+
+/// Three bytes, least significant first, that are no PGN.
+fn is_no_pgn(three: &[u8]) -> bool {
+    !is_pgn(three.iter().rev().fold(0, |number, &byte| 256 * number + u32::from(byte)))
+}
+
 /// Whether a command that was refused with 16 has room on every pair for its PGNs but the permanent ones.
 fn others_fit(before: &Unit, payload: &[u8]) -> bool {
-    let named = entries(payload, if payload[0] == 6 { 3 } else { 2 }).unwrap_or_default();
+    let named = entries(payload, first_entry(payload)).unwrap_or_default();
     let pairs = before.pairs_named(payload[1]).unwrap_or_default();
     pairs.iter().all(|pair| {
         let list = added(before.pairs[pair].entries(), &named);

@@ -53,6 +53,7 @@ pub fn generate(seed: u64, calls: usize) -> Vec<Call> {
         stuck: 0,
         function_sweep,
         pair_sweep,
+        place_sweep: 0,
     };
     while generator.calls.len() < calls {
         generator.life(calls);
@@ -100,6 +101,8 @@ struct Generator {
     /// Step through every function byte, and through every pair byte at every port.
     function_sweep: u32,
     pair_sweep: u32,
+    /// Steps through the places of a command where an entry is wrong.
+    place_sweep: usize,
 }
 
 /// Numbers that are a PGN, with those of the rules and the limits of the range among them.
@@ -450,7 +453,7 @@ impl Generator {
 // Messages.
 impl Generator {
     fn message(&mut self) {
-        match self.random.below(27) {
+        match self.random.below(30) {
             0..=9 => self.command(),
             10..=11 => self.fill_list(),
             12 => self.all_pairs(),
@@ -461,7 +464,9 @@ impl Generator {
             21..=22 => self.bad_body(),
             23..=24 => self.several_faults(),
             25 => self.permanent_in_a_list(),
-            _ => self.silent_refusal(),
+            26 => self.silent_refusal(),
+            27..=28 => self.wrong_entries(),
+            _ => self.absent_entries(),
         }
     }
 
@@ -679,7 +684,74 @@ impl Generator {
         self.hand_in(port, bytes);
     }
 
-    /// Faults of numbers 9 to 17 together, for the order of the numbers.
+    /// Commands of forty entries and of other counts with one that is no PGN, at every place, further ones behind it, all of
+    /// them, or faults of the other numbers beside it.
+    fn wrong_entries(&mut self) {
+        let (port, byte) = self.port_and_pair();
+        for _ in 0..4 {
+            let function = self.random.pick(&[2, 3, 6]);
+            let count = self.random.pick(&[40, 40, 40, 1, 2, 33, 594]);
+            let few = self.different_pgns(count.min(40));
+            let mut entries = repeated(&few, count);
+            let last = count - 1;
+            let place = if count == 594 { self.random.pick(&[last, 300]) } else { self.some_place(count) };
+            let behind = self.random.once_in(3);
+            for entry in &mut entries[place..] {
+                if behind && self.random.once_in(4) {
+                    *entry = self.random.pick(&NOT_PGNS);
+                }
+            }
+            entries[place] = self.random.pick(&NOT_PGNS);
+            if self.random.once_in(12) {
+                entries.fill_with(|| self.random.pick(&NOT_PGNS));
+            }
+            let mode = self.random.pick(&[0, 1, 1, 2]);
+            let mut bytes = payload(function, byte, mode, &entries);
+            if self.random.once_in(8) {
+                bytes.push(0xFF);
+            }
+            self.hand_in(port, bytes);
+        }
+    }
+
+    /// The same list on all pairs from a port; one or two of them lose a PGN; then Deletes of the whole list, from any of
+    /// its places on or turned round, with one named twice or one that no pair lists, on all pairs or on one.
+    fn absent_entries(&mut self) {
+        let from = self.some_port();
+        let byte = pair_byte(from, 15);
+        let port = self.random.pick(&[1, from]);
+        let count = self.random.pick(&[1, 2, 5, 32, 32, 32]);
+        let mode = self.random.pick(&[0, 1]);
+        let entries = self.different_pgns(count);
+        self.hand_in(port, payload(4, byte, 0, &[]));
+        self.hand_in(port, payload(6, byte, mode, &entries));
+        for _ in 0..self.random.pick(&[1, 2, 2]) {
+            let (one, place) = (self.some_other_port(from), self.some_place(count));
+            self.hand_in(port, payload(3, pair_byte(from, one), 0, &entries[place..=place]));
+        }
+        for _ in 0..8 {
+            let mut named = entries.clone();
+            named.rotate_left(self.some_place(count));
+            let place = self.some_place(count);
+            match self.random.below(5) {
+                0 => named.reverse(),
+                1 => named.insert(0, named[place]),
+                2 => named.insert(place, self.pgns[0]),
+                _ => {}
+            }
+            let one = self.some_other_port(from);
+            let named_pairs = self.random.pick(&[byte, byte, byte, pair_byte(from, one)]);
+            self.hand_in(port, payload(3, named_pairs, 0, &named));
+        }
+    }
+
+    /// A place below the count, step by step.
+    fn some_place(&mut self, count: usize) -> usize {
+        self.place_sweep += 1 + self.random.below(2) as usize;
+        self.place_sweep % count
+    }
+
+    /// Faults of numbers 9 to 17 and 22 together, for the order of the numbers.
     fn several_faults(&mut self) {
         for _ in 0..4 {
             let port = self.some_port();

@@ -14,7 +14,7 @@ pub const QUEUE_WORDS: usize = 1 + 2 * LONGEST_QUEUE;
 /// The lengths of the answers, in words.
 pub const FRAME_ANSWER: usize = 8;
 pub const TAKE_ANSWER: usize = 3;
-pub const MESSAGE_ANSWER: usize = 2;
+pub const MESSAGE_ANSWER: usize = 5;
 pub const START_ANSWER: usize = 2;
 pub const UNIT_ANSWER: usize = 5;
 /// The length of a frame's bytes in a take.

@@ -17,29 +17,62 @@ pub const SHORTEST_MESSAGE: usize = 8;
 const ALL_PORTS: u32 = 15;
 const FILLING: u8 = 0xFF;
 
-/// The answer to a message: the number (0 for none), PGN and length of what was written.
+/// The answer to a message: the number (0 for none), PGN and length of what was written, and with 17 and 22 the entry.
 #[derive(Clone, Copy, Debug, PartialEq, Eq)]
 pub struct MessageAnswer {
     pub number: Number,
     pub pgn: u32,
     pub length: usize,
+    pub wrong: Option<WrongEntry>,
+}
+
+/// Which entry of a command was wrong (02, ticket 2); entries are counted from 1, as they stand in the command.
+#[derive(Clone, Copy, Debug, PartialEq, Eq)]
+pub enum WrongEntry {
+    /// 22: the first that is no PGN.
+    NoPgn { entry: usize },
+    /// 17: of the first pair in rising To order that lacks a PGN of the command, the first that it lacks.
+    Absent { entry: usize, to: u32, pgn: u32 },
+}
+
+impl MessageAnswer {
+    /// The wrong entry as three words: its number, the To port, the PGN; 0 for what is not told.
+    pub fn wrong_words(&self) -> [u64; 3] {
+        match self.wrong {
+            None => [0, 0, 0],
+            Some(WrongEntry::NoPgn { entry }) => [entry as u64, 0, 0],
+            Some(WrongEntry::Absent { entry, to, pgn }) => [entry as u64, u64::from(to), u64::from(pgn)],
+        }
+    }
+}
+
+/// Why a message is refused: the number, and with 17 and 22 the entry.
+#[derive(Clone, Copy, Debug, PartialEq, Eq)]
+pub(crate) struct Refusal {
+    number: Number,
+    wrong: Option<WrongEntry>,
+}
+
+impl From<Number> for Refusal {
+    fn from(number: Number) -> Refusal {
+        Refusal { number, wrong: None }
+    }
 }
 
 impl Unit {
     /// A message to the unit, handed in whole.
     pub fn message(&mut self, port: u32, requester: u32, payload: &[u8], reply: &mut [u8]) -> MessageAnswer {
         if let Err(number) = self.check_message(port, requester, payload, reply) {
-            return MessageAnswer { number, pgn: 0, length: 0 };
+            return MessageAnswer { number, pgn: 0, length: 0, wrong: None };
         }
-        let function = payload[0];
-        let (number, pgn, written) = match self.carry_out(port, payload) {
-            Ok(Some(bytes)) => (0, NETWORK_MESSAGE, bytes),
-            Ok(None) => (0, ACKNOWLEDGMENT, acknowledgment(0, function, requester)),
-            Err(11) => (11, ACKNOWLEDGMENT, acknowledgment(2, function, requester)),
-            Err(number) => (number, ACKNOWLEDGMENT, acknowledgment(1, function, requester)),
+        let done = self.carry_out(port, payload);
+        let Refusal { number, wrong } = done.as_ref().err().copied().unwrap_or(Refusal::from(0));
+        let (pgn, written) = match done {
+            Ok(Some(bytes)) => (NETWORK_MESSAGE, bytes),
+            _ => (ACKNOWLEDGMENT, acknowledgment(number, payload[0], requester)),
         };
         reply[..written.len()].copy_from_slice(&written);
-        MessageAnswer { number, pgn, length: written.len() }
+        MessageAnswer { number, pgn, length: written.len(), wrong }
     }
 
     /// Numbers 1, 2, 6, 7 and 8, which write nothing.
@@ -61,15 +94,18 @@ impl Unit {
     }
 
     /// Does the function of byte 1: a reply, or nothing where an acknowledgment is due.
-    fn carry_out(&mut self, port: u32, payload: &[u8]) -> Result<Option<Vec<u8>>, Number> {
+    fn carry_out(&mut self, port: u32, payload: &[u8]) -> Result<Option<Vec<u8>>, Refusal> {
         match payload[0] {
-            0 => self.request(port, payload).map(Some),
+            0 => Ok(Some(self.request(port, payload)?)),
             2 => self.add(port, payload).map(|()| None),
             3 => self.delete(port, payload).map(|()| None),
-            4 => self.clear(port, payload).map(|()| None),
+            4 => {
+                self.clear(port, payload)?;
+                Ok(None)
+            }
             6 => self.create(port, payload).map(|()| None),
-            64 => self.addresses(port, payload).map(Some),
-            _ => Err(9),
+            64 => Ok(Some(self.addresses(port, payload)?)),
+            _ => Err(9.into()),
         }
     }
 
@@ -87,14 +123,14 @@ impl Unit {
     }
 
     /// 2 Add: entries from byte 3.
-    fn add(&mut self, port: u32, payload: &[u8]) -> Result<(), Number> {
+    fn add(&mut self, port: u32, payload: &[u8]) -> Result<(), Refusal> {
         let named = self.pairs_named(payload[1])?;
         check_right(port, &named)?;
         let entries = entries(payload, 2)?;
         self.check_none_cleared(&named)?;
         for pair in &named {
             if added(self.pairs[pair].entries(), &entries).len() > LONGEST_LIST {
-                return Err(16);
+                return Err(16.into());
             }
         }
         for pair in named {
@@ -106,14 +142,16 @@ impl Unit {
     }
 
     /// 3 Delete: entries from byte 3, judged against the list before the command.
-    fn delete(&mut self, port: u32, payload: &[u8]) -> Result<(), Number> {
+    fn delete(&mut self, port: u32, payload: &[u8]) -> Result<(), Refusal> {
         let named = self.pairs_named(payload[1])?;
         check_right(port, &named)?;
         let entries = entries(payload, 2)?;
         self.check_none_cleared(&named)?;
-        for pair in &named {
-            if !entries.iter().all(|pgn| self.pairs[pair].entries().contains(pgn)) {
-                return Err(17);
+        for &(from, to) in &named {
+            let listed = self.pairs[&(from, to)].entries();
+            if let Some(place) = entries.iter().position(|pgn| !listed.contains(pgn)) {
+                let absent = WrongEntry::Absent { entry: place + 1, to, pgn: entries[place] };
+                return Err(Refusal { number: 17, wrong: Some(absent) });
             }
         }
         for pair in named {
@@ -136,22 +174,23 @@ impl Unit {
     }
 
     /// 6 Create: mode in byte 3, entries from byte 4, on cleared pairs only.
-    fn create(&mut self, port: u32, payload: &[u8]) -> Result<(), Number> {
+    fn create(&mut self, port: u32, payload: &[u8]) -> Result<(), Refusal> {
         let named = self.pairs_named(payload[1])?;
         check_right(port, &named)?;
         let entries = entries(payload, 3)?;
         let mode = payload[2];
         if mode > 1 {
-            return Err(13);
+            return Err(13.into());
         }
         if !named.iter().all(|pair| self.pairs[pair].is_cleared()) {
-            return Err(14);
+            return Err(14.into());
         }
-        if entries.len() > LONGEST_LIST {
-            return Err(16);
+        let list = added(&[], &entries);
+        if list.len() > LONGEST_LIST {
+            return Err(16.into());
         }
         for pair in named {
-            self.pairs.insert(pair, Pair::create(mode, entries.clone()));
+            self.pairs.insert(pair, Pair::create(mode, list.clone()));
         }
         Ok(())
     }
@@ -225,34 +264,41 @@ fn check_eight_bytes(payload: &[u8]) -> Result<(), Number> {
     }
 }
 
-/// The PGNs named from payload[first] on, each once, in order of first naming, or number 12.
-pub(crate) fn entries(payload: &[u8], first: usize) -> Result<Vec<u32>, Number> {
-    let after_first_entry = &payload[first + 3..];
-    let has_filling = payload.len() == 8 && after_first_entry.iter().all(|&byte| byte == FILLING);
-    let body = if has_filling { &payload[first..first + 3] } else { &payload[first..] };
+/// The PGNs named from payload[first] on, as they stand there, or number 12 or 22.
+pub(crate) fn entries(payload: &[u8], first: usize) -> Result<Vec<u32>, Refusal> {
+    let places = entry_places(payload, first)?;
     let mut named = Vec::new();
-    for three_bytes in body.chunks(3) {
+    for (place, &three_bytes) in places.iter().enumerate() {
         let Some(pgn) = entry(three_bytes) else {
-            return Err(12);
+            return Err(Refusal { number: 22, wrong: Some(WrongEntry::NoPgn { entry: place + 1 }) });
         };
-        if !named.contains(&pgn) {
-            named.push(pgn);
-        }
+        named.push(pgn);
     }
     Ok(named)
 }
 
+/// The bytes of each entry, or number 12. Eight bytes have one entry and filling, FF to the last byte, and Add's and
+/// Delete's two entries where their last three bytes are not filling; longer payloads hold entries to the last byte.
+pub(crate) fn entry_places(payload: &[u8], first: usize) -> Result<Vec<[u8; 3]>, Number> {
+    let after_first_entry = &payload[first + 3..];
+    let has_filling = payload.len() == 8 && after_first_entry.iter().all(|&byte| byte == FILLING);
+    let body = if has_filling { &payload[first..first + 3] } else { &payload[first..] };
+    body.chunks(3).map(|bytes| bytes.try_into().map_err(|_| 12)).collect()
+}
+
 /// Three bytes, least significant first, that are a PGN.
-fn entry(bytes: &[u8]) -> Option<u32> {
-    let &[low, middle, high] = bytes else {
-        return None;
-    };
+fn entry([low, middle, high]: [u8; 3]) -> Option<u32> {
     let number = u32::from(low) + 256 * u32::from(middle) + 65536 * u32::from(high);
     is_pgn(number).then_some(number)
 }
 
-/// The acknowledgment: control byte, the function as received, FF, FF, requester, 00, ED, 00.
-fn acknowledgment(control: u8, function: u8, requester: u32) -> Vec<u8> {
+/// The acknowledgment: 0 for done, 2 for 11, 1 for the others; the function as received, FF, FF, requester, 00, ED, 00.
+fn acknowledgment(number: Number, function: u8, requester: u32) -> Vec<u8> {
+    let control = match number {
+        0 => 0,
+        11 => 2,
+        _ => 1,
+    };
     vec![control, function, FILLING, FILLING, requester as u8, 0x00, 0xED, 0x00]
 }
 

@@ -4,7 +4,7 @@ use std::fmt;
 
 use crate::address::{Event, StartAnswer, UnitAnswer};
 use crate::frame::Frame;
-use crate::message::{MessageAnswer, LONGEST_MESSAGE};
+use crate::message::{MessageAnswer, WrongEntry, LONGEST_MESSAGE};
 use crate::unit::{FrameAnswer, Number, Unit, USUAL_PORTS};
 use crate::words::REASONS;
 
@@ -257,9 +257,7 @@ pub fn print_answer(answer: &Answer) -> String {
         }
         Answer::Take(Ok(None)) => "T -".to_string(),
         Answer::Take(Err(number)) => format!("T R {number}"),
-        Answer::Message(answer, written) => {
-            format!("M {} {} {} {}", answer.number, answer.pgn, answer.length, print_bytes(written))
-        }
+        Answer::Message(answer, written) => print_message_answer(answer, written),
         Answer::Unit(answer) => print_unit_answer(answer),
     }
 }
@@ -284,6 +282,16 @@ fn print_reasons(answer: &FrameAnswer) -> String {
     let with = |number| ports.clone().filter(|&port| answer.reason_number(port) == number).collect::<Vec<u32>>();
     let named = REASONS.iter().map(|(number, words)| (with(*number), words)).filter(|(ports, _)| !ports.is_empty());
     named.map(|(ports, words)| format!("{}: {words}", print_ports(&ports))).collect::<Vec<_>>().join(", ")
+}
+
+/// Number, PGN, length and bytes of what was written; then with 17 and 22 which entry was wrong.
+fn print_message_answer(answer: &MessageAnswer, written: &[u8]) -> String {
+    let line = format!("M {} {} {} {}", answer.number, answer.pgn, answer.length, print_bytes(written));
+    match answer.wrong {
+        None => line,
+        Some(WrongEntry::NoPgn { entry }) => format!("{line}  entry {entry}"),
+        Some(WrongEntry::Absent { to, pgn, .. }) => format!("{line}  port {to} PGN {pgn}"),
+    }
 }
 
 /// State, address, `-` for none, preferred address, NAME, number of ports.

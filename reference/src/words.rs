@@ -3,7 +3,7 @@
 use crate::unit::Number;
 
 /// The numbers in words.
-pub const WORDS: [(Number, &str); 19] = [
+pub const WORDS: [(Number, &str); 20] = [
     (1, "port not 1 to the number of ports"),
     (2, "lent storage not of its published length"),
     (3, "identifier 2^29 or more"),
@@ -15,13 +15,14 @@ pub const WORDS: [(Number, &str); 19] = [
     (9, "function not listed"),
     (10, "port outside 1 to the number of ports, or From equals To"),
     (11, "pair or port not this tool's"),
-    (12, "body wrong: length, entry or filling"),
+    (12, "body wrong: length or filling"),
     (13, "Create mode not 0 or 1"),
     (14, "Create: a named pair not cleared"),
     (15, "Add, Delete: a named pair cleared"),
     (16, "a named pair would pass 32"),
     (17, "Delete: a PGN absent from a named pair"),
     (18, "Start not in Unstarted, Quiet not in Claiming"),
+    (22, "an entry is no PGN"),
     (27, "port count not 2 to 8"),
 ];
 

@@ -6,7 +6,9 @@ use std::collections::BTreeMap;
 
 use common::*;
 use reference::address::{ClaimState, Holder};
-use reference::coverage::{Coverage, DEEP, DESTINATIONS, EVENTS, LENGTHS, LETTERS, MODES, STATES};
+use reference::coverage::{
+    Coverage, ABSENT_PAIRS, ABSENT_PLACES, DEEP, DESTINATIONS, EVENTS, LENGTHS, LETTERS, MODES, STATES, WRONG_PLACES,
+};
 use reference::frame::{pgn, priority, Frame, PERMANENT};
 use reference::generate::{generate, Random};
 use reference::pair::Pair;
@@ -124,18 +126,19 @@ fn scrambled(unit: &Unit, port: u32, random: &mut Random) -> Unit {
 #[test]
 fn demand_2_privacy() {
     let mut random = Random::new(1);
-    let mut tried = 0;
+    let (mut tried, mut wrong_entries) = (0, 0);
     each_call(103, |before, call, answer, _| {
         let Call::Message { port, requester, payload } = call else { return };
         let Answer::Message(given, written) = answer else { return };
         if (2..=before.ports).contains(port) && before.state == ClaimState::Claimed {
             let mut other = scrambled(before, *port, &mut random);
-            let (number, pgn, bytes) = message(&mut other, *port, *requester, payload);
-            assert_eq!((number, pgn, &bytes), (given.number, given.pgn, written));
+            let (told, bytes) = told(&mut other, *port, *requester, payload, 1785);
+            assert_eq!((told, &bytes), (*given, written));
             tried += 1;
+            wrong_entries += usize::from(told.wrong.is_some());
         }
     });
-    assert!(tried > 300, "{tried}");
+    assert!(tried > 300 && wrong_entries > 30, "{tried}, {wrong_entries}");
 }
 
 /// A reported list with entries, sent back as Create to a cleared pair, gives that list again.
@@ -262,11 +265,11 @@ fn invariants_of_the_record() {
 #[test]
 fn generator_reaches_deep_states() {
     let mut coverage = Coverage::default();
-    for seed in [1, 2] {
+    for seed in [1, 2, 3] {
         let lines: Vec<String> = generate(seed, 20_000).iter().map(write_call).collect();
         coverage.count_script(lines.join("\n").as_bytes());
     }
-    for number in (0..=18).chain([27]).filter(|&number| number != 2) {
+    for number in (0..=18).chain([22, 27]).filter(|&number| number != 2) {
         let reached: u64 = LETTERS.iter().map(|letter| coverage.reached(&format!("number {number} {letter}"))).sum();
         assert!(reached > 0, "number {number}");
     }
@@ -279,6 +282,15 @@ fn generator_reaches_deep_states() {
     assert!(LENGTHS.iter().all(|row| coverage.reached(&format!("permanent of {row}")) > 0));
     for ports in 2..=8 {
         assert!(coverage.reached(&format!("ports {ports}")) > 0, "{ports} ports");
+    }
+    for place in WRONG_PLACES {
+        assert!(coverage.reached(&format!("22 at entry {place}")) > 0, "22 at {place}");
+    }
+    for place in ABSENT_PLACES {
+        assert!(coverage.reached(&format!("17 at entry {place}")) > 0, "17 at {place}");
+    }
+    for place in ABSENT_PAIRS {
+        assert!(coverage.reached(&format!("17 at pair {place} of To 15")) > 0, "17 at pair {place}");
     }
     for row in DEEP {
         assert!(coverage.reached(row) > 0, "{row}");

@@ -63,7 +63,7 @@ fn p8_from_equals_to() {
 
 #[test]
 fn p9_filling_in_first_place() {
-    assert_eq!(number_at(&mut after_p5(), 1, "02 12 FF FF FF FF FF FF"), 12);
+    assert_eq!(wrong(&mut after_p5(), &hex("02 12 FF FF FF FF FF FF")), no_pgn(1));
 }
 
 #[test]

@@ -200,41 +200,7 @@ fn number_12_body_length() {
     }
 }
 
-/// 12 by entry: every number that is a PGN, and those beside it.
-#[test]
-fn number_12_entry() {
-    let cases = [
-        (0x000000, 0),
-        (0x000001, 12),
-        (0x0000FF, 12),
-        (0x000100, 0),
-        (0x00EE00, 0),
-        (0x00EEFF, 12),
-        (0x00EF00, 0),
-        (0x00EF01, 12),
-        (0x00EFFF, 12),
-        (0x00F000, 0),
-        (0x00F001, 0),
-        (0x00FFFF, 0),
-        (0x03EF00, 0),
-        (0x03EF01, 12),
-        (0x03FFFF, 0),
-        (0x040000, 12),
-        (0x04F000, 12),
-        (0xFFFFFF, 12),
-    ];
-    for (entry, given) in cases {
-        let mut unit = claimed();
-        assert_eq!(number(&mut unit, &command(6, 0x12, 0, &[entry])), given, "{entry:06X}");
-        assert_eq!(number(&mut unit.clone(), &command(6, 0x13, 0, &[61440, entry])), given, "{entry:06X}");
-        assert_eq!(number(&mut unit.clone(), &command(6, 0x13, 0, &[61440, 61441, entry])), given);
-        set(&mut unit, 1, 4, Pair::Block(vec![61440]));
-        assert_eq!(number(&mut unit.clone(), &command(2, 0x14, 0, &[entry])), given, "{entry:06X}");
-        assert_eq!(number(&mut unit.clone(), &command(2, 0x14, 0, &[61440, 61441, entry])), given);
-    }
-}
-
-/// 12 by filling: two bytes FF after Create's entry, three after Add's and Delete's.
+/// 12 by filling: two bytes FF after Create's entry. After Add's and Delete's three bytes FF, else they are an entry.
 #[test]
 fn number_12_filling() {
     let cases = [
@@ -244,17 +210,17 @@ fn number_12_filling() {
         ("06 12 00 00 F0 00 00 00", 12),
         ("02 13 01 F0 00 FF FF FF", 0),
         ("02 13 01 F0 00 FF FF 00", 0),
-        ("02 13 01 F0 00 FF FF FE", 12),
-        ("02 13 01 F0 00 FE FF FF", 12),
+        ("02 13 01 F0 00 FF FF FE", 22),
+        ("02 13 01 F0 00 FE FF FF", 22),
         ("02 13 01 F0 00 00 00 00", 0),
         ("03 13 00 F0 00 FF FF FF", 0),
-        ("03 13 00 F0 00 FF FF FE", 12),
+        ("03 13 00 F0 00 FF FF FE", 22),
         ("03 13 00 F0 00 00 F0 00", 0),
-        ("03 13 FF FF FF FF FF FF", 12),
-        ("03 13 FF FF FF 00 F0 00", 12),
+        ("03 13 FF FF FF FF FF FF", 22),
+        ("03 13 FF FF FF 00 F0 00", 22),
         // Longer ones hold entries to the last byte.
-        ("06 12 00 00 F0 00 FF FF FF", 12),
-        ("02 13 01 F0 00 02 F0 00 FF FF FF", 12),
+        ("06 12 00 00 F0 00 FF FF FF", 22),
+        ("02 13 01 F0 00 02 F0 00 FF FF FF", 22),
         ("02 13 01 F0 00 02 F0 00 FF FF 00", 0),
         // The six last bytes of Request, Clear and 64 are not looked at.
         ("00 12 01 02 03 04 05 06", 0),
@@ -365,6 +331,40 @@ fn number_18_start_and_quiet() {
     }
 }
 
+/// 22: every number that is a PGN, and those beside it.
+#[test]
+fn number_22_entry() {
+    let cases = [
+        (0x000000, 0),
+        (0x000001, 22),
+        (0x0000FF, 22),
+        (0x000100, 0),
+        (0x00EE00, 0),
+        (0x00EEFF, 22),
+        (0x00EF00, 0),
+        (0x00EF01, 22),
+        (0x00EFFF, 22),
+        (0x00F000, 0),
+        (0x00F001, 0),
+        (0x00FFFF, 0),
+        (0x03EF00, 0),
+        (0x03EF01, 22),
+        (0x03FFFF, 0),
+        (0x040000, 22),
+        (0x04F000, 22),
+        (0xFFFFFF, 22),
+    ];
+    for (entry, given) in cases {
+        let mut unit = claimed();
+        assert_eq!(number(&mut unit, &command(6, 0x12, 0, &[entry])), given, "{entry:06X}");
+        assert_eq!(number(&mut unit.clone(), &command(6, 0x13, 0, &[61440, entry])), given, "{entry:06X}");
+        assert_eq!(number(&mut unit.clone(), &command(6, 0x13, 0, &[61440, 61441, entry])), given);
+        set(&mut unit, 1, 4, Pair::Block(vec![61440]));
+        assert_eq!(number(&mut unit.clone(), &command(2, 0x14, 0, &[entry])), given, "{entry:06X}");
+        assert_eq!(number(&mut unit.clone(), &command(2, 0x14, 0, &[61440, 61441, entry])), given);
+    }
+}
+
 #[test]
 fn order_at_start() {
     let mut unit = claiming();
@@ -400,6 +400,7 @@ fn order_at_a_message() {
     assert_eq!(number_at(&mut unit, 3, "06 11 07 FF FF FF 00 00"), 10);
     assert_eq!(number_at(&mut unit, 3, "06 12 07 FF FF FF 00 00"), 11);
     assert_eq!(number_at(&mut unit, 2, "06 12 07 FF FF FF 00 00"), 12);
+    assert_eq!(number_at(&mut unit, 2, "06 12 07 FF FF FF FF FF"), 22);
     assert_eq!(number(&mut unit, &command(6, 0x12, 7, &pgns(33))), 13);
     assert_eq!(number(&mut unit, &command(6, 0x12, 1, &pgns(33))), 14);
     assert_eq!(number_at(&mut unit, 1, "04 12 FF FF FF FF FF FF"), 0);
@@ -407,12 +408,15 @@ fn order_at_a_message() {
     assert_eq!(number(&mut unit, &command(6, 0x12, 1, &pgns(32))), 0);
 }
 
-/// 12 before 15, 15 before 16 and 17, over all named pairs.
+/// 12 before 22, 22 before 15, 15 before 16 and 17, over all named pairs.
 #[test]
 fn order_over_pairs() {
     let mut unit = claimed();
     set(&mut unit, 1, 2, Pair::Block(pgns(32)));
-    assert_eq!(number(&mut unit, &command(2, 0x1F, 0, &[65535, 65534, 0xFFFFFE])), 12);
+    let mut too_long = command(2, 0x1F, 0, &[65535, 65534, 0xFFFFFE]);
+    assert_eq!(number(&mut unit, &too_long), 22);
+    too_long.push(0xFF);
+    assert_eq!(number(&mut unit, &too_long), 12);
     assert_eq!(number(&mut unit, &command(2, 0x1F, 0, &[65535])), 15);
     assert_eq!(number(&mut unit, &command(3, 0x1F, 0, &[65535])), 15);
     set(&mut unit, 1, 3, Pair::Block(vec![]));
@@ -421,14 +425,18 @@ fn order_over_pairs() {
     assert_eq!(number(&mut unit, &command(3, 0x1F, 0, &[65535])), 17);
 }
 
-/// A tool learns 11, never 14 or 17, about a neighbour's pair, and 12 only of its own.
+/// A tool learns 11, never 14 or 17, about a neighbour's pair, and 12 and 22 only of its own.
 #[test]
 fn right_before_list() {
     let mut unit = claimed();
     set(&mut unit, 1, 2, Pair::Block(pgns(32)));
-    for payload in
-        ["06 12 00 00 F0 00 FF FF", "06 12 09 FF FF FF 00 00", "03 12 FF FF 00 FF FF FF", "02 12 FF FF 00 FF FF FF"]
-    {
+    for payload in [
+        "06 12 00 00 F0 00 FF FF",
+        "06 12 09 FF FF FF 00 00",
+        "06 12 09 FF FF FF FF FF",
+        "03 12 FF FF 00 FF FF FF",
+        "02 12 FF FF 00 FF FF FF",
+    ] {
         assert_eq!(number_at(&mut unit, 3, payload), 11);
     }
     assert_eq!(number_at(&mut unit, 3, "00 12 FF FF FF FF FF FF FF"), 11);

@@ -115,6 +115,34 @@ fn point_38_a_lost_unit_and_its_old_address() {
     assert_eq!(waiting(&unit, 2), 0);
 }
 
+/// Filling that is wrong is 12 in Create and an entry in Add and Delete; 12 stands before 22.
+#[test]
+fn point_63_which_bytes_are_an_entry() {
+    let mut unit = claimed();
+    assert_eq!(wrong(&mut unit, &hex("06 12 00 00 F0 00 FF FE")), (12, None));
+    assert_eq!(wrong(&mut unit, &hex("06 12 00 FF FF FF FF FE")), (12, None));
+    assert_eq!(wrong(&mut unit, &hex("06 12 00 FF FF FF FF FF")), no_pgn(1));
+    set(&mut unit, 1, 2, Pair::Block(vec![61440]));
+    for function in ["02", "03"] {
+        let told = |unit: &mut Unit, body: &str| wrong(unit, &hex(&format!("{function} 12 {body}")));
+        assert_eq!(told(&mut unit, "00 F0 00 FF FF FE"), no_pgn(2));
+        assert_eq!(told(&mut unit, "00 F0 00 FE FF FF"), no_pgn(2));
+        assert_eq!(told(&mut unit, "FF FF FF 00 F0 00"), no_pgn(1));
+        assert_eq!(told(&mut unit, "FF FF FF FF FF FF"), no_pgn(1));
+        assert_eq!(told(&mut unit, "FF FF FF 00 F0 00 00 F0"), (12, None));
+    }
+}
+
+/// 17 tells the first pair in rising To order and the first PGN in the command's order, not the smallest.
+#[test]
+fn point_64_first_in_the_commands_order() {
+    let mut unit = claimed();
+    for to in [2, 3, 4] {
+        set(&mut unit, 1, to, Pair::Block(vec![61440]));
+    }
+    assert_eq!(wrong(&mut unit, &command(3, 0x1F, 0, &[61440, 65535, 61441])), absent(2, 2, 65535));
+}
+
 #[test]
 fn point_104_named_twice_counts_once() {
     let mut unit = claimed();
@@ -263,7 +291,8 @@ fn point_118_order_of_refusals() {
     assert_eq!(number_at(&mut unit, 3, "04 15 FF FF FF FF FF FF"), 10);
     assert_eq!(number_at(&mut unit, 3, "04 1F FF FF FF FF FF FF"), 11);
     assert_eq!(number_at(&mut unit, 3, "06 1F 09 FF FF FF FF FF"), 11);
-    assert_eq!(number_at(&mut unit, 3, "06 3F 09 FF FF FF FF FF"), 12);
+    assert_eq!(number_at(&mut unit, 3, "06 3F 09 FF FF FF FF FE"), 12);
+    assert_eq!(number_at(&mut unit, 3, "06 3F 09 FF FF FF FF FF"), 22);
     assert_eq!(number_at(&mut unit, 3, "06 3F 09 00 F0 00 FF FF"), 13);
     set(&mut unit, 3, 4, Pair::Block(vec![]));
     assert_eq!(number_at(&mut unit, 3, "06 3F 01 00 F0 00 FF FF"), 14);
@@ -280,8 +309,8 @@ fn point_119_entries_of_ff() {
     assert_eq!(list(&unit, 1, 2), [65535, 61440]);
     assert_eq!(number_at(&mut unit, 1, "03 12 FF FF 00 FF FF FF"), 0);
     assert_eq!(list(&unit, 1, 2), [61440]);
-    assert_eq!(number_at(&mut unit, 1, "02 12 01 F0 00 02 F0 00 FF FF FF"), 12);
-    assert_eq!(number_at(&mut unit, 1, "02 12 01 F0 00 FF FF FF 02 F0 00"), 12);
+    assert_eq!(wrong(&mut unit, &hex("02 12 01 F0 00 02 F0 00 FF FF FF")), no_pgn(3));
+    assert_eq!(wrong(&mut unit, &hex("02 12 01 F0 00 FF FF FF 02 F0 00")), no_pgn(2));
 }
 
 #[test]

@@ -51,7 +51,7 @@ fn recorded() {
     script += include_str!("../scripts/unit.txt");
     script += include_str!("../scripts/one_up.txt");
     script += include_str!("../scripts/ports.txt");
-    for call in sweep().iter().chain(&generate(19, 9000)) {
+    for call in sweep().iter().chain(&generate(43, 9000)) {
         script += &(write_call(call) + "\n");
     }
     script += "T 1";
@@ -127,6 +127,51 @@ fn printed_reasons() {
         "    permanent 1, cleared 1, not asked 2",
     ];
     assert_eq!(of_ports[..16], expected);
+}
+
+/// The wrong entry behind a message's answer, also without the calls; the number's words behind it.
+#[test]
+fn printed_entries() {
+    let script = "P 20001C000AC00123 200\nS\nQ\nM 1 33 061F01F1FE00FFFF\nM 1 33 0314F1FE00FFFFFF\nM 1 33 0214F1FE000000FE\n\
+        M 1 33 031FF1FE0004F000\nM 1 33 021304F000FFFFFF\nM 1 33 031F04F000F1FE00\nM 1 33 0213F1FE000000FE00\nM 1 33 031300000000F0FE\n";
+    let printed = [
+        "M 22 59392 8 0102FFFF2100ED00  entry 2",
+        "M 17 59392 8 0103FFFF2100ED00  port 2 PGN 61444",
+        "M 0 59392 8 0002FFFF2100ED00",
+        "M 17 59392 8 0103FFFF2100ED00  port 2 PGN 61444",
+        "M 12 59392 8 0102FFFF2100ED00",
+        "M 22 59392 8 0103FFFF2100ED00  entry 2",
+    ];
+    assert_eq!(run_script(script)[5..], printed);
+    let plain = String::from_utf8(Run::of(script).plain()).unwrap();
+    assert!(plain.contains("\nM 22 59392 8 0102FFFF2100ED00  entry 2\nM 17"));
+    let beside = String::from_utf8(Run::of(script).beside()).unwrap();
+    let lines: Vec<&str> = beside.lines().collect();
+    assert_eq!(
+        lines[5..7],
+        [
+            "M 1 33 0214F1FE000000FE               M 22 59392 8 0102FFFF2100ED00  entry 2  (22 an entry is no PGN)",
+            "M 1 33 031FF1FE0004F000               M 17 59392 8 0103FFFF2100ED00  port 2 PGN 61444  \
+            (17 Delete: a PGN absent from a named pair)",
+        ]
+    );
+    assert_eq!(
+        Run::of(script).summary.lines().into_iter().rev().take(3).collect::<Vec<_>>(),
+        [
+            "    22 an entry is no PGN: 2",
+            "    17 Delete: a PGN absent from a named pair: 2",
+            "    12 body wrong: length or filling: 1",
+        ]
+    );
+}
+
+/// The bundled morning shows both, not at the first place.
+#[test]
+fn morning_shows_wrong_entries() {
+    let answers = run_script(include_str!("../scripts/morning.txt"));
+    for told in ["M 22 59392 8 0102FFFF2100ED00  entry 7", "M 17 59392 8 0103FFFF9100ED00  port 4 PGN 60928"] {
+        assert!(answers.iter().any(|answer| answer == told), "{told}");
+    }
 }
 
 /// The bundled morning shows every reason.

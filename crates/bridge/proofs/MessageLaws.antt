@@ -10,6 +10,7 @@ use Rattle.network_message.specs.Decoding.{decoded}
 use Rattle.message_answers.specs.declared.MessageAnswer.{MessageAnswer}
 use Rattle.unit.specs.Model.{modelOf}
 use Rattle.message_answers.specs.Messages.{Replied, performedBy, Untouched}
+use Rattle.message_answers.specs.Messages.{nothingTold}
 use Rattle.bridge.specs.Calls.{silentReply, messaged, Message, refusal, restAfter, asks, sends, performed, Calling, Messaging}
 use Rattle.refusals.specs.Refusals.{messageRefusal}
 use Rattle.message_answers.specs.Steps.{Replying}
@@ -34,7 +35,7 @@ module _ (ports : ℕ) (words lent : List ℕ) (port requester : ℕ) (payload :
     unfolding messaged
     silenced h = rw (← e, ne-eqb n 0 h)
 
-    pub message-refused : (n ≡ 0 → ⊥) → Messaging ports words words port requester payload lent lent (record { refusal = n; pgn = 0; length = 0 })
+    pub message-refused : (n ≡ 0 → ⊥) → Messaging ports words words port requester payload lent lent (record { refusal = n; pgn = 0; length = 0; told = nothingTold })
     unfolding refusal
     message-refused h = record {
       call = call-refused (λ z. h (sym (ap (λ (r : Replied). r .number) (silenced h)) ∙ z));

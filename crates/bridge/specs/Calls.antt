@@ -27,7 +27,7 @@ use Rattle.forwarding.specs.Forwarding.{sentIf, accepts, loses, losesOwn, silen
 use Rattle.claims.specs.Claims.{Acted, frameActed, started}
 pub use Rattle.claims.specs.Claims.{frameOf}
 use Rattle.message_answers.specs.declared.MessageAnswer.{MessageAnswer}
-use Rattle.message_answers.specs.Messages.{Replied, messageAnswer, performedBy, Untouched}
+use Rattle.message_answers.specs.Messages.{Replied, nothingTold, messageAnswer, performedBy, Untouched}
 use Rattle.refusals.specs.Refusals.{frameRefusal, takeRefusal, startRefusal, quietRefusal, lengthRefusal, messageRefusal}
 use Rattle.bridge.specs.declared.FrameAnswer.{FrameAnswer}
 use Rattle.bridge.specs.declared.TakeAnswer.{TakeAnswer}
@@ -51,7 +51,7 @@ offered ports rest p id q = cond (consumes (rest .own) id) silent (verdict ports
 -- ---- a message
 -- nothing is written for 1 to 8
 abbrev pub silentReply : ℕ → List Filter → Replied
-silentReply number pairs = record { number = number; pairs = pairs; pgn = 0; written = λ seen. [] }
+silentReply number pairs = record { number = number; pairs = pairs; pgn = 0; written = λ seen. []; told = nothingTold }
 
 unfoldable pub messaged : ℕ → ℕ → ℕ → Rest → ℕ → ℕ → List ℕ → Replied
 messaged ports lent lentReply rest port requester payload =

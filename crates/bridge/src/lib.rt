@@ -2,6 +2,7 @@
 // number, and a refusal changes nothing.
 use address_claims::Event;
 use forwarding::Share;
+pub use list_commands::Absent;
 pub use message_answers::MessageAnswer;
 use queue::Frame;
 use queue::Taken;
@@ -257,6 +258,11 @@ pub fn message(
             refusal: number,
             pgn: 0,
             length: 0,
+            told: Absent {
+                entry: 0,
+                to: 0,
+                pgn: 0,
+            },
         };
     }
     let command = network_message::decode(ports, port, payload);

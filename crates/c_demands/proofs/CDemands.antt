@@ -15,7 +15,7 @@ use Rattle.demand_2.specs.Demand2.{SameTo}
 use Rattle.demand_2.proofs.Demand2.{demand-2}
 use Rattle.demand_3.proofs.Demand3.{demand-3, powered-good}
 use Rattle.c_demands.specs.Exported.{Powered, powered, PoweredFour, poweredFour, Handed, handed}
-use Rattle.c_demands.specs.CDemands.{Exported, Gave, Made, frame-made, take-made, message-made, start-made, quiet-made, unit-made, queue-made, Listed, CDemands}
+use Rattle.c_demands.specs.CDemands.{wordsOf, Exported, Gave, Made, frame-made, take-made, message-made, start-made, quiet-made, unit-made, queue-made, Listed, CDemands}
 use Rattle.c_demands.proofs.Calls.{is-call, is-none, answered, message-tells, message-none}
 use Rattle.c_demands.proofs.Numbers.{exact-number}
 use Rattle.c_demands.proofs.Lists.{leads}
@@ -48,7 +48,7 @@ private {w = w} {answer = answer} low high ports long view H H₂ =
           let P = demand-2 .private low high ports long view (as-handed H e) (as-handed H₂ e) in
           let t = message-tells refl (message-call H) e in
           let t₂ = message-tells refl (message-call H₂) e in
-          (t .0 ∙ ap (λ (a : MessageAnswer). a .refusal) (P .0) ∙ sym (t₂ .0), P .1, t .1 ∙ ap (λ (a : MessageAnswer). a .pgn ∷ a .length ∷ []) (P .0) ∙ sym (t₂ .1))
+          (t .0 ∙ ap (λ (a : MessageAnswer). a .refusal) (P .0) ∙ sym (t₂ .0), P .1, t .1 ∙ ap wordsOf (P .0) ∙ sym (t₂ .1))
       | no h ↦
           let n = message-none refl (message-call H) h .refused in
           let n₂ = rw (← ports) at (message-none refl (message-call H₂) h .refused) in

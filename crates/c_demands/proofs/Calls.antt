@@ -42,7 +42,7 @@ use Rattle.demand_3.specs.Demand3.{Answer, ToFrame, ToTake, ToMessage, ToStart,
 use Rattle.demand_3.specs.Demand3 as demand-3
 use Rattle.c_demands.specs.Exported.{Arrived, arrived, Handed, handed, Started, started, Quieted, quieted, ToldUnit, toldUnit, TookQueue, tookQueue, blockOf, withBlock}
 use Rattle.c_demands.specs.Exported.{Took as TookOut, took as tookOut}
-use Rattle.c_demands.specs.CDemands.{Exported, CFrame, CTake, CMessage, CStart, CQuiet, CUnit, CTakeQueue, Gave, gave, Made, frame-made, take-made, message-made, start-made, quiet-made, unit-made, queue-made, lends, callOf, Tells, of-frame, of-take, of-refused-take, of-message, of-start, of-quiet, of-unit, of-refused-unit, of-queue, portless, refusedLent, IsCall, IsNone}
+use Rattle.c_demands.specs.CDemands.{wordsOf, Exported, CFrame, CTake, CMessage, CStart, CQuiet, CUnit, CTakeQueue, Gave, gave, Made, frame-made, take-made, message-made, start-made, quiet-made, unit-made, queue-made, lends, callOf, Tells, of-frame, of-take, of-refused-take, of-message, of-start, of-quiet, of-unit, of-refused-unit, of-queue, portless, refusedLent, IsCall, IsNone}
 
 -- ---- the record
 module _ {ports : ℕ} {w w′ : List ℕ} {k : Call} {r : ℕ} (e : r ≡ refusal ports (length w) (modelOf ports w .rest) k) (S : Served ports w w′ k r) where
@@ -130,12 +130,12 @@ module _ {ports : ℕ} {w w′ payload reply back answer told : List ℕ} {port 
   answered = messageAnswer outcome (modelOf ports w .seen)
 
   pub message-tells : length answer ≡ messageLength
-      → (r ≡ answered .refusal) × (told ≡ answered .pgn ∷ answered .length ∷ []) × (back ≡ over (outcome .written (modelOf ports w .seen)) reply)
+      → (r ≡ answered .refusal) × (told ≡ wordsOf answered) × (back ≡ over (outcome .written (modelOf ports w .seen)) reply)
   message-tells e =
       let S = replied-as ports (length w) (length answer) port (length reply) (modelOf ports w .rest) requester payload e in
       (rw S at (M .number), rw (eq-eqb (length answer) messageLength e, S) at (M .tells), rw S at (M .writes))
 
-  message-given : length answer ≡ messageLength → gave r told back ≡ gave (answered .refusal) (answered .pgn ∷ answered .length ∷ []) (over (take (answered .length) back) reply)
+  message-given : length answer ≡ messageLength → gave r told back ≡ gave (answered .refusal) (wordsOf answered) (over (take (answered .length) back) reply)
   message-given e =
       let t = message-tells e in
       rw (over-taken (outcome .written (modelOf ports w .seen)) reply back (t .2), t .0, t .1)
@@ -266,7 +266,7 @@ is-call full (take-made (tookOut κs w w′ a a′ b b′ port r f)) l =
     ]
 is-call full (message-made (handed κs w w′ p p′ b b′ a a′ port requester r f)) l =
     let M = f tt in
-    let e = eqb-true (length (a .now)) 2 l in
+    let e = eqb-true (length (a .now)) 5 l in
     record {
       answer = ToMessage (answered refl M) (take (answered refl M .length) (b′ .now));
       made = demand-3.message-made (made.handed (κs .0, (κs .1 .0, (κs .1 .1 .0, tt))) w w′ p p′ b b′ port requester (answered refl M) (λ _. M .called e));
@@ -316,7 +316,7 @@ is-none (take-made (tookOut κs w w′ a a′ b b′ port r f)) l =
     (λ h. take-none refl T (T .number ∙ sym (take-lent (portsOf (w .now)) (length (w .now)) (length (a .now)) port (length (b .now)) (eqb-false (length (a .now)) 3 h))))
     (λ h. take-none refl T (T .number ∙ sym (take-lent-bytes (portsOf (w .now)) (length (w .now)) (length (a .now)) port (length (b .now)) (eqb-false (length (b .now)) 8 h))))
     (either (eqb (length (a .now)) 3) (eqb (length (b .now)) 8) l)
-is-none (message-made (handed κs w w′ p p′ b b′ a a′ port requester r f)) l = message-none refl (f tt) (eqb-false (length (a .now)) 2 l)
+is-none (message-made (handed κs w w′ p p′ b b′ a a′ port requester r f)) l = message-none refl (f tt) (eqb-false (length (a .now)) 5 l)
 is-none (start-made (started κs w w′ a a′ r f)) l = start-none (f tt) (eqb-false (length (a .now)) 2 l)
 is-none (quiet-made h) l = absurd (true≢false l)
 is-none (unit-made (toldUnit κs w w′ a a′ r f)) l = unit-none (f tt) (eqb-false (length (a .now)) 5 l)

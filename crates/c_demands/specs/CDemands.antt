@@ -109,7 +109,7 @@ pub record EveryCall : Type 0 where
 abbrev pub lends : Exported → Bool
 lends (CFrame port id bytes answer) = eqb (length answer) 8
 lends (CTake port answer bytes) = eqb (length answer) 3 && eqb (length bytes) 8
-lends (CMessage port requester payload reply answer) = eqb (length answer) 2
+lends (CMessage port requester payload reply answer) = eqb (length answer) 5
 lends (CStart answer) = eqb (length answer) 2
 lends CQuiet = true
 lends (CUnit answer) = eqb (length answer) 5
@@ -125,6 +125,10 @@ callOf CQuiet = Quiet
 callOf (CUnit answer) = ReadUnit
 callOf (CTakeQueue port answer bytes) = TakeOut port
 
+-- a message's words: PGN, length, and which entry was wrong
+abbrev pub wordsOf : MessageAnswer → List ℕ
+wordsOf r = r .pgn ∷ r .length ∷ r .told .entry ∷ r .told .to ∷ r .told .pgn ∷ []
+
 -- what it gave is that call's answer: "on a refusal the answer is left as it was"
 pub data Tells : Exported → Answer → Gave → Type 0 where
   of-frame : {port id : ℕ} {bytes answer : List ℕ} {g : Gave} (r : FrameAnswer) → g ≡ gave (r .refusal) (filled (r .refusal) (frameWords r) answer) []
@@ -134,7 +138,7 @@ pub data Tells : Exported → Answer → Gave → Type 0 where
   of-refused-take : {port : ℕ} {answer bytes : List ℕ} {g : Gave} (number : ℕ) → (number ≡ 0 → ⊥) → g ≡ gave number answer bytes
       → Tells (CTake port answer bytes) (ToTake (Refused number)) g
   of-message : {port requester : ℕ} {payload reply answer : List ℕ} {g : Gave} (r : MessageAnswer) (written : List ℕ)
-      → g ≡ gave (r .refusal) (r .pgn ∷ r .length ∷ []) (over written reply) → Tells (CMessage port requester payload reply answer) (ToMessage r written) g
+      → g ≡ gave (r .refusal) (wordsOf r) (over written reply) → Tells (CMessage port requester payload reply answer) (ToMessage r written) g
   of-start : {answer : List ℕ} {g : Gave} (r : StartAnswer) → g ≡ gave (r .refusal) (filled (r .refusal) (startWords r) answer) [] → Tells (CStart answer) (ToStart r) g
   of-quiet : {g : Gave} (number : ℕ) → g ≡ gave number [] [] → Tells CQuiet (ToQuiet number) g
   of-unit : {answer : List ℕ} {g : Gave} (own : Unit) → g ≡ gave 0 (unitWords own) [] → Tells (CUnit answer) (ToUnit (Told own)) g
@@ -202,7 +206,7 @@ numbers w (CFrame port id bytes answer) =
 numbers w (CTake port answer bytes) = check (noPort (portsOf w) port) 1 ∷ check (notLong (portsOf w) (length w) || not (eqb (length answer) 3) || not (eqb (length bytes) 8)) 2 ∷ []
 numbers w (CMessage port requester payload reply answer) =
     check (noPort (portsOf w) port) 1
-    ∷ check (notLong (portsOf w) (length w) || ltb (length reply) 1785 || not (eqb (length answer) 2)) 2
+    ∷ check (notLong (portsOf w) (length w) || ltb (length reply) 1785 || not (eqb (length answer) 5)) 2
     ∷ drop 2 (messageNumbers (portsOf w) (length w) (length reply) (restOf w) port requester payload)
 numbers w (CStart answer) =
     check (notLong (portsOf w) (length w) || not (eqb (length answer) 2)) 2

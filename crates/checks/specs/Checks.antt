@@ -1,9 +1,9 @@
 -- Document 01, "Numbers given back": checks in order, and the number of the first that applies, 0 where none does.
 -- Assumes nothing.
-use mathlib.Core.Bool.{Bool, cond, _&&_}
+use mathlib.Core.Bool.{Bool, cond, _&&_, _||_}
 use mathlib.Core.List.{List, [], _∷_}
 use Prim.Native.Nat.{ℕ}
-use lib.Dec.{leb}
+use lib.Dec.{leb, eqb}
 
 pub record Check : Type 0 where
   pub applies : Bool
@@ -16,6 +16,6 @@ abbrev pub first : List Check → ℕ
 first [] = 0
 first (c ∷ cs) = cond (c .applies) (c .number) (first cs)
 
--- "9 to 17 write eight bytes, the acknowledgment": the numbers that write one
+-- "9 to 17 write eight bytes, the acknowledgment", and 22 (document 02, ticket 2): the numbers that write one
 abbrev pub acknowledges : ℕ → Bool
-acknowledges number = leb 9 number && leb number 17
+acknowledges number = (leb 9 number && leb number 17) || eqb number 22

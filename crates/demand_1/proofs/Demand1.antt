@@ -31,7 +31,7 @@ use Rattle.refusals.specs.Refusals.{messageChecks, messageRefusal}
 use Rattle.bridge.specs.Calls.{refusal, framePassed, frameRefused, frameAnswer, takeAnswer, takeNumber, startRefused, startAnswer, unitAnswer, readNumber, Framing, TakingOut, Messaging, Starting, Quieting, Reading}
 use Rattle.message_answers.specs.Messages.{messageAnswer}
 use Rattle.unit.specs.PowerOn.{PoweringOn}
-use Rattle.demand_1.specs.Demand1.{powerOnNumbers, frameNumbers, takeNumbers, startNumbers, quietNumbers, unitNumbers, messageNumbers, Exact, Unchanged, ByPowerOn, Writes, restOf, Demand1}
+use Rattle.demand_1.specs.Demand1.{powerOnNumbers, frameNumbers, takeNumbers, startNumbers, quietNumbers, unitNumbers, messageNumbers, Exact, Unchanged, ByPowerOn, Writes, Tells, restOf, Demand1}
 use Rattle.delivery.specs.Row.{pull, given}
 use Rattle.queue.specs.Queue.{priority, takenOf}
 use Rattle.unit.specs.Ports.{mask}
@@ -50,6 +50,7 @@ use Rattle.filter_commands.specs.declared.pairs.Change.the-variants.{Adds, Dele
 use Rattle.unit.specs.Model.{pairAt}
 use Rattle.checks.specs.Ports.{noPort}
 use Rattle.unit.specs.Own.{isClaimed}
+use Rattle.list_commands.specs.declared.Absent.{Absent}
 use Rattle.list_commands.specs.Commands.{listChecks, listRefusal, commanded}
 use Rattle.filter_commands.specs.Pairs.{holdsOf}
 use Rattle.message_answers.specs.Messages.{changedBy, replied}
@@ -58,6 +59,7 @@ use Rattle.unit.proofs.Own.{own-ports}
 use Rattle.refusals.proofs.Checks.{message-goes}
 use Rattle.made.proofs.Made.{powering, framing, taking, messaging, starting, quieting, reading}
 use Rattle.demand_1.proofs.Numbers.{exact, message-number}
+use Rattle.demand_1.proofs.Told.{Telling, messaged-telling}
 
 -- ---- power-on and Quiet
 -- 27 is given where the count is none, so the ports are four, and where the record has the length for them
@@ -181,20 +183,20 @@ module _ (ports : ℕ) (rest : Rest) (requester : ℕ) (payload : List ℕ) (see
   silent-fits : (n : ℕ) → ((n ≡ 0 → ⊥) → not (acknowledges n) ≡ true) → (n ≡ 0 → ⊥) → Fits payload requester (silentReply n (rest .pairs)) seen
   silent-fits n h z = record { quiet = λ _ _. (refl, refl); told = λ a. absurd (true≢false (sym a ∙ not-true (acknowledges n) (h z))) }
 
-  told-fits : (n : ℕ) (pairs : List Filter) → ((n ≡ 0 → ⊥) → acknowledges n ≡ true) → Fits payload requester (acknowledged n requester payload pairs) seen
-  told-fits n pairs h = record { quiet = λ z a. absurd (true≢false (sym (h z) ∙ a)); told = λ _. (refl, refl) }
+  told-fits : (n : ℕ) (pairs : List Filter) (t : Absent) → ((n ≡ 0 → ⊥) → acknowledges n ≡ true) → Fits payload requester (acknowledged n requester payload pairs t) seen
+  told-fits n pairs t h = record { quiet = λ z a. absurd (true≢false (sym (h z) ∙ a)); told = λ _. (refl, refl) }
 
   done-fits : (bytes : List ℕ) → Fits payload requester (replied bytes (rest .pairs)) seen
   done-fits bytes = record { quiet = λ z. absurd (z refl); told = λ a. absurd (true≢false (sym a)) }
 
   changed-fits : (change : Change) (from to start end : ℕ) → Fits payload requester (changedBy ports rest requester payload change from to start end) seen
   changed-fits change from to start end =
-      told-fits (listRefusal ports change (entriesOf (between start end payload)) from to (rest .pairs)) (commanded ports change (entriesOf (between start end payload)) from to (rest .pairs))
+      told-fits (listRefusal ports change (entriesOf (between start end payload)) from to (rest .pairs)) (commanded ports change (entriesOf (between start end payload)) from to (rest .pairs)) _
       (list-number ports change (entriesOf (between start end payload)) from to (rest .pairs))
 
   performed-fits : (c : Command) → Good ports payload c → Fits payload requester (performedBy ports rest requester payload c) seen
   unfolding performedBy
-  performed-fits (Refused number) g = told-fits number (rest .pairs) (λ _. g)
+  performed-fits (Refused number entry) g = told-fits number (rest .pairs) _ (λ _. g)
   performed-fits (Request from to) g = done-fits (listReply (pairOf payload) (getD (rest .pairs) (pairAt ports (from - 1) (to - 1)) clear))
   performed-fits (Add from to start end) g = changed-fits Adds from to start end
   performed-fits (Delete from to start end) g = changed-fits Deletes from to start end
@@ -225,8 +227,11 @@ writes-by o seen F a b = record {
       (b ∙ rw (q .0, a), rw (a, q .1), rw (a, q .0));
 }
 
+tells-by : {words payload : List ℕ} {r : MessageAnswer} (o : Replied) (seen : Seen) → Telling words payload (o .number) (o .told) → r ≡ messageAnswer o seen → Tells words payload r
+tells-by o seen T a = rw a (record { wrong = T .0; absent = T .1; nothing = T .2 })
+
 message-exact : {words payload lent after back : List ℕ} {port requester : ℕ} {r : MessageAnswer} → Messaging (portsOf words) words after port requester payload lent back r
-    → Exact (messageNumbers (portsOf words) (length words) (length lent) (restOf words) port requester payload) (r .refusal) × Unchanged (r .refusal) words after × Writes lent back payload requester r
+    → Exact (messageNumbers (portsOf words) (length words) (length lent) (restOf words) port requester payload) (r .refusal) × Unchanged (r .refusal) words after × Writes lent back payload requester r × Tells words payload r
 unfolding refusal
 message-exact {words = words} {payload = payload} {lent = lent} {port = port} {requester = requester} {r = r} M =
     let rest = restOf words in
@@ -235,6 +240,7 @@ message-exact {words = words} {payload = payload} {lent = lent} {port = port} {r
       λ h. M .call .refused (λ e. h (z ∙ e)),
       writes-by (messaged (portsOf words) (length words) (length lent) rest port requester payload) (modelOf (portsOf words) words .seen)
           (messaged-fits (portsOf words) rest requester payload (modelOf (portsOf words) words .seen) (length words) (length lent) port) (M .answer) (M .written),
+      tells-by (messaged (portsOf words) (length words) (length lent) rest port requester payload) (modelOf (portsOf words) words .seen) (messaged-telling words payload requester (length words) (length lent) port) (M .answer),
     )
 
 -- ---- the whole

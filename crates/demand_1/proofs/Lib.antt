@@ -1,3 +1,4 @@
+pub mod Told
 pub mod Numbers
 pub mod Demand1
 pub mod Literals

@@ -16,7 +16,7 @@ use Rattle.entries.specs.Entries.{listed}
 use Rattle.filter_commands.specs.Changes.{wouldPass, lacks}
 use Rattle.network_message.specs.declared.Command.{Command}
 use Rattle.network_message.specs.declared.Command.the-variants.{Refused}
-use Rattle.network_message.specs.Decoding.{isKnown, namesPorts, mayName, hasGoodBody, hasWrongMode, entriesStart, refusalOf, commandOf, decoded, longest}
+use Rattle.network_message.specs.Decoding.{isKnown, namesPorts, mayName, hasGoodBody, wrongEntry, hasWrongMode, entriesStart, refusalOf, judged, commandOf, decoded, longest}
 use Rattle.network_message.proofs.Passing.{by-function}
 use Rattle.unit.specs.Model.{Rest}
 use Rattle.checks.specs.Ports.{noPort}
@@ -27,6 +27,7 @@ use Rattle.filter_commands.specs.Pairs.{holdsOf}
 use Rattle.message_answers.specs.Messages.{Replied, performedBy}
 use Rattle.bridge.specs.Calls.{silentReply, messaged}
 use Rattle.refusals.specs.Refusals.{messageRefusal}
+use Rattle.demand_1.proofs.Told.{wrong-is}
 use Rattle.demand_1.specs.Demand1.{function, from, to, entries, aNamedPair, messageNumbers, noneApplies, Given, Exact}
 
 -- ---- the first check that applies
@@ -97,14 +98,15 @@ early false false false false false r pairs = refl
 
 module _ (ports : ℕ) (rest : Rest) (requester : ℕ) (payload : List ℕ) where
   -- from the payload
-  late : (f g h i j : Bool) (k : Command) → performedBy ports rest requester payload (cond (eqb (cond f 9 (cond g 10 (cond h 11 (cond i 12 (cond j 13 0))))) 0) k (Refused (cond f 9 (cond g 10 (cond h 11 (cond i 12 (cond j 13 0))))))) .number ≡ cond f 9 (cond g 10 (cond h 11 (cond i 12 (cond j 13 (performedBy ports rest requester payload k .number)))))
+  late : (f g h i w j : Bool) (n : ℕ) (k : Command) → performedBy ports rest requester payload (cond (eqb (cond f 9 (cond g 10 (cond h 11 (cond i 12 (cond w 22 (cond j 13 0)))))) 0) k (Refused (cond f 9 (cond g 10 (cond h 11 (cond i 12 (cond w 22 (cond j 13 0)))))) n)) .number ≡ cond f 9 (cond g 10 (cond h 11 (cond i 12 (cond w 22 (cond j 13 (performedBy ports rest requester payload k .number))))))
   unfolding performedBy
-  late true g h i j k = refl
-  late false true h i j k = refl
-  late false false true i j k = refl
-  late false false false true j k = refl
-  late false false false false true k = refl
-  late false false false false false k = refl
+  late true g h i w j n k = refl
+  late false true h i w j n k = refl
+  late false false true i w j n k = refl
+  late false false false true w j n k = refl
+  late false false false false true j n k = refl
+  late false false false false false true n k = refl
+  late false false false false false false n k = refl
 
   -- 14 to 17, from the lists
   abbrev lists : ℕ
@@ -127,18 +129,19 @@ module _ (ports : ℕ) (rest : Rest) (requester : ℕ) (payload : List ℕ) wher
       (λ _ e. rw e)
       (λ e. rw e)
 
-  below-known : (f g h i j : Bool) (m n : ℕ) → (f ≡ false → m ≡ n) → cond f 9 (cond g 10 (cond h 11 (cond i 12 (cond j 13 m)))) ≡ cond f 9 (cond g 10 (cond h 11 (cond i 12 (cond j 13 n))))
-  below-known true g h i j m n e = refl
-  below-known false g h i j m n e = rw (e refl)
+  below-known : (f g h i w j : Bool) (m n : ℕ) → (f ≡ false → m ≡ n) → cond f 9 (cond g 10 (cond h 11 (cond i 12 (cond w 22 (cond j 13 m))))) ≡ cond f 9 (cond g 10 (cond h 11 (cond i 12 (cond w 22 (cond j 13 n)))))
+  below-known true g h i w j m n e = refl
+  below-known false g h i w j m n e = rw (e refl)
 
   pub message-number : (lent lentReply port : ℕ) → messaged ports lent lentReply rest port requester payload .number ≡ first (messageNumbers ports lent lentReply rest port requester payload)
-  unfolding messaged messageRefusal decoded refusalOf
+  unfolding messaged messageRefusal decoded judged refusalOf
   message-number lent lentReply port =
       let f = not (isKnown (function payload)) in
       let g = not (namesPorts ports (function payload) (from payload) (to payload)) in
       let h = not (mayName ports port (function payload) (from payload) (to payload)) in
       let i = not (hasGoodBody (function payload) payload) in
+      let w = not (eqb (wrongEntry (function payload) payload) 0) in
       let j = hasWrongMode (function payload) payload in
       let k = commandOf (function payload) (from payload) (to payload) payload in
       early (noPort ports port) (notLong ports lent || ltb lentReply longest) (not (isClaimed (rest .own .claim))) (not (leb 8 (length payload) && leb (length payload) longest)) (ltb 253 requester) (performedBy ports rest requester payload (decoded ports port payload)) (rest .pairs)
-      ∙ rw (late f g h i j k ∙ below-known f g h i j (performedBy ports rest requester payload k .number) lists (λ e. by-lists (not-false (isKnown (function payload)) e)))
+      ∙ rw (late f g h i w j (judged ports port (function payload) (from payload) (to payload) payload .entry) k ∙ below-known f g h i w j (performedBy ports rest requester payload k .number) lists (λ e. by-lists (not-false (isKnown (function payload)) e)), wrong-is payload)

@@ -4,14 +4,14 @@ use mathlib.Core.Path.{_≡_}
 use mathlib.Core.Logic.{_↔_}
 use mathlib.Core.Bool.{Bool, true, false, not, _&&_, _||_}
 use mathlib.Core.List.{List, [], _∷_, _++_}
-use Prim.Native.Nat.{ℕ, _-_}
+use Prim.Native.Nat.{ℕ, _-_, _≤_, _<_}
 use contract.Lifetimes.{Lfts}
 use denote.Ref.{RefT}
-use lib.ListN.{length, drop}
+use lib.ListN.{length, getD, drop}
 use lib.Dec.{ltb, leb, eqb}
-use Rattle.identifier.specs.Identifier.{tooWide, wrongSource}
-use Rattle.filter.specs.Filter.{Filter, isCleared}
-use Rattle.entries.specs.Entries.{listed, entriesOf}
+use Rattle.identifier.specs.Identifier.{isPgn, tooWide, wrongSource}
+use Rattle.filter.specs.Filter.{Filter, clear, isCleared}
+use Rattle.entries.specs.Entries.{listed, every, entriesOf}
 use Rattle.filter_commands.specs.Changes.{wouldPass, lacks}
 use Rattle.checks.specs.Checks.{Check, check, acknowledges}
 use Rattle.network_message.specs.Decoding.{functionOf, pairOf, fromOf, toOf, isKnown, namesPorts, mayName, hasGoodBody, hasWrongMode, entriesStart, entriesEnd, between, longest}
@@ -22,11 +22,12 @@ use Rattle.message_answers.specs.declared.MessageAnswer.{MessageAnswer}
 use Rattle.bridge.specs.declared.StartAnswer.{StartAnswer}
 use Rattle.bridge.specs.declared.UnitAnswer.{UnitAnswer}
 use Rattle.unit.specs.Count.{isCount, countOf, portsOf}
-use Rattle.unit.specs.Model.{Rest, modelOf}
-use Rattle.checks.specs.Ports.{noPort}
+use Rattle.unit.specs.Model.{Rest, pairAt, modelOf}
+use Rattle.checks.specs.Ports.{isPort, noPort}
 use Rattle.unit.specs.PowerOn.{notLong, fresh}
 use Rattle.unit.specs.Own.{isUnstarted, isClaiming}
 use Rattle.unit.specs.Own.{isClaimed}
+use Rattle.list_commands.specs.declared.Absent.{Absent}
 use Rattle.list_commands.specs.Commands.{anyNamed}
 use Rattle.bridge.specs.Calls.{frameRefused, takeNumber, readNumber, startRefused}
 use Rattle.unit.proofs.Unit.power_on_ports.Reads as power-on
@@ -95,6 +96,7 @@ messageNumbers ports lent lentReply rest port requester payload =
     ∷ check (not (namesPorts ports (function payload) (from payload) (to payload))) 10
     ∷ check (not (mayName ports port (function payload) (from payload) (to payload))) 11
     ∷ check (not (hasGoodBody (function payload) payload)) 12
+    ∷ check (listed (function payload) (2 ∷ 3 ∷ 6 ∷ []) && not (every isPgn (entries payload))) 22
     ∷ check (hasWrongMode (function payload) payload) 13
     ∷ check (eqb (function payload) 6 && aNamedPair ports rest payload (λ f. not (isCleared (f .mode)))) 14
     ∷ check (listed (function payload) (2 ∷ 3 ∷ []) && aNamedPair ports rest payload (λ f. isCleared (f .mode))) 15
@@ -137,6 +139,43 @@ pub record Writes (lent back payload : List ℕ) (requester : ℕ) (r : MessageA
 abbrev pub restOf : List ℕ → Rest
 restOf words = modelOf (portsOf words) words .rest
 
+-- ---- document 02, ticket 2: what the answer tells of an entry
+-- the kth of a payload, from 1
+abbrev pub entryNo : List ℕ → ℕ → ℕ
+entryNo payload k = getD (entries payload) (k - 1) 0
+
+-- "With 22 the answer to the caller gives the first such entry's number from 1": it is no PGN, each before it is one
+pub record FirstWrong (payload : List ℕ) (told : Absent) : Type 0 where
+  pub least : 1 ≤ told .entry
+  pub most : told .entry ≤ length (entries payload)
+  pub wrong : isPgn (entryNo payload (told .entry)) ≡ false
+  pub before : (k : ℕ) → 1 ≤ k → k < told .entry → isPgn (entryNo payload k) ≡ true
+  pub to : told .to ≡ 0
+  pub pgn : told .pgn ≡ 0
+
+-- a pair that the payload names leads to port q: "To may be 15, all pairs from that port"
+abbrev pub leadsTo : ℕ → List ℕ → ℕ → Bool
+leadsTo ports payload q = isPort ports q && (not (eqb q (from payload)) && (eqb (to payload) 15 || eqb (to payload) q))
+
+-- the list of the pair to port q holds the kth entry's PGN
+abbrev pub holds : List ℕ → List ℕ → ℕ → ℕ → Bool
+holds words payload q k = listed (entryNo payload k) (getD (restOf words .pairs) (pairAt (portsOf words) (from payload - 1) (q - 1)) clear .entries)
+
+-- "For 17, give the first pair in rising To order and the first PGN in it that is absent": each before it is there, and all are in the pairs before
+pub record FirstAbsent (words payload : List ℕ) (told : Absent) : Type 0 where
+  pub pair : leadsTo (portsOf words) payload (told .to) ≡ true
+  pub least : 1 ≤ told .entry
+  pub most : told .entry ≤ length (entries payload)
+  pub absent : holds words payload (told .to) (told .entry) ≡ false
+  pub before : (k : ℕ) → 1 ≤ k → k < told .entry → holds words payload (told .to) k ≡ true
+  pub pairs : (q k : ℕ) → leadsTo (portsOf words) payload q ≡ true → q < told .to → 1 ≤ k → k ≤ length (entries payload) → holds words payload q k ≡ true
+  pub pgn : told .pgn ≡ entryNo payload (told .entry)
+
+pub record Tells (words payload : List ℕ) (r : MessageAnswer) : Type 0 where
+  pub wrong : r .refusal ≡ 22 → FirstWrong payload (r .told)
+  pub absent : r .refusal ≡ 17 → FirstAbsent words payload (r .told)
+  pub nothing : (r .refusal ≡ 22 → ⊥) → (r .refusal ≡ 17 → ⊥) → r .told ≡ record { entry = 0; to = 0; pgn = 0 }
+
 -- ---- the whole
 pub record Demand1 : Type 0 where
   -- "Any frame, message, port number or buffer gets a defined answer": no call requires anything.
@@ -157,7 +196,7 @@ pub record Demand1 : Type 0 where
       → Exact (takeNumbers (portsOf words) (length words) port) (takeNumber r) × Unchanged (takeNumber r) words after
   pub message : {words payload lent after back : List ℕ} {port requester : ℕ} {r : MessageAnswer} → made.Handed words port requester payload lent r after back
       → Exact (messageNumbers (portsOf words) (length words) (length lent) (restOf words) port requester payload) (r .refusal)
-      × Unchanged (r .refusal) words after × Writes lent back payload requester r
+      × Unchanged (r .refusal) words after × Writes lent back payload requester r × Tells words payload r
   pub start : {words after : List ℕ} {r : StartAnswer} → made.Started words r after
       → Exact (startNumbers (portsOf words) (length words) (restOf words)) (r .refusal) × Unchanged (r .refusal) words after × ((r .refusal ≡ 0 → ⊥) → r ≡ startRefused (r .refusal))
   pub quiet : {words after : List ℕ} {r : ℕ} → made.Quieted words r after → Exact (quietNumbers (portsOf words) (length words) (restOf words)) r × Unchanged r words after

@@ -2,14 +2,14 @@
 -- events. Each says that the definition which the contracts cite is that number. `literals` of proofs/Literals.antt proves it.
 -- Assumes nothing.
 use mathlib.Core.Path.{_≡_}
-use mathlib.Core.Bool.{Bool, not, cond, _&&_, _||_}
+use mathlib.Core.Bool.{Bool, false, not, cond, _&&_, _||_}
 use mathlib.Core.List.{List, [], _∷_, _++_}
-use Prim.Native.Nat.{ℕ, _+_, _*_, _/_, _%_, _^_}
+use Prim.Native.Nat.{ℕ, _+_, _*_, _/_, _%_, _^_, _<_}
 use lib.ListN.{length, getD, take, drop}
 use lib.Dec.{ltb, leb, eqb}
 use Rattle.identifier.specs.Identifier.{priorityOf, extendedDataPageOf, dataPageOf, pfOf, psOf, saOf, hasDestination, pgnOf, isPgn, tooWide, wrongSource}
 use Rattle.storage.specs.Bytes.{packed}
-use Rattle.entries.specs.Entries.{listed}
+use Rattle.entries.specs.Entries.{listed, entriesOf}
 use Rattle.filter.specs.Filter.{Filter}
 use Rattle.queue.specs.declared.Frame.{Frame}
 use Rattle.queue.specs.Queue.{size}
@@ -30,6 +30,14 @@ use Rattle.unit.specs.Model.{Rest, recordLength}
 use Rattle.unit.specs.PowerOn.{notLong}
 use Rattle.unit.specs.Own.{claimFrame, cannotClaimFrame, claimWord}
 use Rattle.claims.specs.Claims.{isClaim, isRequest, heldUnder, started}
+use Rattle.demand_1.specs.Demand1.{entries}
+
+abbrev pub threeBytes : ℕ → ℕ → ℕ → ℕ
+threeBytes a b c = a + 256 * (b + 256 * c)
+
+-- the entries of six bytes, of which the last three may be filling
+abbrev pub oneOrTwo : ℕ → ℕ → ℕ → ℕ → ℕ → ℕ → List ℕ
+oneOrTwo a b c d e f = threeBytes a b c ∷ cond (eqb d 0xFF && (eqb e 0xFF && eqb f 0xFF)) [] (threeBytes d e f ∷ [])
 
 pub record Literals : Type 0 where
   -- "a number of ports from 2 to 8, chosen at power-on" and held in the record's fifth word; four where it is none
@@ -64,10 +72,20 @@ pub record Literals : Type 0 where
   pub long : longest ≡ 1785
   pub known : (function : ℕ) → isKnown function ≡ listed function (0 ∷ 2 ∷ 3 ∷ 4 ∷ 6 ∷ 64 ∷ [])
   pub mode : (function : ℕ) (payload : List ℕ) → hasWrongMode function payload ≡ eqb function 6 && ltb 1 (getD payload 2 0)
+  pub function : (payload : List ℕ) → functionOf payload ≡ getD payload 0 0
+  pub pair : (payload : List ℕ) → pairOf payload ≡ getD payload 1 0
   pub from : (pair : ℕ) → fromOf pair ≡ pair / 16
   pub to : (pair : ℕ) → toOf pair ≡ pair % 16
-  -- "9 to 17 write eight bytes, the acknowledgment with first byte 1 (2 for number 11)"; "0, the function, FF, FF, the requester's address, 00, ED, 00"
-  pub told : (n : ℕ) → acknowledges n ≡ leb 9 n && leb n 17
+  -- entries are three bytes, least significant first, from byte 3, in Create from byte 4, to the last byte; in 8 bytes, after the first entry, FF to the last
+  -- byte is filling and no entry: "in an 8-byte Add or Delete the last three bytes are an entry unless all are FF"
+  pub added : (pair a b c d e f : ℕ) → entries (2 ∷ pair ∷ a ∷ b ∷ c ∷ d ∷ e ∷ f ∷ []) ≡ oneOrTwo a b c d e f
+  pub deleted : (pair a b c d e f : ℕ) → entries (3 ∷ pair ∷ a ∷ b ∷ c ∷ d ∷ e ∷ f ∷ []) ≡ oneOrTwo a b c d e f
+  pub created : (pair mode a b c : ℕ) → entries (6 ∷ pair ∷ mode ∷ a ∷ b ∷ c ∷ 0xFF ∷ 0xFF ∷ []) ≡ threeBytes a b c ∷ []
+  pub longer : (function pair : ℕ) (bytes : List ℕ) → eqb function 6 ≡ false → 6 < length bytes → entries (function ∷ pair ∷ bytes) ≡ entriesOf bytes
+  pub longer-create : (pair mode : ℕ) (bytes : List ℕ) → 5 < length bytes → entries (6 ∷ pair ∷ mode ∷ bytes) ≡ entriesOf bytes
+  pub next-entry : (a b c : ℕ) (bytes : List ℕ) → entriesOf (a ∷ b ∷ c ∷ bytes) ≡ threeBytes a b c ∷ entriesOf bytes
+  -- "9 to 17 write eight bytes, the acknowledgment with first byte 1 (2 for number 11)", 22 too; "0, the function, FF, FF, the requester's address, 00, ED, 00"
+  pub told : (n : ℕ) → acknowledges n ≡ (leb 9 n && leb n 17) || eqb n 22
   pub control : (n : ℕ) → controlOf n ≡ cond (eqb n 0) 0 (cond (eqb n 11) 2 1)
   pub acknowledged : (control function requester : ℕ)
       → acknowledgment control function requester ≡ control ∷ function ∷ 0xFF ∷ 0xFF ∷ requester ∷ 0x00 ∷ 0xED ∷ 0x00 ∷ []

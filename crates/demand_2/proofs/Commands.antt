@@ -22,17 +22,18 @@ use Rattle.unit.specs.Count.{pairCount}
 use Rattle.unit.specs.Model.{Rest, pairAt}
 use Rattle.message_answers.specs.Messages.{performedBy, Untouched}
 use Rattle.filter_commands.specs.Pairs.{changeOf}
-use Rattle.list_commands.specs.Commands.{Beside, changeNamed, listRefusal, commanded}
+use Rattle.list_commands.specs.Commands.{IsPair, Beside, changeNamed, listRefusal, commanded}
 use Rattle.refusals.specs.Refusals.{messageRefusal}
 use Rattle.bridge.specs.Calls.{messaged}
 use Rattle.refusals.proofs.Checks.{message-goes}
-use Rattle.demand_2.specs.Demand2.{IsPair, namesPair, Outside}
-use Rattle.demand_2.proofs.Pairs.{names-is, target, target-pair, target-rank, target-at, changed-pair}
+use Rattle.list_commands.proofs.Ranks.{names-is, target, target-pair, target-rank, target-at}
+use Rattle.demand_2.specs.Demand2.{namesPair, Outside}
+use Rattle.demand_2.proofs.Pairs.{changed-pair}
 
 -- ---- what a decoded command changes is what the payload's bytes name
 -- whether a command may change the pair from a to b
 abbrev changes : ℕ → Command → ℕ → ℕ → Bool
-changes ports (Refused number) a b = false
+changes ports (Refused number entry) a b = false
 changes ports (Request from to) a b = false
 changes ports (Add from to start end) a b = eqb a from && reaches ports from to b
 changes ports (Delete from to start end) a b = eqb a from && reaches ports from to b
@@ -52,7 +53,7 @@ not-reached ports a b from to = go (eqb a from) (eqb to 15)
 unnamed : (ports a b port : ℕ) (payload : List ℕ) → namesPair payload a b ≡ false → changes ports (decoded ports port payload) a b ≡ false
 unfolding decoded listed
 unnamed ports a b port payload h =
-    answered-by ports port (functionOf payload) (fromOf (pairOf payload)) (toOf (pairOf payload)) payload (λ c. changes ports c a b ≡ false) (λ n _. refl)
+    answered-by ports port (functionOf payload) (fromOf (pairOf payload)) (toOf (pairOf payload)) payload (λ c. changes ports c a b ≡ false) (λ n _ _. refl)
     (λ P. by-function (λ c. changes ports c a b ≡ false) (functionOf payload) (fromOf (pairOf payload)) (toOf (pairOf payload)) payload (P .known)
     (λ e. refl)
     (λ e. not-reached ports a b (fromOf (pairOf payload)) (toOf (pairOf payload)) (rw e at h))
@@ -71,7 +72,7 @@ module _ (ports : ℕ) (payload : List ℕ) (n : ℕ) where
       rw (target-at ports from k (ps .least) (ps .most) l) at (H from b P (rw (eq-eqb from from refl) reached))
 
   untouched-by : (c : Command) → Good ports payload c → ((a b : ℕ) → IsPair ports a b → changes ports c a b ≡ true → Outside ports a b n) → Untouched ports c n
-  untouched-by (Refused number) g H = tt
+  untouched-by (Refused number entry) g H = tt
   untouched-by (Request from to) g H = tt
   untouched-by (Add from to start end) g H = beside from to (g .0) H
   untouched-by (Delete from to start end) g H = beside from to (g .0) H
@@ -113,7 +114,7 @@ module _ (ports : ℕ) (rest : Rest) (long : length (rest .pairs) ≡ pairCount 
 
   performed-other : (requester : ℕ) (payload : List ℕ) (c : Command) → Good ports payload c → changes ports c a b ≡ false → here (performedBy ports rest requester payload c .pairs) ≡ here (rest .pairs)
   unfolding performedBy
-  performed-other requester payload (Refused number) g e = refl
+  performed-other requester payload (Refused number entry) g e = refl
   performed-other requester payload (Request from to) g e = refl
   performed-other requester payload (Add from to start end) g e = changed-other Adds (entriesOf (between start end payload)) from to (g .0) e
   performed-other requester payload (Delete from to start end) g e = changed-other Deletes (entriesOf (between start end payload)) from to (g .0) e

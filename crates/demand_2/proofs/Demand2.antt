@@ -34,7 +34,8 @@ use Rattle.unit.proofs.Count.{ports-bounds}
 use Rattle.record.proofs.Regions.{rows-long}
 use Rattle.list_commands.proofs.PairLoop.{pairs-long}
 use Rattle.bridge.proofs.Laws.{not-offered-back, not-sent-back, not-accepted-back, lost-at}
-use Rattle.demand_2.specs.Demand2.{unitIn, restOf, pairOn, IsPair, NotBack, namesPair, Outside, OnlyNamed, SameTo, listOf, MayCreate, Demand2}
+use Rattle.list_commands.specs.Commands.{IsPair}
+use Rattle.demand_2.specs.Demand2.{unitIn, restOf, pairOn, NotBack, namesPair, Outside, OnlyNamed, SameTo, listOf, MayCreate, Demand2}
 use Rattle.made.proofs.Made.{framing, messaging}
 use Rattle.demand_2.proofs.Permanent.{crossing}
 use Rattle.demand_2.proofs.Reasons.{reasons}
@@ -140,7 +141,7 @@ module _ {words other payload lent after back after₂ back₂ : List ℕ} {p re
   same-told : (r ≡ r₂) × (back ≡ back₂)
   same-told =
       let t = messaged-told p words other same S requester payload least most (length words) (length lent) in
-      (M .answer ∙ rw (t .0, t .1, t .2 (unitIn words .seen), long) (sym (N .answer)), M .written ∙ rw (t .2 (unitIn words .seen), long) (sym (N .written)))
+      (M .answer ∙ rw (t .0, t .1, t .2 (unitIn words .seen), t .3, long) (sym (N .answer)), M .written ∙ rw (t .2 (unitIn words .seen), long) (sym (N .written)))
 
 -- ---- the round trip
 module _ {words payload lent after back other lent₂ after₂ back₂ : List ℕ} {port requester port₂ requester₂ a b : ℕ} {r r₂ : MessageAnswer}

@@ -132,7 +132,7 @@ entries-pgns {start} {end} {payload} H =
 module _ (ports : ℕ) (rest : Rest) (all : All ports (rest .pairs)) where
   performed-all : (requester : ℕ) (payload : List ℕ) (c : Command) → Good ports payload c → All ports (performedBy ports rest requester payload c .pairs)
   unfolding performedBy every entriesOf
-  performed-all requester payload (Refused number) g = all
+  performed-all requester payload (Refused number entry) g = all
   performed-all requester payload (Request from to) g = all
   performed-all requester payload (Add from to start end) g = commanded-all ports (rest .pairs) all Adds (entriesOf (between start end payload)) (entries-pgns (g .1)) from to (g .0)
   performed-all requester payload (Delete from to start end) g = commanded-all ports (rest .pairs) all Deletes (entriesOf (between start end payload)) (entries-pgns (g .1)) from to (g .0)

@@ -9,6 +9,7 @@ use native.Mathlib.Omega.{arith}
 use borrow.Author.Tests.{eq-eqb, ne-eqb, eqb-true}
 use lib.ListN.{length, getD}
 use lib.Dec.{eqb}
+use Rattle.checks.proofs.Tests.{both}
 use Rattle.filter.specs.Filter.{Filter, clear}
 use Rattle.entries.specs.Entries.{entriesOf}
 use Rattle.addresses.specs.declared.Place.{Place}
@@ -25,14 +26,18 @@ use Rattle.filter_commands.specs.declared.pairs.Change.{Change}
 use Rattle.filter_commands.specs.declared.pairs.Change.the-variants.{Adds, Deletes, Clears, Creates}
 use Rattle.unit.specs.Count.{portsOf}
 use Rattle.unit.specs.Model.{Model, Rest, Seen, pairAt, modelOf}
-use Rattle.list_commands.specs.Commands.{firstPair, names, anyBelow, anyNamed, holdsAt, listRefusal, listChecks}
-use Rattle.message_answers.specs.Messages.{changedBy, Replied, performedBy}
+use Rattle.filter_commands.specs.declared.pairs.Question.the-variants.{Lacks}
+use Rattle.filter_commands.specs.Pairs.{holdsOf}
+use Rattle.list_commands.specs.Commands.{IsPair, firstPair, names, anyBelow, anyNamed, firstBelow, holdsAt, absentIn, absentAt, listRefusal, listChecks}
+use Rattle.list_commands.proofs.Ranks.{names-is, target, target-pair, target-rank, target-at}
+use Rattle.list_commands.proofs.Searching.{first-found, refused-17}
+use Rattle.message_answers.specs.Messages.{changedBy, Replied, nothingTold, absentTold, performedBy}
 use Rattle.bridge.specs.Calls.{silentReply, messaged}
 use Rattle.refusals.specs.Refusals.{messageRefusal}
 use Rattle.refusals.proofs.Checks.{message-goes}
 use Rattle.unit.proofs.Count.{ports-bounds}
-use Rattle.demand_2.specs.Demand2.{restOf, IsPair, SameTo}
-use Rattle.demand_2.proofs.Pairs.{unit-in, pair-in, pair-is, names-is, target, target-pair, target-rank, target-at}
+use Rattle.demand_2.specs.Demand2.{restOf, SameTo}
+use Rattle.demand_2.proofs.Pairs.{unit-in, pair-in, pair-is}
 
 -- ---- an address that is held on p in the one is held on p in the other
 held-is : (p : ℕ) (u : Place) → heldOn p u ≡ true → (name : ℕ) × (u ≡ Held p name)
@@ -53,9 +58,9 @@ held-same p u v h = go (heldOn p u) (heldOn p v) refl refl
     go true false e f = let k = held-is p u e in absurd (true≢false (sym (is-held p (k .0) v (h (k .0) .0 (k .1))) ∙ f))
     go false true e f = let k = held-is p v f in absurd (true≢false (sym (is-held p (k .0) u (h (k .0) .1 (k .1))) ∙ e))
 
--- what is told: the number, the PGN and the bytes
+-- what is told: the number, the PGN, the bytes and which entry was wrong
 abbrev pub Told : Replied → Replied → Type 0
-Told r s = (r .number ≡ s .number) × (r .pgn ≡ s .pgn) × ((seen : Seen) → r .written seen ≡ s .written seen)
+Told r s = (r .number ≡ s .number) × (r .pgn ≡ s .pgn) × ((seen : Seen) → r .written seen ≡ s .written seen) × (r .told ≡ s .told)
 
 -- ---- a question to the pairs from a port
 any-same : (s t : ℕ → Bool) (n : ℕ) → ((k : ℕ) → k < n → s k ≡ t k) → anyBelow s n ≡ anyBelow t n
@@ -63,18 +68,26 @@ unfolding anyBelow
 any-same s t zero h = refl
 any-same s t (suc n) h = rw (any-same s t n (λ k l. h k (omega arith)), h n (omega arith))
 
+first-same : (s t : ℕ → Bool) (n : ℕ) → ((k : ℕ) → k < n → s k ≡ t k) → firstBelow s n ≡ firstBelow t n
+unfolding firstBelow
+first-same s t zero h = refl
+first-same s t (suc n) h = rw (any-same s t n (λ k l. h k (omega arith)), first-same s t n (λ k l. h k (omega arith)), h n (omega arith))
+
 -- lists of pairs that agree in those that are named
 abbrev Agree : ℕ → List Filter → List Filter → ℕ → ℕ → Type 0
 Agree ports ps qs from to = (k : ℕ) → k < ports - 1 → names from to k ≡ true → getD ps (firstPair ports from + k) clear ≡ getD qs (firstPair ports from + k) clear
 
 module _ (ports : ℕ) (ps qs : List Filter) (from to : ℕ) (same : Agree ports ps qs from to) where
+  held-at : (test : Filter → Bool) (k : ℕ) → k < ports - 1 → holdsAt ports test from to ps k ≡ holdsAt ports test from to qs k
+  held-at test k l = go (names from to k) refl
+    where
+      go : (t : Bool) → names from to k ≡ t → holdsAt ports test from to ps k ≡ holdsAt ports test from to qs k
+      go true e = rw (e, same k l e)
+      go false e = rw e
+
   asked-same : (test : Filter → Bool) → anyNamed ports (ports - 1) test from to ps ≡ anyNamed ports (ports - 1) test from to qs
   unfolding anyNamed
-  asked-same test = any-same (holdsAt ports test from to ps) (holdsAt ports test from to qs) (ports - 1) (λ k l. go k l (names from to k) refl)
-    where
-      go : (k : ℕ) → k < ports - 1 → (t : Bool) → names from to k ≡ t → holdsAt ports test from to ps k ≡ holdsAt ports test from to qs k
-      go k l true e = rw (e, same k l e)
-      go k l false e = rw e
+  asked-same test = any-same (holdsAt ports test from to ps) (holdsAt ports test from to qs) (ports - 1) (held-at test)
 
   refused-same : (change : Change) (xs : List ℕ) → listRefusal ports change xs from to ps ≡ listRefusal ports change xs from to qs
   unfolding listRefusal listChecks
@@ -82,6 +95,28 @@ module _ (ports : ℕ) (ps qs : List Filter) (from to : ℕ) (same : Agree ports
   refused-same Deletes xs = rw (asked-same _, asked-same _)
   refused-same Clears xs = refl
   refused-same (Creates passing) xs = rw (asked-same _, asked-same _)
+
+  -- the first pair that lacks a PGN is named, so it is the same, and its list too
+  absent-same : (xs : List ℕ) → anyNamed ports (ports - 1) (holdsOf Lacks xs) from to ps ≡ true → absentAt ports xs from to ps ≡ absentAt ports xs from to qs
+  unfolding anyNamed absentAt
+  absent-same xs lacking =
+      let test = holdsAt ports (holdsOf Lacks xs) from to ps in
+      let k = firstBelow test (ports - 1) in
+      let first = first-found test (ports - 1) lacking in
+      let is-named = both (names from to k) (holdsOf Lacks xs (getD ps (firstPair ports from + k) clear)) (first .1) in
+      let one : k ≡ firstBelow (holdsAt ports (holdsOf Lacks xs) from to qs) (ports - 1) = first-same test (holdsAt ports (holdsOf Lacks xs) from to qs) (ports - 1) (held-at (holdsOf Lacks xs)) in
+      rw (same k (first .0) (is-named .0)) (ap (λ j. absentIn xs from j (getD qs (firstPair ports from + j) clear)) one)
+
+  told-same : (change : Change) (xs : List ℕ) → absentTold ports (listRefusal ports change xs from to ps) xs from to ps ≡ absentTold ports (listRefusal ports change xs from to qs) xs from to qs
+  unfolding absentTold
+  told-same change xs = rw (← (refused-same change xs)) (go (eqb n 17) refl)
+    where
+      n : ℕ
+      n = listRefusal ports change xs from to ps
+
+      go : (t : Bool) → eqb n 17 ≡ t → cond t (absentAt ports xs from to ps) nothingTold ≡ cond t (absentAt ports xs from to qs) nothingTold
+      go true e = absent-same xs (refused-17 ports change xs from to ps (eqb-true n 17 e))
+      go false e = refl
 
 -- ---- what is its own
 -- two records with the same number of ports, read with that number
@@ -126,17 +161,17 @@ module _ (p : ℕ) (words other : List ℕ) (same : portsOf words ≡ portsOf ot
     changed-told : (change : Change) (from to start end : ℕ) → Ports ports from to → Own ports p (Named.pairs from to) → Told (changedBy ports x requester payload change from to start end) (changedBy ports y requester payload change from to start end)
     changed-told change from to start end ps own =
         let n = refused-same ports (x .pairs) (y .pairs) from to (own-agree from to ps own) change (entriesOf (between start end payload)) in
-        (n, refl, λ seen. rw n)
+        (n, refl, (λ seen. rw n), told-same ports (x .pairs) (y .pairs) from to (own-agree from to ps own) change (entriesOf (between start end payload)))
 
     performed-told : (c : Command) → Good ports payload c → Own ports p (named c) → Told (performedBy ports x requester payload c) (performedBy ports y requester payload c)
     unfolding performedBy named addressReply
-    performed-told (Refused number) g own = (refl, refl, λ seen. refl)
-    performed-told (Request from to) g own = (refl, refl, λ seen. rw (own-pair from to (g .0) (g .1) own))
+    performed-told (Refused number entry) g own = (refl, refl, (λ seen. refl), refl)
+    performed-told (Request from to) g own = (refl, refl, (λ seen. rw (own-pair from to (g .0) (g .1) own)), refl)
     performed-told (Add from to start end) g own = changed-told Adds from to start end (g .0) own
     performed-told (Delete from to start end) g own = changed-told Deletes from to start end (g .0) own
     performed-told (Clear from to) g own = changed-told Clears from to 2 2 g own
     performed-told (Create from to passing start end) g own = changed-told (Creates passing) from to start end (g .0) own
-    performed-told (AddressList q) g own = (refl, refl, λ seen. rw (own, address-same, list-same p (y .own .address) (x .table) (y .table) (λ a l. held-same p (getD (x .table) a Free) (getD (y .table) a Free) (λ name. place-same a name l))))
+    performed-told (AddressList q) g own = (refl, refl, (λ seen. rw (own, address-same, list-same p (y .own .address) (x .table) (y .table) (λ a l. held-same p (getD (x .table) a Free) (getD (y .table) a Free) (λ name. place-same a name l)))), refl)
 
     refusal-same : (lent lentReply : ℕ) → messageRefusal ports lent lentReply x p requester (length payload) ≡ messageRefusal ports lent lentReply y p requester (length payload)
     unfolding messageRefusal
@@ -155,4 +190,4 @@ module _ (p : ℕ) (words other : List ℕ) (same : portsOf words ≡ portsOf ot
             performed-told (decoded ports p payload)
             (decoded-good ports p payload (message-goes ports lent lentReply y p requester (length payload) (eqb-true n 0 z) .2))
             (decoded-own ports p payload least most (ports-bounds words .1))
-        go false z = (refl, refl, λ seen. refl)
+        go false z = (refl, refl, (λ seen. refl), refl)

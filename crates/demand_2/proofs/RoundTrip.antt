@@ -17,8 +17,9 @@ use Rattle.filter_commands.specs.Changes.{wouldPass, Sound}
 use Rattle.pgn_list.proofs.Lists.{add-different}
 use Rattle.entries.proofs.Reported.{pgns-small, reported-back}
 use Rattle.filter_commands.proofs.Laws.{restored}
+use Rattle.network_message.specs.declared.judging.Judged.{Judged}
 use Rattle.network_message.specs.declared.Command.the-variants.{Refused, Request}
-use Rattle.network_message.specs.Decoding.{functionOf, pairOf, fromOf, toOf, isPair, allPorts, mayName, refusalOf, commandOf, answered, decoded, longest}
+use Rattle.network_message.specs.Decoding.{functionOf, pairOf, fromOf, toOf, isPair, allPorts, mayName, judged, commandOf, answered, decoded, longest}
 use Rattle.checks.specs.Ports.{isPort}
 use Rattle.checks.proofs.Ports.{port-bounds}
 use Rattle.network_message.specs.Commands.{reaches}
@@ -30,13 +31,12 @@ use Rattle.filter_commands.specs.declared.pairs.Question.the-variants.{IsNotCle
 use Rattle.filter_commands.specs.declared.pairs.Change.the-variants.{Creates}
 use Rattle.unit.specs.Count.{pairCount}
 use Rattle.unit.specs.Model.{Rest, Seen, pairAt, recordLength}
-use Rattle.list_commands.specs.Commands.{firstPair, names, anyBelow, anyNamed, holdsAt, listRefusal, listChecks, commanded}
+use Rattle.list_commands.specs.Commands.{IsPair, firstPair, names, anyBelow, anyNamed, holdsAt, listRefusal, listChecks, commanded}
 use Rattle.filter_commands.specs.Pairs.{holdsOf, changeOf}
 use Rattle.message_answers.specs.Messages.{Replied, performedBy}
 use Rattle.bridge.specs.Calls.{silentReply, messaged}
 use Rattle.refusals.specs.Refusals.{messageRefusal}
-use Rattle.demand_2.specs.Demand2.{IsPair}
-use Rattle.demand_2.proofs.Pairs.{names-is, target, target-pair, target-rank, target-at}
+use Rattle.list_commands.proofs.Ranks.{names-is, target, target-pair, target-rank, target-at}
 use Rattle.demand_2.proofs.Commands.{commanded-named}
 
 abbrev pairIn : ℕ → Rest → ℕ → ℕ → Filter
@@ -48,15 +48,15 @@ abbrev Reported : ℕ → Rest → List ℕ → Replied → Type 0
 Reported ports rest payload r = (seen : Seen) → r .written seen ≡ listReply (pairOf payload) (pairIn ports rest (fromOf (pairOf payload)) (toOf (pairOf payload)))
 
 module _ (ports : ℕ) (rest : Rest) (requester : ℕ) (payload : List ℕ) where
-  request-done : (n from to : ℕ) → performedBy ports rest requester payload (answered n (Request from to)) .number ≡ 0
-      → (seen : Seen) → performedBy ports rest requester payload (answered n (Request from to)) .written seen ≡ listReply (pairOf payload) (pairIn ports rest from to)
+  request-done : (j : Judged) (from to : ℕ) → performedBy ports rest requester payload (answered j (Request from to)) .number ≡ 0
+      → (seen : Seen) → performedBy ports rest requester payload (answered j (Request from to)) .written seen ≡ listReply (pairOf payload) (pairIn ports rest from to)
   unfolding performedBy
-  request-done n from to = go (eqb n 0) refl
+  request-done j from to = go (eqb (j .number) 0) refl
     where
-      go : (t : Bool) → eqb n 0 ≡ t → performedBy ports rest requester payload (cond t (Request from to) (Refused n)) .number ≡ 0
-          → (seen : Seen) → performedBy ports rest requester payload (cond t (Request from to) (Refused n)) .written seen ≡ listReply (pairOf payload) (pairIn ports rest from to)
+      go : (t : Bool) → eqb (j .number) 0 ≡ t → performedBy ports rest requester payload (cond t (Request from to) (Refused (j .number) (j .entry))) .number ≡ 0
+          → (seen : Seen) → performedBy ports rest requester payload (cond t (Request from to) (Refused (j .number) (j .entry))) .written seen ≡ listReply (pairOf payload) (pairIn ports rest from to)
       go true e z seen = refl
-      go false e z seen = absurd (eqb-false n 0 e z)
+      go false e z seen = absurd (eqb-false (j .number) 0 e z)
 
   pub request-reported : (lent lentReply port : ℕ) → functionOf payload ≡ 0 → messaged ports lent lentReply rest port requester payload .number ≡ 0 → Reported ports rest payload (messaged ports lent lentReply rest port requester payload)
   unfolding messaged decoded commandOf
@@ -68,7 +68,7 @@ module _ (ports : ℕ) (rest : Rest) (requester : ℕ) (payload : List ℕ) wher
       go : (t : Bool) → eqb n 0 ≡ t → cond t (performedBy ports rest requester payload (decoded ports port payload)) (silentReply n (rest .pairs)) .number ≡ 0
           → Reported ports rest payload (cond t (performedBy ports rest requester payload (decoded ports port payload)) (silentReply n (rest .pairs)))
       go true e h seen =
-          rw f (request-done (refusalOf ports port 0 (fromOf (pairOf payload)) (toOf (pairOf payload)) payload) (fromOf (pairOf payload)) (toOf (pairOf payload)) (rw f at h) seen)
+          rw f (request-done (judged ports port 0 (fromOf (pairOf payload)) (toOf (pairOf payload)) payload) (fromOf (pairOf payload)) (toOf (pairOf payload)) (rw f at h) seen)
       go false e h seen = absurd (eqb-false n 0 e h)
 
 -- ---- the Create

@@ -1,6 +1,6 @@
--- Demand 2, by the contracts of the functions alone. About any records: no frame goes back, claims and requests cross, what crosses is told with its reason, a command changes the pairs that it names, a tool sees its own.
--- About records that calls from power-on led to: a list that is reported and sent back is that list. Proved in proofs/Demand2.antt. The quoted words are
--- the customer's.
+-- Demand 2, by the contracts of the functions alone. About any records: no frame goes back, claims and requests cross, what crosses is told with its reason, a
+-- command changes the pairs that it names, a tool sees its own. About records that calls from power-on led to: a list that is reported and sent back is that
+-- list. Proved in proofs/Demand2.antt. The quoted words are the customer's.
 use mathlib.Core.Path.{_≡_}
 use mathlib.Core.Logic.{_⊎_, _↔_}
 use mathlib.Core.Bool.{Bool, true, false, not, _&&_, _||_, cond}
@@ -24,6 +24,7 @@ use Rattle.unit.specs.Count.{portsOf}
 use Rattle.unit.specs.Model.{Model, Rest, rowAt, pairAt, pairsFrom, modelOf}
 use Rattle.bridge.specs.Calls.{frameOf}
 use Rattle.unit.specs.Own.{framesSent}
+use Rattle.list_commands.specs.Commands.{IsPair}
 use Rattle.bridge.specs.Calls.{Call, frameDone}
 use Rattle.made.specs.Made.{Powered, Arrived, Handed}
 use Rattle.demand_3.specs.Demand3.{Made, Answer}
@@ -38,12 +39,6 @@ restOf words = unitIn words .rest
 -- the filter of the pair from port a to port b
 abbrev pub pairOn : List ℕ → ℕ → ℕ → Filter
 pairOn words a b = getD (restOf words .pairs) (pairAt (portsOf words) (a - 1) (b - 1)) clear
-
--- two ports that make a pair, in a unit of that many
-pub record IsPair (ports a b : ℕ) : Type 0 where
-  pub from : isPort ports a ≡ true
-  pub to : isPort ports b ≡ true
-  pub apart : a ≡ b → ⊥
 
 -- ---- "No frame is sent back to its arrival port."
 -- The row there is as it was, but for the unit's own frame, which asks no pair; and the arrival port is never named as accepted or lost.

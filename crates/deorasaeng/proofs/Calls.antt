@@ -142,7 +142,7 @@ module _ {ports : ℕ} {before : List ℕ} {port requester : ℕ} {payload reply
       record { number = rw S e; served = untouched n; writes = rw S; tells = rw (ne-eqb (length answer) messageLength h); called = λ z. absurd (h z) }
 
   pub message-done : {after back told : List ℕ} {a : MessageAnswer} → Messaging ports before after port requester payload reply back a → length answer ≡ messageLength
-      → told ≡ a .pgn ∷ a .length ∷ [] → MessageCall ports before after port requester payload reply back answer told (a .refusal)
+      → told ≡ a .pgn ∷ a .length ∷ a .told .entry ∷ a .told .to ∷ a .told .pgn ∷ [] → MessageCall ports before after port requester payload reply back answer told (a .refusal)
   unfolding refusal
   message-done {a = a} M e t =
       let S = replied-as ports (length before) (length answer) port (length reply) (modelOf ports before .rest) requester payload e in

@@ -80,7 +80,7 @@ pub record TakeCall (ports : ℕ) (before after : List ℕ) (port : ℕ) (answer
 
 -- ---- deorasaeng_message
 abbrev pub messageLength : ℕ
-messageLength = 2
+messageLength = 5
 
 -- 1, 2, 6, 7, 8: before the payload is read
 unfoldable pub messageNumber : ℕ → ℕ → ℕ → ℕ → Rest → ℕ → ℕ → ℕ → ℕ
@@ -91,16 +91,18 @@ messageNumber ports lent lentReply lentAnswer rest port requester size =
     ∷ check (not (isClaimed (rest .own .claim))) 6
     ∷ lateChecks requester size)
 
--- what the message does and is answered with: 9 to 17 are acknowledged, and nothing is written for the others
+-- what the message does and is answered with: 9 to 17 and 22 are acknowledged, and nothing is written for the others
 unfoldable pub repliedTo : ℕ → ℕ → ℕ → ℕ → Rest → ℕ → ℕ → List ℕ → Replied
 repliedTo ports lent lentReply lentAnswer rest port requester payload =
     cond (eqb (messageNumber ports lent lentReply lentAnswer rest port requester (length payload)) 0)
     (performedBy ports rest requester payload (decoded ports port payload))
     (silentReply (messageNumber ports lent lentReply lentAnswer rest port requester (length payload)) (rest .pairs))
 
--- PGN and length of what was written: a refusal fills them too, unless the answer itself is not of its length
+-- PGN and length of what was written, and which entry was wrong: its number, the To port, the PGN. A refusal fills them too, unless the answer itself is not of its
+-- length
 abbrev pub messageWords : Replied → Seen → List ℕ → List ℕ
-messageWords a seen answer = cond (notOf messageLength (length answer)) answer (a .pgn ∷ length (a .written seen) ∷ [])
+messageWords a seen answer =
+    cond (notOf messageLength (length answer)) answer (a .pgn ∷ length (a .written seen) ∷ a .told .entry ∷ a .told .to ∷ a .told .pgn ∷ [])
 
 -- the bytes that are written, and the others as they were
 abbrev pub over : List ℕ → List ℕ → List ℕ

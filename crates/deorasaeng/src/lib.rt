@@ -11,14 +11,14 @@ ghost use Rattle.bridge.specs.Calls.{Quieting};
 ghost use Rattle.deorasaeng.specs.Interface.{lentRefusal, FrameCall, TakeCall, MessageCall, StartCall, UnitCall, QueueCall};
 
 // The version of the interface, which the header names: it rises with every function, number or word that is added.
-pub const VERSION: u64 = 4;
+pub const VERSION: u64 = 5;
 
 // The published lengths of the answers.
 pub const FRAME_WORDS: usize = 8;
 
 pub const TAKE_WORDS: usize = 3;
 
-pub const MESSAGE_WORDS: usize = 2;
+pub const MESSAGE_WORDS: usize = 5;
 
 pub const START_WORDS: usize = 2;
 
@@ -119,6 +119,9 @@ pub extern "C" fn deorasaeng_message(
     let a = bridge::message(words, port, requester, payload, reply);
     answer[0] = a.pgn as u64;
     answer[1] = a.length as u64;
+    answer[2] = a.told.entry as u64;
+    answer[3] = a.told.to as u64;
+    answer[4] = a.told.pgn;
     a.refusal
 }
 

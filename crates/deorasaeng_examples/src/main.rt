@@ -100,8 +100,9 @@ fn take(record: &mut [u64], word: &[u8], port: u32) {
     text(b"\n");
 }
 
+// A refusal fills the answer too, which had 9 in every word.
 fn message(record: &mut [u64], word: &[u8], port: u32, payload: &[u8]) {
-    let mut answer = [0u64; deorasaeng::MESSAGE_WORDS];
+    let mut answer = [9u64; deorasaeng::MESSAGE_WORDS];
     let mut reply = [0u8; refusals::LONGEST_MESSAGE];
     head(
         word,
@@ -148,6 +149,45 @@ fn list_is_made(record: &mut [u64]) {
     message(record, b"P6", 1, b"\x00\x12\xFF\xFF\xFF\xFF\xFF\xFF");
     message(record, b"P7", 3, b"\x00\x12\xFF\xFF\xFF\xFF\xFF\xFF");
     message(record, b"P8", 1, b"\x02\x11\xF1\xFE\x00\xFF\xFF\xFF");
+}
+
+// P9, and an entry that is not the first: with 22 its number from 1 is told. Of a message at a port that is not there 0 is.
+fn wrong_entries(record: &mut [u64]) {
+    message(record, b"P9", 1, b"\x02\x12\xFF\xFF\xFF\xFF\xFF\xFF");
+    message(
+        record,
+        b"second entry",
+        1,
+        b"\x02\x12\xF1\xFE\x00\x00\xFE\xF1",
+    );
+    message(
+        record,
+        b"message at port 5",
+        5,
+        b"\x02\x12\xFF\xFF\xFF\xFF\xFF\xFF",
+    );
+}
+
+// The pairs from 4 have 65265, that to 1 has 65266 too: with 17 the number of the entry is told, the To port of the first pair that lacks it, and the PGN.
+fn absent_entry(record: &mut [u64]) {
+    message(
+        record,
+        b"Create from 4",
+        1,
+        b"\x06\x4F\x00\xF1\xFE\x00\xFF\xFF",
+    );
+    message(
+        record,
+        b"Add from 4 to 1",
+        1,
+        b"\x02\x41\xF2\xFE\x00\xFF\xFF\xFF",
+    );
+    message(
+        record,
+        b"Delete from 4",
+        1,
+        b"\x03\x4F\xF1\xFE\x00\xF2\xFE\x00",
+    );
 }
 
 // P10 with what leaves.
@@ -256,6 +296,8 @@ fn claimed(record: &mut [u64]) {
 fn examples(record: &mut [u64]) {
     wrong_frames(record);
     list_is_made(record);
+    wrong_entries(record);
+    absent_entry(record);
     list_stops(record);
     ranks_join(record);
     ranks_leave(record);

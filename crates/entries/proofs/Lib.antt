@@ -1,3 +1,4 @@
+pub mod Leading
 pub mod Listed
 mod ThreeBytes
 pub mod Reported

@@ -1,14 +1,16 @@
 -- What is listed, and a test that holds of every entry. By induction on the lists. Assumes nothing.
 use mathlib.Core.Path.{_≡_, refl, sym, _∙_}
-use mathlib.Core.Bool.{Bool, true, false, _||_, or-assoc}
+use mathlib.Core.Bool.{Bool, true, false, cond, _||_, or-assoc}
 use mathlib.Core.List.{List, [], _∷_, _++_}
-use Prim.Native.Nat.{ℕ, _+_, _<_}
+use Prim.Native.Nat.{ℕ, suc, _+_, _<_}
+use native.Mathlib.Omega.{arith}
 use borrow.Author.Tests.{eq-eqb, ne-eqb, eqb-true, eqb-false}
 use lib.Dec.{eqb}
 use lib.ListN.{length, getD}
 use Rattle.checks.proofs.Tests.{both}
 use Rattle.storage.proofs.Walk.{Left, left-next, left-one}
-use Rattle.entries.specs.Entries.{listed, every}
+use Rattle.entries.specs.Entries.{listed, every, entriesOf, whole, wellFormed, leading, firstWrong}
+use Rattle.identifier.specs.Identifier.{isPgn}
 
 pub same-test : (x y : ℕ) → eqb x y ≡ eqb y x
 same-test x y = go (eqb x y) refl
@@ -42,3 +44,12 @@ pub every-weaker : (test other : ℕ → Bool) → ((x : ℕ) → test x ≡ tru
 unfolding every
 every-weaker test other w [] h = refl
 every-weaker test other w (e ∷ es) h = let p = both (test e) (every test es) h in rw (w e (p .0)) (every-weaker test other w es (p .1))
+
+-- bytes that neither 12 nor 22 refuses are well formed
+pub formed : (bytes : List ℕ) → whole bytes ≡ true → firstWrong (entriesOf bytes) ≡ 0 → wellFormed bytes ≡ true
+unfolding wellFormed firstWrong
+formed bytes w z = rw w (go (every isPgn (entriesOf bytes)) refl z)
+  where
+    go : (b : Bool) → every isPgn (entriesOf bytes) ≡ b → cond b 0 (suc (leading isPgn (entriesOf bytes))) ≡ 0 → every isPgn (entriesOf bytes) ≡ true
+    go true e z = e
+    go false e z = absurd (omega arith)

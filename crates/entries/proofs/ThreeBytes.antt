@@ -1,18 +1,19 @@
--- Entries, three bytes each: the one at an index is the number at three times the index, and bytes are well formed one entry after the other. Assumes nothing.
-use mathlib.Core.Path.{_≡_, refl, _∙_}
-use mathlib.Core.Bool.{Bool, true, false, cond, _&&_, and-false}
+-- Entries, three bytes each: the one at an index is the number at three times the index, and the first that is no PGN. Assumes nothing.
+use mathlib.Core.Path.{_≡_, refl, sym, _∙_}
+use mathlib.Core.Bool.{Bool, true, false, cond}
 use mathlib.Core.List.{List, [], _∷_}
-use Prim.Native.Nat.{ℕ, zero, suc, _+_, _*_, _/_, _%_, _≤_, _<_}
-use native.Mathlib.Nat.{not-suc-le-zero, le-of-suc-le-suc}
+use Prim.Native.Nat.{ℕ, zero, suc, _+_, _*_, _/_, _≤_, _<_}
+use native.Mathlib.Nat.{not-suc-le-zero, le-of-suc-le-suc, zero-add, add-suc, suc-add}
+use native.Mathlib.Numerals.{add-one}
 use native.Mathlib.Omega.{arith}
-use borrow.Author.Tests.{le-leb, lt-leb, leb-true, leb-false}
-use lib.Dec.{eqb, leb}
-use lib.ListN.{length, getD, take, drop, length-drop}
-use lib.Seq.{drop-drop}
-use Rattle.storage.specs.Bytes.{packed, Packing}
+use borrow.Author.Tests.{le-leb, lt-leb}
+use lib.Dec.{leb}
+use lib.ListN.{length, getD, drop}
+use Rattle.storage.specs.Bytes.{Packing}
+use Rattle.storage.proofs.Walk.{Left, left-all, left-next, left-one, left-none}
 use Rattle.identifier.specs.Identifier.{isPgn}
 use Rattle.entries.specs.declared.Entry.the-variants.{Pgn, Wrong}
-use Rattle.entries.specs.Entries.{threeAt, entriesOf, entryAt, every, wellFormed}
+use Rattle.entries.specs.Entries.{threeAt, entriesOf, entryAt, every, leading, firstWrong}
 
 -- ---- how many, and which
 pub entries-count : (bytes : List ℕ) → length (entriesOf bytes) ≡ length bytes / 3
@@ -41,45 +42,39 @@ pub entry-read : {bytes : List ℕ} {at r : ℕ} (b : Bool) → at + 3 ≤ lengt
 unfolding entryAt
 entry-read {bytes} {at} b h R e = rw (le-leb (at + 3) (length bytes) h, ← (R .number), e)
 
--- ---- well formed, one entry after the other
-formed-short : (bytes : List ℕ) → 0 < length bytes → length bytes < 3 → wellFormed bytes ≡ false
-unfolding wellFormed
-formed-short [] h l = absurd (not-suc-le-zero h)
-formed-short (a ∷ []) h l = refl
-formed-short (a ∷ b ∷ []) h l = refl
-formed-short (a ∷ b ∷ c ∷ bytes) h l = absurd (omega arith)
+-- ---- the first that is no PGN: after i PGNs the number v is told by those that are left
+abbrev pub Judged : ℕ → List ℕ → ℕ → Type 0
+Judged v xs i = Left v (λ es. cond (every isPgn es) 0 (suc (i + leading isPgn es))) xs i
 
-swap : (p q r : Bool) → (q && (p && r)) ≡ (p && (q && r))
-swap true q r = refl
-swap false q r = and-false q
+pub judged-none : (xs : List ℕ) → Judged (firstWrong xs) xs 0
+unfolding firstWrong
+judged-none xs = left-all (rw (zero-add (leading isPgn xs)))
 
-formed-cons : (bytes : List ℕ) → 3 ≤ length bytes → wellFormed bytes ≡ (isPgn (packed (take 3 bytes)) && wellFormed (drop 3 bytes))
-unfolding wellFormed entriesOf every
-formed-cons [] h = absurd (not-suc-le-zero h)
-formed-cons (a ∷ []) h = absurd (omega arith)
-formed-cons (a ∷ b ∷ []) h = absurd (omega arith)
-formed-cons (a ∷ b ∷ c ∷ bytes) h =
-    let e : suc (suc (suc (length bytes))) % 3 ≡ length bytes % 3 = omega arith in
-    rw e (swap (isPgn (packed (a ∷ b ∷ c ∷ []))) (eqb (length bytes % 3) 0) (every isPgn (entriesOf bytes)))
+module _ (bytes : List ℕ) {v i : ℕ} (J : Judged v (entriesOf bytes) i) (turn : i < length (entriesOf bytes)) where
+  room : 3 * i + 3 ≤ length bytes
+  room = omega (arith, entries-count bytes)
 
-module _ (bytes : List ℕ) (at : ℕ) where
-  formed-at : at + 3 ≤ length bytes → wellFormed (drop at bytes) ≡ (isPgn (threeAt bytes at) && wellFormed (drop (at + 3) bytes))
-  formed-at h = formed-cons (drop at bytes) (omega (arith, length-drop at bytes)) ∙ rw (drop-drop 3 at bytes)
-
-  pub formed-on : {p : ℕ} → entryAt bytes at ≡ Pgn p → (at + 3 ≤ length bytes) × (wellFormed (drop at bytes) ≡ wellFormed (drop (at + 3) bytes))
+  -- what the reader says of entry i
+  told : (b : Bool) → isPgn (threeAt bytes (3 * i)) ≡ b → entryAt bytes (3 * i) ≡ cond b (Pgn (threeAt bytes (3 * i))) Wrong
   unfolding entryAt
-  formed-on {p} e = go (leb (at + 3) (length bytes)) (isPgn (threeAt bytes at)) refl refl e
-    where
-      go : (a b : Bool) → leb (at + 3) (length bytes) ≡ a → isPgn (threeAt bytes at) ≡ b → cond (a && b) (Pgn (threeAt bytes at)) Wrong ≡ Pgn p → (at + 3 ≤ length bytes) × (wellFormed (drop at bytes) ≡ wellFormed (drop (at + 3) bytes))
-      go true true la lb e = let h = leb-true (at + 3) (length bytes) la in (h, formed-at h ∙ rw lb)
-      go true false la lb e = let z : _≡_ {A = ℕ} 0 1 = cc in absurd (omega arith)
-      go false b la lb e = let z : _≡_ {A = ℕ} 0 1 = cc in absurd (omega arith)
+  told b e = rw (le-leb (3 * i + 3) (length bytes) room, e)
 
-  pub formed-wrong : at < length bytes → entryAt bytes at ≡ Wrong → wellFormed (drop at bytes) ≡ false
-  unfolding entryAt
-  formed-wrong h e = go (leb (at + 3) (length bytes)) (isPgn (threeAt bytes at)) refl refl e
+  pub judged-pgn : {p : ℕ} → entryAt bytes (3 * i) ≡ Pgn p → Judged v (entriesOf bytes) (i + 1)
+  unfolding every leading
+  judged-pgn {p} e = go (isPgn (threeAt bytes (3 * i))) refl
     where
-      go : (a b : Bool) → leb (at + 3) (length bytes) ≡ a → isPgn (threeAt bytes at) ≡ b → cond (a && b) (Pgn (threeAt bytes at)) Wrong ≡ Wrong → wellFormed (drop at bytes) ≡ false
-      go true true la lb e = let z : _≡_ {A = ℕ} 0 1 = cc in absurd (omega arith)
-      go true false la lb e = formed-at (leb-true (at + 3) (length bytes) la) ∙ rw lb
-      go false b la lb e = formed-short (drop at bytes) (omega (arith, length-drop at bytes)) (omega (arith, length-drop at bytes, leb-false (at + 3) (length bytes) la))
+      go : (b : Bool) → isPgn (threeAt bytes (3 * i)) ≡ b → Judged v (entriesOf bytes) (i + 1)
+      go true is = left-one J turn (rw (entry-is bytes i turn, is, add-suc i (leading isPgn (drop (i + 1) (entriesOf bytes))), add-one i, suc-add i (leading isPgn (drop (suc i) (entriesOf bytes)))))
+      go false is = let w = sym (told false is) ∙ e in let z : _≡_ {A = ℕ} 0 1 = cc in absurd (omega arith)
+
+  pub judged-wrong : entryAt bytes (3 * i) ≡ Wrong → i + 1 ≡ v
+  unfolding every leading
+  judged-wrong e = go (isPgn (threeAt bytes (3 * i))) refl
+    where
+      go : (b : Bool) → isPgn (threeAt bytes (3 * i)) ≡ b → i + 1 ≡ v
+      go true is = let w = sym (told true is) ∙ e in let z : _≡_ {A = ℕ} 0 1 = cc in absurd (omega arith)
+      go false is = sym (left-next J turn ∙ rw (entry-is bytes i turn, is) (omega arith))
+
+pub judged-all : {xs : List ℕ} {v i : ℕ} → Judged v xs i → length xs ≤ i → 0 ≡ v
+unfolding every
+judged-all J done = sym (left-none J done)

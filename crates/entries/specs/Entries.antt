@@ -1,6 +1,6 @@
 -- The entries of a command: three bytes to a PGN, least significant first.
 -- Assumes nothing.
-use Prim.Native.Nat.{ℕ, _+_, _%_}
+use Prim.Native.Nat.{ℕ, suc, _+_, _%_}
 use mathlib.Core.Bool.{Bool, true, false, cond, _&&_, _||_}
 use mathlib.Core.List.{List, [], _∷_, _++_}
 use lib.ListN.{length, take, drop}
@@ -25,10 +25,10 @@ threeAt bytes at = packed (take 3 (drop at bytes))
 unfoldable pub entryAt : List ℕ → ℕ → Entry
 entryAt bytes at = cond (leb (at + 3) (length bytes) && isPgn (threeAt bytes at)) (Pgn (threeAt bytes at)) Wrong
 
--- what an entry is by document 01's numbers: none, or 12
+-- what an entry is by the rules' numbers: none, or 22 (document 02, ticket 2)
 abbrev pub entryNumber : Entry → ℕ
 entryNumber (Pgn pgn) = 0
-entryNumber Wrong = 12
+entryNumber Wrong = 22
 
 -- whether x is in a list
 unfoldable pub listed : ℕ → List ℕ → Bool
@@ -40,13 +40,22 @@ unfoldable pub every : (ℕ → Bool) → List ℕ → Bool
 every test [] = true
 every test (x ∷ xs) = test x && every test xs
 
--- bytes that "hold entries to the last byte", each of them a PGN
-unfoldable pub wellFormed : List ℕ → Bool
-wellFormed bytes = eqb (length bytes % 3) 0 && every isPgn (entriesOf bytes)
+-- bytes that "hold entries to the last byte"
+abbrev pub whole : List ℕ → Bool
+whole bytes = eqb (length bytes % 3) 0
 
--- the number that refuses bytes which do not, or 0
-unfoldable pub entriesRefusal : List ℕ → ℕ
-entriesRefusal bytes = cond (wellFormed bytes) 0 (entryNumber Wrong)
+-- and each of them a PGN: what neither 12 nor 22 refuses
+unfoldable pub wellFormed : List ℕ → Bool
+wellFormed bytes = whole bytes && every isPgn (entriesOf bytes)
+
+-- how many stand before the first for which a test fails
+unfoldable pub leading : (ℕ → Bool) → List ℕ → ℕ
+leading test [] = 0
+leading test (x ∷ xs) = cond (test x) (suc (leading test xs)) 0
+
+-- ticket 2: "the first such entry's number from 1", 0 where each is a PGN
+unfoldable pub firstWrong : List ℕ → ℕ
+firstWrong xs = cond (every isPgn xs) 0 (suc (leading isPgn xs))
 
 -- function 0: the bytes that report a list
 unfoldable pub reported : List ℕ → List ℕ

@@ -3,7 +3,7 @@ ghost use mathlib.Core.Path.{_≡_};
 ghost use Prim.Native.Nat.{_+_, _≤_, _<_};
 ghost use lib.ListN.{length, getD};
 ghost use Rattle.storage.specs.Bytes.{Packing};
-ghost use Rattle.entries.specs.Entries.{listed, entriesOf, entryAt, entriesRefusal};
+ghost use Rattle.entries.specs.Entries.{listed, entriesOf, entryAt, whole, firstWrong};
 
 // The bytes of an entry.
 pub const ENTRY_SIZE: usize = 3;
@@ -58,16 +58,24 @@ pub fn read_entry(bytes: &[u8], at: usize) -> Entry
     }
 }
 
-// The number that refuses bytes which are not entries to the last one, each of them a PGN; or 0.
-pub fn refusal(bytes: &[u8]) -> u32
-    ensures { λ r. ⌜ r ≡ entriesRefusal (now (bytes .entry)) ⌝ }
+// Whether bytes are entries to the last one.
+pub fn is_whole(bytes: &[u8]) -> bool
+    ensures { λ r. ⌜ r ≡ whole (now (bytes .entry)) ⌝ }
 {
-    let mut at = 0;
-    while at < bytes.len() {
-        let Entry::Pgn(_) = read_entry(bytes, at) else {
-            return 12;
+    bytes.len() % ENTRY_SIZE == 0
+}
+
+// The number from 1 of the first entry that is no PGN, or 0.
+pub fn first_wrong(bytes: &[u8]) -> usize
+    ensures { λ r. ⌜ r ≡ firstWrong (entriesOf (now (bytes .entry))) ⌝ }
+{
+    let end = count(bytes);
+    let mut i = 0;
+    while i < end {
+        let Entry::Pgn(_) = read_entry(bytes, ENTRY_SIZE * i) else {
+            return i + 1;
         };
-        at += ENTRY_SIZE;
+        i += 1;
     }
     0
 }

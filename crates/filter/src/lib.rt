@@ -4,6 +4,7 @@ ghost use mathlib.Core.Path.{_≡_};
 ghost use mathlib.Core.List.{List};
 ghost use Prim.Native.Nat.{ℕ, _<_};
 ghost use lib.ListN.{length, getD};
+ghost use Rattle.entries.specs.Entries.{listed};
 ghost use Rattle.filter.specs.Filter.{blockSize, meant, filterOf, isCleared, reportedMode, isPermanent, reasonOf, crosses, reasonNumber, Asking, Counting};
 
 // The words of a block.
@@ -113,6 +114,15 @@ pub fn pgn_at(block: &[u64], i: usize) -> u64
 {
     let at = LIST + i;
     block[at]
+}
+
+// Whether the list holds a PGN.
+pub fn lists(block: &[u64], pgn: u64) -> bool
+    requires { ⌜ length (now block) ≡ blockSize ⌝ }
+    ensures { λ r. ⌜ r ≡ listed pgn (filterOf (now (block .entry)) .entries) ⌝ }
+{
+    let n = count(block);
+    pgn_list::find(&block[LIST..LIST_END], n, pgn) != n
 }
 
 // Whether a PGN is permanent: address claims and requests cross every pair.

@@ -153,14 +153,18 @@ fn clear(block: &mut [u64]) {
     outcome(block, true, 0);
 }
 
-// Whether bytes are entries.
+// Whether bytes are entries; if not, why, with 22 which one is wrong.
 fn entries(text: &[u8], bytes: &[u8]) {
     say(text);
-    if entries::refusal(bytes) == 0 {
-        say(b": entries\n");
+    let wrong = entries::first_wrong(bytes);
+    if !entries::is_whole(bytes) {
+        say(b": refused with 12");
+    } else if wrong != 0 {
+        number(b": refused with 22, entry ", wrong as u64);
     } else {
-        say(b": refused with 12\n");
+        say(b": entries");
     }
+    say(b"\n");
 }
 
 // The PGNs 65280, 65281 and on.
@@ -265,6 +269,9 @@ fn three_bytes() {
     entries(b"FF FF FF", &filling);
     let destination = [0x2A, 0xEF, 0x00];
     entries(b"2A EF 00", &destination);
+    let second = [0xF1, 0xFE, 0x00, 0x2A, 0xEF, 0x00];
+    entries(b"F1 FE 00 2A EF 00", &second);
+    entries(b"F1 FE 00 2A EF", &second[0..5]);
 }
 
 // The cases, one after the other on one pair.

@@ -1,5 +1,5 @@
 // A frame's call put together from its parts, beside the call itself: the same frames go to two units, to one whole and to the other part by part, and after
-// each the answers and every word of the two records are compared. So with two, with eight and with four ports.
+// each the answers and every word of the two records are compared. So with two, with eight and with four ports. Then what each part refuses.
 use address_claims::Event;
 use bridge::FrameAnswer;
 use bridge::Unit;
@@ -32,9 +32,9 @@ fn text(word: &[u8]) {
     io::write_all(STDOUT_FILENO, word);
 }
 
-fn number(word: &[u8], n: u32) {
+fn number(word: &[u8], n: u64) {
     text(word);
-    io::print_decimal(STDOUT_FILENO, n as u64);
+    io::print_decimal(STDOUT_FILENO, n);
 }
 
 fn none() -> Crossing {
@@ -206,43 +206,6 @@ fn same_words(a: &[u64], b: &[u64]) -> bool {
     true
 }
 
-fn print_answer(a: FrameAnswer) {
-    number(b" refusal ", a.refusal);
-    if a.consumed {
-        text(b" consumed");
-    }
-    number(b" accepted ", a.accepted);
-    number(b" lost ", a.lost);
-    let e = a.event;
-    number(b" event ", e.number());
-    number(b" own lost ", a.unsent);
-    number(b" compared ", a.compared);
-    text(b" reasons ");
-    io::print_hex(STDOUT_FILENO, a.reasons, 8);
-}
-
-// A frame on both units, and its line.
-fn frame(whole: &mut [u64], parts: &mut [u64], port: u32, id: u32, bytes: &[u8]) {
-    let a = bridge::frame(whole, port, id, bytes);
-    let b = frame_by_parts(parts, port, id, bytes);
-    text(b"frame ");
-    io::print_hex(STDOUT_FILENO, id as u64, 8);
-    number(b" from ", port);
-    text(b":");
-    print_answer(a);
-    if same_answer(a, b) {
-        text(b"; the parts answer the same");
-    } else {
-        text(b"; the parts answer");
-        print_answer(b);
-    }
-    if same_words(whole, parts) {
-        text(b", the records are the same\n");
-    } else {
-        text(b", the records DIFFER\n");
-    }
-}
-
 // ---- frames by number
 // What came of them.
 struct Tally {
@@ -250,6 +213,7 @@ struct Tally {
     consumed: u64,
     accepted: u64,
     lost: u64,
+    listed: u64,
     events: u64,
     own_lost: u64,
     differ: u64,
@@ -270,6 +234,7 @@ fn tallied(t: Tally, a: FrameAnswer, same: bool) -> Tally {
         consumed: counted(t.consumed, a.consumed),
         accepted: counted(t.accepted, a.accepted != 0),
         lost: counted(t.lost, a.lost != 0),
+        listed: counted(t.listed, a.compared != 0),
         events: counted(t.events, e.number() != 0),
         own_lost: counted(t.own_lost, a.unsent != 0),
         differ: counted(t.differ, !same),
@@ -277,20 +242,14 @@ fn tallied(t: Tally, a: FrameAnswer, same: bool) -> Tally {
 }
 
 fn print_tally(t: Tally) {
-    text(b"refused ");
-    io::print_decimal(STDOUT_FILENO, t.refused);
-    text(b", consumed ");
-    io::print_decimal(STDOUT_FILENO, t.consumed);
-    text(b", accepted ");
-    io::print_decimal(STDOUT_FILENO, t.accepted);
-    text(b", lost ");
-    io::print_decimal(STDOUT_FILENO, t.lost);
-    text(b", with an event ");
-    io::print_decimal(STDOUT_FILENO, t.events);
-    text(b", own frame lost ");
-    io::print_decimal(STDOUT_FILENO, t.own_lost);
-    text(b"; DIFFERENT BY PARTS: ");
-    io::print_decimal(STDOUT_FILENO, t.differ);
+    number(b"frames by number: refused ", t.refused);
+    number(b", consumed ", t.consumed);
+    number(b", accepted ", t.accepted);
+    number(b", lost ", t.lost);
+    number(b", compared with a list ", t.listed);
+    number(b", with an event ", t.events);
+    number(b", own frame lost ", t.own_lost);
+    number(b"; DIFFERENT BY PARTS: ", t.differ);
     text(b"\n");
 }
 
@@ -394,6 +353,7 @@ fn run(whole: &mut [u64], parts: &mut [u64]) -> Tally {
         consumed: 0,
         accepted: 0,
         lost: 0,
+        listed: 0,
         events: 0,
         own_lost: 0,
         differ: 0,
@@ -412,9 +372,9 @@ fn run(whole: &mut [u64], parts: &mut [u64]) -> Tally {
 // What the parts that read give for these arguments.
 fn read_numbers(words: &[u64], from: u32, to: u32, id: u32, bytes: &[u8]) {
     let arrived = frame_parts::arrive(words, from, id, bytes);
-    number(b": arrive ", arrived.refusal);
+    number(b": arrive ", arrived.refusal as u64);
     let asked = frame_parts::ask(words, from, to, id);
-    number(b", ask ", asked.refusal);
+    number(b", ask ", asked.refusal as u64);
 }
 
 // What those give that change the record.
@@ -422,118 +382,94 @@ fn change_numbers(words: &mut [u64], from: u32, to: u32, f: Frame) {
     let joined = frame_parts::join(words, from, to, f);
     let acted = frame_parts::act(words, from, false, f);
     let own = frame_parts::announce(words, Sent::Nothing);
-    number(b", join ", joined.refusal);
-    number(b", act ", acted.refusal);
-    number(b", announce ", own.refusal);
+    number(b", join ", joined.refusal as u64);
+    number(b", act ", acted.refusal as u64);
+    number(b", announce ", own.refusal as u64);
+}
+
+fn print_arguments(from: u32, to: u32, id: u32, len: u32) {
+    number(b"from ", from as u64);
+    number(b" to ", to as u64);
+    text(b" id ");
+    io::print_hex(STDOUT_FILENO, id as u64, 8);
+    number(b" length ", len as u64);
 }
 
 // And what the whole call gives.
-fn numbers(words: &mut [u64], from: u32, to: u32, id: u32, bytes: &[u8], len: u32) {
-    number(b"from ", from);
-    number(b" to ", to);
-    text(b" id ");
-    io::print_hex(STDOUT_FILENO, id as u64, 8);
-    number(b" length ", len);
-    read_numbers(words, from, to, id, bytes);
-    change_numbers(words, from, to, Frame { id, len, bytes: 0 });
+fn whole_number(words: &mut [u64], from: u32, id: u32, bytes: &[u8]) {
     let whole = bridge::frame(words, from, id, bytes);
-    number(b"; the whole call ", whole.refusal);
+    number(b"; the whole call ", whole.refusal as u64);
     text(b"\n");
+}
+
+fn numbers(words: &mut [u64], from: u32, to: u32, id: u32, len: u32)
+    requires { ⌜ len ≤ 9 ⌝ }
+{
+    let bytes = [0u8; 9];
+    let n = len as usize;
+    print_arguments(from, to, id, len);
+    read_numbers(words, from, to, id, &bytes[0..n]);
+    change_numbers(words, from, to, Frame { id, len, bytes: 0 });
+    whole_number(words, from, id, &bytes[0..n]);
 }
 
 fn wrong_ports(words: &mut [u64]) {
-    let eight = [0u8; 8];
-    let nine = [0u8; 9];
-    numbers(words, 1, 2, 0x0CF00427, &eight, 8);
-    numbers(words, 2, 2, 0x0CF00427, &eight, 8);
-    numbers(words, 0, 2, 0x20F004FF, &nine, 9);
-    numbers(words, 1, 5, 0x20F004FF, &nine, 9);
+    numbers(words, 1, 2, 0x0CF00427, 8);
+    numbers(words, 2, 2, 0x0CF00427, 8);
+    numbers(words, 0, 2, 0x20F004FF, 9);
+    numbers(words, 1, 5, 0x20F004FF, 9);
 }
 
 fn wrong_frames(words: &mut [u64]) {
-    let eight = [0u8; 8];
-    let nine = [0u8; 9];
-    numbers(words, 1, 2, 0x20F004FF, &nine, 9);
-    numbers(words, 1, 2, 0x0CF004FF, &nine, 9);
-    numbers(words, 1, 2, 0x0CF004FF, &eight, 8);
-    numbers(words, 1, 2, 0x0CF004FE, &eight, 8);
+    numbers(words, 1, 2, 0x20F004FF, 9);
+    numbers(words, 1, 2, 0x0CF004FF, 9);
+    numbers(words, 1, 2, 0x0CF004FF, 8);
+    numbers(words, 1, 2, 0x0CF004FE, 8);
+}
+
+// On a record, and on one that is a word short.
+fn refusals() {
+    let mut record = [0u64; Unit::RECORD_LENGTH];
+    let mut short = [0u64; Unit::RECORD_LENGTH - 1];
+    text(b"refused with, on the record:\n");
+    wrong_ports(&mut record);
+    wrong_frames(&mut record);
+    text(b"on a record that is a word short:\n");
+    wrong_ports(&mut short);
 }
 
 // ---- a unit with lists
-fn command(words: &mut [u64], payload: &[u8]) {
+// A pair's list of one PGN is created; mode 1 passes it alone, mode 0 blocks it.
+fn create(words: &mut [u64], pair: u8, mode: u8, low: u8, high: u8) {
     let mut reply = [0u8; 1785];
-    let a = bridge::message(words, 1, 0x21, payload, &mut reply);
-    number(b" ", a.refusal);
+    let payload = [6, pair, mode, low, high, 0, 0xFF, 0xFF];
+    let a = bridge::message(words, 1, 0x21, &payload, &mut reply);
+    number(b" ", a.refusal as u64);
 }
 
-// Power-on, Start, Quiet; pair 1 to 2 passes 65265 alone, 1 to 3 blocks 61444, 2 to 1 blocks 65265.
-fn key_on(words: &mut [u64], ports: u32) {
-    number(b"key on with ", ports);
-    number(
-        b" ports: ",
-        Unit::power_on_ports(words, NAME, ADDRESS, ports),
-    );
-    let a = bridge::start(words);
-    number(b" ", a.refusal);
-    number(b" ", bridge::quiet(words));
-    command(words, b"\x06\x12\x01\xF1\xFE\x00\xFF\xFF");
-    command(words, b"\x06\x13\x00\x04\xF0\x00\xFF\xFF");
-    command(words, b"\x06\x21\x00\xF1\xFE\x00\xFF\xFF");
+// Pair 1 to 2 passes 65265 alone, 1 to 3 blocks 61444, 2 to 1 blocks 65265.
+fn create_lists(words: &mut [u64]) {
+    create(words, 0x12, 1, 0xF1, 0xFE);
+    create(words, 0x13, 0, 0x04, 0xF0);
+    create(words, 0x21, 0, 0xF1, 0xFE);
     text(b"\n");
 }
 
-// Frames that lists stop or pass.
-fn listed(whole: &mut [u64], parts: &mut [u64]) {
-    frame(whole, parts, 1, 0x18FEF126, b"\x01");
-    frame(whole, parts, 1, 0x0CF00426, b"\x01\x02");
-    frame(whole, parts, 2, 0x18FEF126, b"\x01");
+// Power-on, Start, Quiet, and the lists.
+fn key_on(words: &mut [u64], ports: u32) {
+    number(b"key on with ", ports as u64);
+    let on = Unit::power_on_ports(words, NAME, ADDRESS, ports);
+    number(b" ports: ", on as u64);
+    let a = bridge::start(words);
+    number(b" ", a.refusal as u64);
+    number(b" ", bridge::quiet(words) as u64);
+    create_lists(words);
 }
 
-// A frame for the unit, a claim of another's address and one of the unit's.
-fn acted_on(whole: &mut [u64], parts: &mut [u64]) {
-    frame(whole, parts, 2, 0x18EF5026, b"\x01\x02");
-    frame(
-        whole,
-        parts,
-        3,
-        0x18EEFF26,
-        b"\x21\x00\x00\x00\x00\x00\x00\x80",
-    );
-    frame(
-        whole,
-        parts,
-        4,
-        0x18EEFF50,
-        b"\x00\x00\x00\x00\x00\x00\x00\xB0",
-    );
-}
-
-// A request to all, and two frames that are refused.
-fn others(whole: &mut [u64], parts: &mut [u64]) {
-    frame(whole, parts, 3, 0x18EAFFFE, b"\x00\xEE\x00");
-    frame(whole, parts, 5, 0x18FEF126, b"\x01");
-    frame(
-        whole,
-        parts,
-        1,
-        0x18FEF1FF,
-        b"\x01\x02\x03\x04\x05\x06\x07\x08\x09",
-    );
-}
-
-// The frames on two units.
-fn frames(whole: &mut [u64], parts: &mut [u64]) {
-    listed(whole, parts);
-    acted_on(whole, parts);
-    others(whole, parts);
-}
-
-// The same on two units of that many ports.
+// Two units of that many ports.
 fn morning(whole: &mut [u64], parts: &mut [u64], ports: u32) {
     key_on(whole, ports);
     key_on(parts, ports);
-    frames(whole, parts);
-    text(b"frames by number: ");
     print_tally(run(whole, parts));
 }
 
@@ -549,18 +485,15 @@ fn eight_ports() {
     morning(&mut record, &mut other, 8);
 }
 
+fn four_ports() {
+    let mut record = [0u64; Unit::RECORD_LENGTH];
+    let mut other = [0u64; Unit::RECORD_LENGTH];
+    morning(&mut record, &mut other, 4);
+}
+
 fn main() {
     two_ports();
     eight_ports();
-    let mut record = [0u64; Unit::RECORD_LENGTH];
-    let mut other = [0u64; Unit::RECORD_LENGTH];
-    let mut short = [0u64; Unit::RECORD_LENGTH - 1];
-    let whole: &mut [u64] = &mut record;
-    let parts: &mut [u64] = &mut other;
-    morning(whole, parts, 4);
-    text(b"refused with, on the record:\n");
-    wrong_ports(parts);
-    wrong_frames(parts);
-    text(b"on a record that is a word short:\n");
-    wrong_ports(&mut short);
+    four_ports();
+    refusals();
 }

@@ -11,7 +11,8 @@
    docs/INTEGRATION.md has the loop of a box, interrupts, locking and stack.
 
    An answer is lent storage of the length given below, in words; another length is number 2. On a refusal it is left as it was (deorasaeng_message says
-   where not). Where several numbers apply the lowest is given, so 1 stands before 2 and 2 before every other; at deorasaeng_start 18 stands before 8.
+   where not). Where several numbers apply the lowest is given, so 1 stands before 2 and 2 before every other; but 22 stands directly after 12, and at deorasaeng_start 18
+   before 8.
    A unit has the number of ports that its power-on was given, four where none was: every call reads it in the record. Ports are 1 to that number. Ports in an answer
    are a mask of eight bits: bit p - 1 for port p. */
 #ifndef DEORASAENG_H
@@ -26,7 +27,7 @@ extern "C" {
 
 /* The version of this interface. A version may add functions, numbers, and words at the end of an answer, whose published length then grows: a call that lends
    the old length is refused with 2. So callers are compiled again with the header of the library that they link. */
-#define DEORASAENG_VERSION 4
+#define DEORASAENG_VERSION 5
 
 /* What a function gives back: 0 for done, else why the call is refused. */
 enum deorasaeng_number {
@@ -42,13 +43,14 @@ enum deorasaeng_number {
     DEORASAENG_WRONG_FUNCTION = 9,       /* function not listed */
     DEORASAENG_WRONG_PAIR = 10,          /* port outside 1 to the number of ports, or From equals To */
     DEORASAENG_ACCESS_DENIED = 11,       /* pair or port not this tool's */
-    DEORASAENG_WRONG_BODY = 12,          /* body wrong: length, entry or filling */
+    DEORASAENG_WRONG_BODY = 12,          /* body wrong: length or filling */
     DEORASAENG_WRONG_MODE = 13,          /* Create mode not 0 or 1 */
     DEORASAENG_NOT_CLEARED = 14,         /* Create: a named pair not cleared */
     DEORASAENG_IS_CLEARED = 15,          /* Add, Delete: a named pair cleared */
     DEORASAENG_LIST_FULL = 16,           /* a named pair would pass 32 */
     DEORASAENG_PGN_ABSENT = 17,          /* Delete: a PGN absent from a named pair */
     DEORASAENG_WRONG_STATE = 18,         /* Start not in Unstarted, Quiet not in Claiming */
+    DEORASAENG_WRONG_ENTRY = 22,         /* an entry is no PGN */
     DEORASAENG_WRONG_PORT_COUNT = 27     /* port count not 2 to 8 */
 };
 
@@ -88,7 +90,7 @@ enum deorasaeng_number {
 /* Lengths of the answers, in words. */
 #define DEORASAENG_FRAME_ANSWER 8
 #define DEORASAENG_TAKE_ANSWER 3
-#define DEORASAENG_MESSAGE_ANSWER 2
+#define DEORASAENG_MESSAGE_ANSWER 5
 #define DEORASAENG_START_ANSWER 2
 #define DEORASAENG_UNIT_ANSWER 5
 
@@ -129,7 +131,10 @@ enum deorasaeng_take_word {
 /* The words of a message's answer. */
 enum deorasaeng_message_word {
     DEORASAENG_PGN = 0,       /* DEORASAENG_NETWORK_MESSAGE_PGN for a reply, DEORASAENG_ACKNOWLEDGMENT_PGN, or 0 for nothing written */
-    DEORASAENG_WRITTEN = 1    /* how many bytes were written */
+    DEORASAENG_WRITTEN = 1,   /* how many bytes were written */
+    DEORASAENG_ENTRY = 2,     /* with 22 the first entry that is no PGN, with 17 the one whose PGN is absent, counted from 1 as they stand in the command; else 0 */
+    DEORASAENG_TO = 3,        /* with 17 the To port of the first pair, in rising order, that lacks a PGN of the command; else 0 */
+    DEORASAENG_ABSENT = 4     /* with 17 the first PGN of the command that it lacks; else 0 */
 };
 
 /* The words of Start's answer. */
@@ -185,8 +190,9 @@ uint32_t deorasaeng_frame(uint64_t *record, size_t record_len, uint32_t port, ui
 uint32_t deorasaeng_take(uint64_t *record, size_t record_len, uint32_t port, uint64_t *answer, size_t answer_len, uint8_t *bytes,
                          size_t bytes_len);
 
-/* A network message to the unit, handed in whole. What is to be sent back is written to `reply`, and no byte past it is touched. Numbers 1, 2, 6 to 17: 9 to
-   17 write the acknowledgment, and the answer is 59392 and 8; the others write nothing, and the answer is 0 and 0 (untouched if it is not 2 long itself). */
+/* A network message to the unit, handed in whole. What is to be sent back is written to `reply`, and no byte past it is touched. Numbers 1, 2, 6 to 17 and 22: 9 to
+   17 and 22 write the acknowledgment, and the answer begins with 59392 and 8; with 17 and 22 it tells which entry was wrong. The others write nothing, and the answer
+   is 0 in every word (untouched if it is not 5 long itself). */
 uint32_t deorasaeng_message(uint64_t *record, size_t record_len, uint32_t port, uint32_t requester, const uint8_t *payload,
                             size_t payload_len, uint8_t *reply, size_t reply_len, uint64_t *answer, size_t answer_len);
 

@@ -166,12 +166,13 @@ fn message_numbers(words: &mut [u64]) -> [u64; 3] {
     ]
 }
 
-// WRONG_PAIR, ACCESS_DENIED, WRONG_BODY, WRONG_MODE.
-fn payload_numbers(words: &mut [u64]) -> [u64; 4] {
+// WRONG_PAIR, ACCESS_DENIED, WRONG_BODY, WRONG_ENTRY, WRONG_MODE.
+fn payload_numbers(words: &mut [u64]) -> [u64; 5] {
     [
         tool(words, b"\x00\x11\xFF\xFF\xFF\xFF\xFF\xFF"),
         message(words, 3, 0x21, b"\x00\x12\xFF\xFF\xFF\xFF\xFF\xFF").number,
         tool(words, b"\x00\x12\xFF\xFF\xFF\xFF\xFF\xFF\xFF"),
+        tool(words, b"\x02\x12\xFF\xFF\xFF\xFF\xFF\xFF"),
         tool(words, b"\x06\x12\x02\xF1\xFE\x00\xFF\xFF"),
     ]
 }
@@ -335,13 +336,14 @@ fn take_answer() -> [u64; deorasaeng::TAKE_WORDS] {
 // GIVEN, ID, LENGTH.
 const TAKE_VALUES: [u64; 3] = [1, 2, 3];
 
-// The answer to a Request.
+// The answer to a Delete that is refused with 17: of 65265 and 65266 pair 1 to 3 lists the first.
 fn message_answer(words: &mut [u64]) -> [u64; deorasaeng::MESSAGE_WORDS] {
-    message(words, 1, 0x21, b"\x00\x12\xFF\xFF\xFF\xFF\xFF\xFF").answer
+    tool(words, b"\x06\x13\x01\xF1\xFE\x00\xFF\xFF");
+    message(words, 1, 0x21, b"\x03\x13\xF1\xFE\x00\xF2\xFE\x00").answer
 }
 
-// PGN, WRITTEN: a list is reported in 8 bytes.
-const MESSAGE_VALUES: [u64; 2] = [60672, 8];
+// PGN, WRITTEN, ENTRY, TO, ABSENT: it is acknowledged in 8 bytes.
+const MESSAGE_VALUES: [u64; 5] = [59392, 8, 2, 3, 65266];
 
 // START_OWN_LOST, START_STATE: no port lost the claim, and 1 is Claiming.
 const START_VALUES: [u64; 2] = [0, 1];

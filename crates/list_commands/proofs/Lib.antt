@@ -1,1 +1,3 @@
 pub mod PairLoop
+pub mod Ranks
+pub mod Searching

@@ -107,7 +107,7 @@ module _ (test : ℕ → Bool) where
   or-true false = refl
 
   -- one that holds is enough
-  any-found : (n k : ℕ) → k < n → test k ≡ true → true ≡ anyBelow test n
+  pub any-found : (n k : ℕ) → k < n → test k ≡ true → true ≡ anyBelow test n
   unfolding anyBelow
   any-found zero k l h = absurd (omega arith)
   any-found (suc n) k l h =
@@ -117,7 +117,7 @@ module _ (test : ℕ → Bool) where
       ]
 
   -- those of which none holds may be passed over
-  any-none : (m n : ℕ) → m ≤ n → ((k : ℕ) → m ≤ k → k < n → test k ≡ false) → false ≡ anyBelow test m → false ≡ anyBelow test n
+  pub any-none : (m n : ℕ) → m ≤ n → ((k : ℕ) → m ≤ k → k < n → test k ≡ false) → false ≡ anyBelow test m → false ≡ anyBelow test n
   unfolding anyBelow
   any-none m zero l h e = let z : m ≡ 0 = omega arith in rw z at e
   any-none m (suc n) l h e =

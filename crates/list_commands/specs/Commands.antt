@@ -8,7 +8,9 @@ use mathlib.Core.List.{List, [], _∷_, _++_}
 use lib.ListN.{take, drop, getD}
 use lib.Dec.{ltb, eqb}
 use Rattle.filter.specs.Filter.{Filter, clear, blockSize as filterLength}
+use Rattle.entries.specs.Entries.{listed, leading}
 use Rattle.checks.specs.Checks.{Check, check, first}
+use Rattle.checks.specs.Ports.{isPort}
 use Rattle.network_message.specs.Decoding.{allPorts}
 use Rattle.unit.specs.Ports.{each}
 use Rattle.unit.specs.Model.{pairsFrom}
@@ -16,6 +18,13 @@ use Rattle.filter_commands.specs.declared.pairs.Question.the-variants.{IsCleare
 use Rattle.filter_commands.specs.declared.pairs.Change.{Change}
 use Rattle.filter_commands.specs.declared.pairs.Change.the-variants.{Adds, Deletes, Clears, Creates}
 use Rattle.filter_commands.specs.Pairs.{holdsOf, changeOf}
+use Rattle.list_commands.specs.declared.Absent.{Absent}
+
+-- two ports that make a pair, in a unit of that many
+pub record IsPair (ports a b : ℕ) : Type 0 where
+  pub from : isPort ports a ≡ true
+  pub to : isPort ports b ≡ true
+  pub apart : a ≡ b → ⊥
 
 -- ---- the pairs that a command names: from a port to one other, or to all others (15)
 -- the other port that the kth pair from port p (from 0) leads to
@@ -78,3 +87,26 @@ listRefusal ports change xs from to pairs = first (listChecks ports change xs fr
 unfoldable pub commanded : ℕ → Change → List ℕ → ℕ → ℕ → List Filter → List Filter
 commanded ports change xs from to pairs =
     cond (eqb (listRefusal ports change xs from to pairs) 0) (changeNamed ports (ports - 1) (changeOf change xs) from to pairs) pairs
+
+-- ---- document 02, ticket 2: for 17, "the first pair in rising To order and the first PGN in it that is absent"
+-- the first below n for which a test holds, or n
+unfoldable pub firstBelow : (ℕ → Bool) → ℕ → ℕ
+firstBelow test zero = 0
+firstBelow test (suc n) = cond (anyBelow test n) (firstBelow test n) (cond (test n) n (suc n))
+
+-- how many of xs stand before the first that a list lacks
+abbrev pub heldBefore : List ℕ → List ℕ → ℕ
+heldBefore es xs = leading (λ x. listed x es) xs
+
+-- in the kth pair from that port: the number of the entry from 1, the pair's To port, the PGN
+abbrev pub absentIn : List ℕ → ℕ → ℕ → Filter → Absent
+absentIn xs from k f = record {
+  entry = suc (heldBefore (f .entries) xs);
+  to = suc (targetOf (from - 1) k);
+  pgn = getD xs (heldBefore (f .entries) xs) 0;
+}
+
+unfoldable pub absentAt : ℕ → List ℕ → ℕ → ℕ → List Filter → Absent
+absentAt ports xs from to pairs =
+    absentIn xs from (firstBelow (holdsAt ports (holdsOf Lacks xs) from to pairs) (ports - 1))
+    (getD pairs (firstPair ports from + firstBelow (holdsAt ports (holdsOf Lacks xs) from to pairs) (ports - 1)) clear)

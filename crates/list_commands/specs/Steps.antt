@@ -5,10 +5,12 @@ use mathlib.Core.Bool.{true, false}
 use mathlib.Core.Path.{_≡_}
 use mathlib.Core.List.{List}
 use lib.ListN.{getD}
+use Rattle.filter.specs.Filter.{Filter, clear}
+use Rattle.filter_commands.specs.Changes.{lacks}
 use Rattle.unit.specs.Model.{withRest, withPairs, modelOf}
 use Rattle.filter_commands.specs.declared.pairs.Change.{Change}
 use Rattle.filter_commands.specs.Pairs.{changeOf}
-use Rattle.list_commands.specs.Commands.{firstPair, names, Beside, changeNamed, listRefusal, commanded}
+use Rattle.list_commands.specs.Commands.{firstPair, names, Beside, changeNamed, listRefusal, commanded, heldBefore}
 
 -- the pairs from a port that are named, by their places among the pairs: those from `first` up to `end`, and no other
 pub record Naming (ports from to first end : ℕ) : Type 0 where
@@ -35,3 +37,11 @@ pub record Commanding (ports : ℕ) (before after : List ℕ) (from to : ℕ) (c
   pub refused : (r ≡ 0 → ⊥) → after ≡ before
   -- a word outside the blocks of the pairs that it names is as it was
   pub others : (n : ℕ) → Beside ports from to n → getD after n 0 ≡ getD before n 0
+
+-- the search for an absent PGN stopped at the pair in place i, after k of the entries: no pair before it lacks one; where it is one of those searched it lacks
+-- one, and k stand before the first
+pub record Stopping (pairs : List Filter) (xs : List ℕ) (first end i k : ℕ) : Type 0 where
+  pub least : first ≤ i
+  pub most : i ≤ end
+  pub before : (j : ℕ) → first ≤ j → j < i → lacks (getD pairs j clear) xs ≡ false
+  pub here : i < end → (lacks (getD pairs i clear) xs ≡ true) × (k ≡ heldBefore (getD pairs i clear .entries) xs)

@@ -2,14 +2,16 @@
 use filter_commands::pairs::Change;
 use filter_commands::pairs::Question;
 ghost use mathlib.Core.Path.{_≡_};
-ghost use Prim.Native.Nat.{ℕ, _+_, _-_, _≤_};
+ghost use mathlib.Core.Bool.{true};
+ghost use Prim.Native.Nat.{ℕ, suc, _+_, _-_, _≤_};
 ghost use lib.ListN.{length};
 ghost use Rattle.entries.specs.Entries.{entriesOf};
 ghost use Rattle.unit.specs.Count.{pairCount};
 ghost use Rattle.unit.specs.Model.{modelOf, recordLength};
-ghost use Rattle.list_commands.specs.Commands.{firstPair, anyNamed, listRefusal};
+ghost use Rattle.list_commands.specs.Commands.{targetOf, firstPair, anyNamed, listRefusal, absentAt};
 ghost use Rattle.filter_commands.specs.Pairs.{holdsOf};
-ghost use Rattle.list_commands.specs.Steps.{Naming, PairsChanging, Commanding};
+ghost use Rattle.filter_commands.specs.declared.pairs.Question.{Question};
+ghost use Rattle.list_commands.specs.Steps.{Naming, PairsChanging, Commanding, Stopping};
 
 // The pairs that a command names, by their places among the pairs: those from `first` up to `end`.
 struct Named {
@@ -168,4 +170,72 @@ pub fn command(
     }
     change_each(words, ports, named.first, named.end, change, entries);
     0
+}
+
+// Where a PGN is absent: the number of its entry from 1, the To port of the pair, the PGN.
+pub struct Absent {
+    pub entry: usize,
+    pub pgn: u64,
+    pub to: u32,
+}
+
+// Where a search stopped: the place of the pair among the pairs, and how many entries were found in its list.
+struct Stop {
+    pair: usize,
+    entry: usize,
+}
+
+// Looks for the first entry that is absent, in the pairs that are named one after the other.
+fn first_absent(words: &[u64], ports: usize, first: usize, end: usize, entries: &[u8]) -> Stop
+    requires { ⌜ (ports ≤ 8) × (length (now words) ≡ recordLength ports) × (first ≤ end) × (end ≤ pairCount ports) ⌝ }
+    ensures { λ r. ⌜ Stopping (modelOf ports (now (words .entry)) .rest .pairs) (entriesOf (now (entries .entry))) first end (r .pair) (r .entry) ⌝ }
+{
+    let n = entries::count(entries);
+    let mut pair = first;
+    let mut entry: usize = 0;
+    'search: while pair < end {
+        entry = 0;
+        while entry < n {
+            let pgn = entries::entry_at(entries, entry);
+            if !record::lists(words, ports, pair, pgn) {
+                break 'search;
+            }
+            entry += 1;
+        }
+        pair += 1;
+    }
+    Stop { pair, entry }
+}
+
+// The other port that the kth pair from a port leads to.
+fn leads_to(from: u32, k: usize) -> u32
+    requires { ⌜ (1 ≤ from) × (k ≤ 8) ⌝ }
+    ensures { λ r. ⌜ r ≡ suc (targetOf (from - 1) k) ⌝ }
+{
+    if k < from as usize - 1 {
+        return k as u32 + 1;
+    }
+    k as u32 + 2
+}
+
+// Where a Delete names a PGN that is absent, if it does: 0 throughout if not.
+pub fn where_absent(words: &[u64], ports: usize, from: u32, to: u32, entries: &[u8]) -> Absent
+    requires { ⌜ (ports ≤ 8) × (length (now words) ≡ recordLength ports) × (1 ≤ from) × (from ≤ ports) ⌝ }
+    ensures { λ r. ⌜ (anyNamed ports (ports - 1) (holdsOf Question.Lacks (entriesOf (now (entries .entry)))) from to (modelOf ports (now (words .entry)) .rest .pairs) ≡ true → r ≡ absentAt ports (entriesOf (now (entries .entry))) from to (modelOf ports (now (words .entry)) .rest .pairs)) ⌝ }
+{
+    let named = pairs_named(ports, from, to);
+    let stop = first_absent(words, ports, named.first, named.end, entries);
+    let k = stop.pair - first_pair(ports, from);
+    if stop.entry < entries::count(entries) {
+        return Absent {
+            entry: stop.entry + 1,
+            to: leads_to(from, k),
+            pgn: entries::entry_at(entries, stop.entry),
+        };
+    }
+    Absent {
+        entry: 0,
+        to: 0,
+        pgn: 0,
+    }
 }

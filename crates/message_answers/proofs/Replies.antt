@@ -1,8 +1,11 @@
 -- What is answered to a message: a reply, or an acknowledgment of what was done or refused. Assumes nothing.
-use mathlib.Core.Path.{refl, sym, _∙_}
+use mathlib.Core.Path.{_≡_, refl, sym, _∙_}
+use mathlib.Core.Bool.{Bool, true, false}
 use mathlib.Core.Logic.{⊎-elim}
 use mathlib.Core.List.{List}
-use Prim.Native.Nat.{ℕ, _≤_}
+use Prim.Native.Nat.{ℕ, _-_, _≤_}
+use borrow.Author.Tests.{eqb-true, eqb-false}
+use lib.Dec.{eqb}
 use native.Mathlib.Omega.{arith}
 use lib.ListN.{length}
 use Rattle.entries.specs.Entries.{entriesOf}
@@ -12,8 +15,12 @@ use Rattle.replies.specs.Replies.{acknowledgment, Writing}
 use Rattle.filter_commands.specs.declared.pairs.Change.{Change}
 use Rattle.message_answers.specs.declared.MessageAnswer.{MessageAnswer}
 use Rattle.unit.specs.Model.{modelOf}
-use Rattle.message_answers.specs.Messages.{acknowledged, replied, changedBy}
-use Rattle.list_commands.specs.Commands.{Beside}
+use Rattle.message_answers.specs.Messages.{nothingTold, wrongTold, absentTold, acknowledged, replied, changedBy}
+use Rattle.list_commands.specs.Commands.{Beside, anyNamed}
+use Rattle.list_commands.specs.declared.Absent.{Absent}
+use Rattle.filter_commands.specs.Pairs.{holdsOf}
+use Rattle.filter_commands.specs.declared.pairs.Question.the-variants.{Lacks}
+use Rattle.list_commands.proofs.Searching.{refused-17}
 use Rattle.list_commands.specs.Steps.{Commanding}
 use Rattle.message_answers.specs.Steps.{Telling, Reporting, Replying}
 
@@ -21,26 +28,36 @@ use Rattle.message_answers.specs.Steps.{Telling, Reporting, Replying}
 pub one-port : {ports from to : ℕ} → ports ≤ 8 → Ports ports from to → to ≤ ports → 1 ≤ to
 one-port few P h = ⊎-elim (λ p. p .0) (λ e. absurd (omega (arith, e))) (P .other)
 
-pub reported-of : {bytes before after : List ℕ} {most n : ℕ} → Writing bytes before after most n → Reporting bytes before after (record { refusal = 0; pgn = 60672; length = n })
+pub reported-of : {bytes before after : List ℕ} {most n : ℕ} → Writing bytes before after most n → Reporting bytes before after (record { refusal = 0; pgn = 60672; length = n; told = nothingTold })
 reported-of W = record { answer = rw (W .answer); written = W .written }
 
 module _ {ports : ℕ} {words lent back : List ℕ} {Still : ℕ → Type 0} {r : MessageAnswer} where
   pub reply-given : (bytes : List ℕ) → Reporting bytes lent back r → Replying ports words words lent back (replied bytes (modelOf ports words .rest .pairs)) Still r
   reply-given bytes R = record { answer = R .answer; written = R .written; state = refl; refused = λ _. refl; others = λ _ _. refl }
 
-  pub refusal-told : (number requester : ℕ) (payload : List ℕ) → Telling lent back number (functionOf payload) requester r → Replying ports words words lent back (acknowledged number requester payload (modelOf ports words .rest .pairs)) Still r
+  pub refusal-told : (number entry requester : ℕ) (payload : List ℕ) → Telling lent back number (functionOf payload) requester (wrongTold entry) r → Replying ports words words lent back (acknowledged number requester payload (modelOf ports words .rest .pairs) (wrongTold entry)) Still r
   unfolding acknowledgment
-  refusal-told number requester payload T = record { answer = T .answer; written = T .written; state = refl; refused = λ _. refl; others = λ _ _. refl }
+  refusal-told number entry requester payload T = record { answer = T .answer; written = T .written; state = refl; refused = λ _. refl; others = λ _ _. refl }
 
 module _ {ports : ℕ} {words lent back : List ℕ} {r : MessageAnswer} where
-  pub change-told : {after : List ℕ} {n : ℕ} (requester : ℕ) (payload : List ℕ) (change : Change) (from to start end : ℕ)
-      → Commanding ports words after from to change (entriesOf (between start end payload)) n → Telling lent back n (functionOf payload) requester r
+  pub change-told : {after : List ℕ} {n : ℕ} {told : Absent} (requester : ℕ) (payload : List ℕ) (change : Change) (from to start end : ℕ)
+      → Commanding ports words after from to change (entriesOf (between start end payload)) n
+      → ((n ≡ 17 → anyNamed ports (ports - 1) (holdsOf Lacks (entriesOf (between start end payload))) from to (modelOf ports after .rest .pairs) ≡ true) → told ≡ absentTold ports n (entriesOf (between start end payload)) from to (modelOf ports after .rest .pairs))
+      → Telling lent back n (functionOf payload) requester told r
       → Replying ports words after lent back (changedBy ports (modelOf ports words .rest) requester payload change from to start end) (Beside ports from to) r
-  unfolding acknowledgment
-  change-told requester payload change from to start end C T = record {
-    answer = rw (← (C .answer)) (T .answer);
+  unfolding acknowledgment absentTold
+  change-told {after} {n} {told} requester payload change from to start end C A T = record {
+    answer = rw (← (C .answer), ← (told-is (eqb n 17) refl)) (T .answer);
     written = rw (← (C .answer)) (T .written);
     state = C .state;
     refused = λ h. C .refused (λ z. h (sym (C .answer) ∙ z));
     others = C .others;
   }
+    where
+      -- what is told is read on the record as the command left it, and with 17 it left it as it was
+      told-is : (b : Bool) → eqb n 17 ≡ b → told ≡ absentTold ports n (entriesOf (between start end payload)) from to (modelOf ports words .rest .pairs)
+      told-is true e =
+          let z = eqb-true n 17 e in
+          let still : after ≡ words = C .refused (λ w. omega arith) in
+          rw still at (A (λ _. rw still (refused-17 ports change (entriesOf (between start end payload)) from to (modelOf ports words .rest .pairs) (sym (C .answer) ∙ z))))
+      told-is false e = A (λ z. absurd (eqb-false n 17 e z)) ∙ rw e

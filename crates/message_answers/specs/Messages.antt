@@ -1,7 +1,9 @@
 -- Document 01, "Network messages": what a message does, and what is written back. What a payload says is the crate `network_message`'s.
 -- Assumes nothing.
 use Prim.Native.Nat.{ℕ, _-_}
+use mathlib.Core.Bool.{cond}
 use mathlib.Core.List.{List}
+use lib.Dec.{eqb}
 use lib.ListN.{length, getD}
 use Rattle.filter.specs.Filter.{Filter, clear}
 use Rattle.entries.specs.Entries.{entriesOf}
@@ -12,7 +14,8 @@ use Rattle.replies.specs.Replies.{controlOf, acknowledgment, listReply, address
 use Rattle.unit.specs.Model.{Rest, Seen, pairAt}
 use Rattle.filter_commands.specs.declared.pairs.Change.{Change}
 use Rattle.filter_commands.specs.declared.pairs.Change.the-variants.{Adds, Deletes, Clears, Creates}
-use Rattle.list_commands.specs.Commands.{Beside, listRefusal, commanded}
+use Rattle.list_commands.specs.Commands.{Beside, listRefusal, commanded, absentAt}
+use Rattle.list_commands.specs.declared.Absent.{Absent}
 use Rattle.message_answers.specs.declared.MessageAnswer.{MessageAnswer}
 
 -- what a message does: the number that it is refused with, the pairs then, the PGN and the bytes that are written. The bytes alone may show what is only
@@ -22,27 +25,42 @@ pub record Replied : Type 0 where
   pub pairs : List Filter
   pub pgn : ℕ
   pub written : Seen → List ℕ
+  -- document 02, ticket 2: which entry was wrong
+  pub told : Absent
+
+abbrev pub nothingTold : Absent
+nothingTold = record { entry = 0; to = 0; pgn = 0 }
+
+-- "With 22 the answer to the caller gives the first such entry's number from 1."
+abbrev pub wrongTold : ℕ → Absent
+wrongTold entry = record { entry = entry; to = 0; pgn = 0 }
+
+-- "For 17, give the first pair in rising To order and the first PGN in it that is absent."
+unfoldable pub absentTold : ℕ → ℕ → List ℕ → ℕ → ℕ → List Filter → Absent
+absentTold ports number xs from to pairs = cond (eqb number 17) (absentAt ports xs from to pairs) nothingTold
 
 -- PGN 59392, "0, the function, FF, FF, the requester's address, 00, ED, 00", or with 1 or 2 for a refusal
-abbrev pub acknowledged : ℕ → ℕ → List ℕ → List Filter → Replied
-acknowledged number requester payload pairs = record {
+abbrev pub acknowledged : ℕ → ℕ → List ℕ → List Filter → Absent → Replied
+acknowledged number requester payload pairs told = record {
   number = number;
   pairs = pairs;
   pgn = 59392;
   written = λ seen. acknowledgment (controlOf number) (functionOf payload) requester;
+  told = told;
 }
 
 abbrev pub replied : List ℕ → List Filter → Replied
-replied bytes pairs = record { number = 0; pairs = pairs; pgn = 60672; written = λ seen. bytes }
+replied bytes pairs = record { number = 0; pairs = pairs; pgn = 60672; written = λ seen. bytes; told = nothingTold }
 
 -- a command on the pairs, with its entries
 abbrev pub changedBy : ℕ → Rest → ℕ → List ℕ → Change → ℕ → ℕ → ℕ → ℕ → Replied
 changedBy ports rest requester payload change from to start end =
     acknowledged (listRefusal ports change (entriesOf (between start end payload)) from to (rest .pairs)) requester payload
     (commanded ports change (entriesOf (between start end payload)) from to (rest .pairs))
+    (absentTold ports (listRefusal ports change (entriesOf (between start end payload)) from to (rest .pairs)) (entriesOf (between start end payload)) from to (rest .pairs))
 
 unfoldable pub performedBy : ℕ → Rest → ℕ → List ℕ → Command → Replied
-performedBy ports rest requester payload (Refused number) = acknowledged number requester payload (rest .pairs)
+performedBy ports rest requester payload (Refused number entry) = acknowledged number requester payload (rest .pairs) (wrongTold entry)
 performedBy ports rest requester payload (Request from to) =
     replied (listReply (pairOf payload) (getD (rest .pairs) (pairAt ports (from - 1) (to - 1)) clear)) (rest .pairs)
 performedBy ports rest requester payload (Add from to start end) = changedBy ports rest requester payload Adds from to start end
@@ -53,7 +71,7 @@ performedBy ports rest requester payload (AddressList port) = replied (addressRe
 
 -- word n of the record lies outside the blocks of the pairs that a command changes
 abbrev pub Untouched : ℕ → Command → ℕ → Type 0
-Untouched ports (Refused number) = λ n. Unit {0}
+Untouched ports (Refused number entry) = λ n. Unit {0}
 Untouched ports (Request from to) = λ n. Unit {0}
 Untouched ports (Add from to start end) = Beside ports from to
 Untouched ports (Delete from to start end) = Beside ports from to
@@ -63,4 +81,4 @@ Untouched ports (AddressList port) = λ n. Unit {0}
 
 -- "The answer gives the PGN and the length of what was written, 0 and 0 for nothing; buffer bytes past that length are untouched."
 abbrev pub messageAnswer : Replied → Seen → MessageAnswer
-messageAnswer r seen = record { refusal = r .number; pgn = r .pgn; length = length (r .written seen) }
+messageAnswer r seen = record { refusal = r .number; pgn = r .pgn; length = length (r .written seen); told = r .told }

@@ -5,18 +5,19 @@ use mathlib.Core.Path.{_≡_}
 use mathlib.Core.List.{List, _++_}
 use lib.ListN.{length, getD, drop}
 use Rattle.replies.specs.Replies.{controlOf, acknowledgment}
+use Rattle.list_commands.specs.declared.Absent.{Absent}
 use Rattle.unit.specs.Model.{withRest, withPairs, modelOf}
 use Rattle.message_answers.specs.declared.MessageAnswer.{MessageAnswer}
-use Rattle.message_answers.specs.Messages.{Replied, messageAnswer}
+use Rattle.message_answers.specs.Messages.{Replied, nothingTold, messageAnswer}
 
 -- a command was acknowledged
-pub record Telling (before after : List ℕ) (number function requester : ℕ) (r : MessageAnswer) : Type 0 where
-  pub answer : r ≡ record { refusal = number; pgn = 59392; length = 8 }
+pub record Telling (before after : List ℕ) (number function requester : ℕ) (told : Absent) (r : MessageAnswer) : Type 0 where
+  pub answer : r ≡ record { refusal = number; pgn = 59392; length = 8; told = told }
   pub written : after ≡ acknowledgment (controlOf number) function requester ++ drop 8 before
 
 -- a reply was written
 pub record Reporting (bytes before after : List ℕ) (r : MessageAnswer) : Type 0 where
-  pub answer : r ≡ record { refusal = 0; pgn = 60672; length = length bytes }
+  pub answer : r ≡ record { refusal = 0; pgn = 60672; length = length bytes; told = nothingTold }
   pub written : after ≡ bytes ++ drop (length bytes) before
 
 -- what a message does and is answered, and the words of the record that are as they were

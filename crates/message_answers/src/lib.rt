@@ -1,21 +1,29 @@
 // What a network message that was decoded does, and what is written back.
 use filter_commands::pairs::Change;
+use list_commands::Absent;
 use network_message::Command;
 ghost use mathlib.Core.Path.{_≡_};
+ghost use mathlib.Core.Bool.{true};
 ghost use Prim.Native.Nat.{ℕ, _-_, _≤_, _<_};
 ghost use lib.ListN.{length, getD};
 ghost use Rattle.filter.specs.Filter.{clear};
 ghost use Rattle.network_message.specs.Commands.{Good};
-ghost use Rattle.network_message.specs.Decoding.{longest};
+ghost use Rattle.network_message.specs.Decoding.{functionOf, longest};
 ghost use Rattle.replies.specs.Replies.{listReply, addressReply};
 ghost use Rattle.unit.specs.Model.{modelOf, recordLength, rowsFrom, pairAt};
-ghost use Rattle.list_commands.specs.Commands.{Beside};
-ghost use Rattle.message_answers.specs.Messages.{performedBy, changedBy, Untouched};
+ghost use Rattle.list_commands.specs.Commands.{Beside, anyNamed};
+ghost use Rattle.entries.specs.Entries.{entriesOf};
+ghost use Rattle.filter_commands.specs.Pairs.{holdsOf};
+ghost use Rattle.filter_commands.specs.declared.pairs.Question.{Question};
+ghost use Rattle.message_answers.specs.Messages.{nothingTold, wrongTold, absentTold, performedBy, changedBy, Untouched};
 ghost use Rattle.message_answers.specs.Steps.{Telling, Replying, Reporting};
 
 // What was written to the reply buffer: the PGN and the length, 0 and 0 for nothing; and the number that refused the message, or 0.
-// PGN and length are not neighbours: the compiler would read them as one word that two stores have written, and the processor waits for both.
+// `told`: with 22 the number from 1 of the first entry that is no PGN; with 17 where a PGN is absent; else 0.
+// PGN and length are not neighbours, and the To port of `told` is narrower than what stands beside it: the compiler would read two as one word that two stores have
+// written, and the processor waits for both. `told` stands first, since a gap before it would be copied with it.
 pub struct MessageAnswer {
+    pub told: Absent,
     pub pgn: u32,
     pub refusal: u32,
     pub length: u32,
@@ -26,10 +34,49 @@ const REPLY: u32 = 60672;
 
 const ACKNOWLEDGMENT: u32 = 59392;
 
+fn nothing_told() -> Absent
+    ensures { λ r. ⌜ r ≡ nothingTold ⌝ }
+{
+    Absent {
+        entry: 0,
+        to: 0,
+        pgn: 0,
+    }
+}
+
+// What is told of a payload that is refused: with 22 which entry is wrong.
+fn wrong_told(entry: usize) -> Absent
+    ensures { λ r. ⌜ r ≡ wrongTold entry ⌝ }
+{
+    Absent {
+        entry,
+        to: 0,
+        pgn: 0,
+    }
+}
+
+// What is told of a command that the lists refuse: with 17 where a PGN is absent.
+fn absent_told(
+    words: &[u64],
+    ports: usize,
+    number: u32,
+    from: u32,
+    to: u32,
+    entries: &[u8],
+) -> Absent
+    requires { ⌜ (ports ≤ 8) × (length (now words) ≡ recordLength ports) × (1 ≤ from) × (from ≤ ports) ⌝ }
+    ensures { λ r. ⌜ ((number ≡ 17 → anyNamed ports (ports - 1) (holdsOf Question.Lacks (entriesOf (now (entries .entry)))) from to (modelOf ports (now (words .entry)) .rest .pairs) ≡ true) → r ≡ absentTold ports number (entriesOf (now (entries .entry))) from to (modelOf ports (now (words .entry)) .rest .pairs)) ⌝ }
+{
+    if number == 17 {
+        return list_commands::where_absent(words, ports, from, to, entries);
+    }
+    nothing_told()
+}
+
 // Acknowledges a command, by the number that refuses it, or 0.
-fn tell(reply: &mut [u8], number: u32, function: u8, requester: u32) -> MessageAnswer
+fn tell(reply: &mut [u8], number: u32, function: u8, requester: u32, told: Absent) -> MessageAnswer
     requires { ⌜ (longest ≤ length (now reply)) × (requester < 254) ⌝ }
-    ensures { λ r. ⌜ Telling (now (reply .entry)) (now (reply .exit)) number function requester r ⌝ }
+    ensures { λ r. ⌜ Telling (now (reply .entry)) (now (reply .exit)) number function requester told r ⌝ }
 {
     let control = replies::control(number);
     replies::acknowledge(reply, control, function, requester as u8);
@@ -37,6 +84,7 @@ fn tell(reply: &mut [u8], number: u32, function: u8, requester: u32) -> MessageA
         refusal: number,
         pgn: ACKNOWLEDGMENT,
         length: 8,
+        told,
     }
 }
 
@@ -57,7 +105,8 @@ fn change(
     ensures { λ r. ⌜ Replying ports (now (words .entry)) (now (words .exit)) (now (reply .entry)) (now (reply .exit)) (changedBy ports (modelOf ports (now (words .entry)) .rest) requester (now (payload .entry)) what from to start end) (Beside ports from to) r ⌝ }
 {
     let number = list_commands::command(words, ports, from, to, what, &payload[start..end]);
-    tell(reply, number, payload[0], requester)
+    let told = absent_told(words, ports, number, from, to, &payload[start..end]);
+    tell(reply, number, payload[0], requester, told)
 }
 
 // Reports a pair's list.
@@ -84,6 +133,7 @@ fn report(
         refusal: 0,
         pgn: REPLY,
         length: n as u32,
+        told: nothing_told(),
     }
 }
 
@@ -98,7 +148,23 @@ fn report_addresses(words: &[u64], port: u32, reply: &mut [u8]) -> MessageAnswer
         refusal: 0,
         pgn: REPLY,
         length: n as u32,
+        told: nothing_told(),
     }
+}
+
+// The refusal of a payload is acknowledged.
+fn refuse(
+    reply: &mut [u8],
+    number: u32,
+    entry: usize,
+    function: u8,
+    requester: u32,
+) -> MessageAnswer
+    requires { ⌜ (longest ≤ length (now reply)) × (requester < 254) ⌝ }
+    ensures { λ r. ⌜ Telling (now (reply .entry)) (now (reply .exit)) number function requester (wrongTold entry) r ⌝ }
+{
+    let told = wrong_told(entry);
+    tell(reply, number, function, requester, told)
 }
 
 // What a payload asks is done and answered, or its refusal acknowledged.
@@ -114,7 +180,7 @@ pub fn perform(
     ensures { λ r. ⌜ Replying ports (now (words .entry)) (now (words .exit)) (now (reply .entry)) (now (reply .exit)) (performedBy ports (modelOf ports (now (words .entry)) .rest) requester (now (payload .entry)) command) (Untouched ports command) r ⌝ }
 {
     match command {
-        Command::Refused(number) => tell(reply, number, payload[0], requester),
+        Command::Refused { number, entry } => refuse(reply, number, entry, payload[0], requester),
         Command::Request { from, to } => report(words, ports, from, to, payload[1], reply),
         Command::Add {
             from,

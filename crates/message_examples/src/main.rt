@@ -11,12 +11,14 @@ ghost use Rattle.addresses.specs.Table.{tableLength};
 // The number of ports.
 const PORTS: u32 = 4;
 
-// The six bytes after the pair byte: a good body for each function, filling alone, and a Create of mode 2.
+// The six bytes after the pair byte: a good body for each function, filling alone, and a Create of wrong filling and of mode 2.
 const GOOD: u32 = 0;
 
 const FILLING: u32 = 1;
 
-const MODE_2: u32 = 2;
+const WRONG_FILLING: u32 = 2;
+
+const MODE_2: u32 = 3;
 
 // A word and a number.
 fn number(word: &[u8], n: u64) {
@@ -39,7 +41,10 @@ fn print_entries(start: usize, end: usize) {
 // What a payload asks, or the number that refuses it.
 fn print_command(command: Command) {
     match command {
-        Command::Refused(n) => number(b"refused with ", n as u64),
+        Command::Refused {
+            number: n,
+            entry: _,
+        } => number(b"refused with ", n as u64),
         Command::Request { from, to } => print_pair(b"Request ", from, to),
         Command::Add {
             from,
@@ -77,6 +82,15 @@ fn print_command(command: Command) {
         }
         Command::AddressList { port } => number(b"address list of port ", port as u64),
     }
+}
+
+// With 22, which entry is wrong.
+fn print_wrong_entry(command: Command) {
+    if let Command::Refused { number: n, entry } = command {
+        if n == 22 {
+            number(b", entry ", entry as u64);
+        }
+    }
     io::write_all(STDOUT_FILENO, b"\n");
 }
 
@@ -105,7 +119,9 @@ fn print_payload(label: &[u8], port: u32, payload: &[u8])
     print_bytes(payload, payload.len());
     number(b" from port ", port as u64);
     io::write_all(STDOUT_FILENO, b": ");
-    print_command(network_message::decode(PORTS, port, payload));
+    let command = network_message::decode(PORTS, port, payload);
+    print_command(command);
+    print_wrong_entry(command);
 }
 
 // What is written, and the byte after it.
@@ -147,6 +163,9 @@ fn payload_of(function: u8, pair: u8, body: u32) -> [u8; 8] {
     if body == FILLING {
         return [function, pair, 0xFF, 0xFF, 0xFF, 0xFF, 0xFF, 0xFF];
     }
+    if body == WRONG_FILLING {
+        return [function, pair, 0x01, 0xF1, 0xFE, 0x00, 0xFF, 0x00];
+    }
     if body == MODE_2 {
         return [function, pair, 0x02, 0xF1, 0xFE, 0x00, 0xFF, 0xFF];
     }
@@ -159,7 +178,10 @@ fn payload_of(function: u8, pair: u8, body: u32) -> [u8; 8] {
 // The number that refuses a payload, 0 where it is a command.
 fn refusal(port: u32, payload: &[u8; 8]) -> u32 {
     match network_message::decode(PORTS, port, payload) {
-        Command::Refused(n) => n,
+        Command::Refused {
+            number: n,
+            entry: _,
+        } => n,
         _ => 0,
     }
 }
@@ -218,7 +240,7 @@ fn column(n: u32) {
     number(b" ", n as u64);
 }
 
-// What the pair bytes of a function from a port come to: commands, and refused with 9 to 13.
+// What the pair bytes of a function from a port come to: commands, and refused with 9 to 12, 22 and 13, in the order of the checks.
 fn print_row(port: u32, function: u8, body: u32) {
     number(b" from port ", port as u64);
     io::write_all(STDOUT_FILENO, b":");
@@ -227,6 +249,7 @@ fn print_row(port: u32, function: u8, body: u32) {
     column(count(port, function, body, 10));
     column(count(port, function, body, 11));
     column(count(port, function, body, 12));
+    column(count(port, function, body, 22));
     column(count(port, function, body, 13));
     io::write_all(STDOUT_FILENO, b"\n");
 }
@@ -252,6 +275,7 @@ fn print_others(port: u32, body: u32) {
     column(count_others(port, body, 10));
     column(count_others(port, body, 11));
     column(count_others(port, body, 12));
+    column(count_others(port, body, 22));
     column(count_others(port, body, 13));
     io::write_all(STDOUT_FILENO, b"\n");
 }
@@ -276,6 +300,8 @@ fn print_wrong_bodies() {
     print_function(b"Add    ", network_message::ADD, FILLING);
     print_function(b"Delete ", network_message::DELETE, FILLING);
     print_function(b"Create ", network_message::CREATE, FILLING);
+    io::write_all(STDOUT_FILENO, b"with wrong filling\n");
+    print_function(b"Create ", network_message::CREATE, WRONG_FILLING);
     io::write_all(STDOUT_FILENO, b"with mode 2\n");
     print_function(b"Create ", network_message::CREATE, MODE_2);
 }
@@ -293,8 +319,8 @@ fn print_examples() {
     print_payload(b"P9", 1, &p9);
 }
 
-// Two entries in 8 bytes, three in 11, one byte too many, and a To of 15.
-fn print_lengths() {
+// Two entries in 8 bytes, and three in 11, good and wrong ones: of two that are wrong the first is told.
+fn print_entry_payloads() {
     let two = [0x02u8, 0x12, 0xF1, 0xFE, 0x00, 0xFF, 0xFF, 0x00];
     print_payload(b"two entries", 1, &two);
     let three = [
@@ -311,10 +337,38 @@ fn print_lengths() {
         0x00,
     ];
     print_payload(b"three entries", 1, &three);
+    let second = [0x02u8, 0x12, 0xF1, 0xFE, 0x00, 0xFF, 0xFF, 0xFE];
+    print_payload(b"wrong second", 1, &second);
+    let both = [
+        0x03u8,
+        0x12,
+        0xF1,
+        0xFE,
+        0x00,
+        0x2A,
+        0xEF,
+        0x00,
+        0xFF,
+        0xFF,
+        0xFF,
+    ];
+    print_payload(b"wrong second and third", 1, &both);
+}
+
+// 12 goes before 22, and 22 before 13: one byte too many, wrong filling, and mode 2.
+fn print_order() {
     let over = [0x03u8, 0x12, 0xF1, 0xFE, 0x00, 0xFF, 0xFF, 0x00, 0xFF];
     print_payload(b"a byte over", 1, &over);
+    let none = [0x03u8, 0x12, 0x2A, 0xEF, 0x00, 0xFF, 0xFF, 0x00, 0xFF];
+    print_payload(b"a byte over and no PGN", 1, &none);
     let filled = [0x06u8, 0x12, 0x01, 0xF1, 0xFE, 0x00, 0xFF, 0x00];
     print_payload(b"wrong filling", 1, &filled);
+    let mode = [0x06u8, 0x12, 0x02, 0x2A, 0xEF, 0x00, 0xFF, 0xFF];
+    print_payload(b"mode 2 and no PGN", 1, &mode);
+}
+
+// A To of 15, and an address list.
+fn print_all_and_addresses() {
     let all = [0x04u8, 0x2F, 0x00, 0x00, 0x00, 0x00, 0x00, 0x00];
     print_payload(b"all pairs", 2, &all);
     let list = [0x40u8, 0xF3, 0x00, 0x00, 0x00, 0x00, 0x00, 0x00];
@@ -347,11 +401,13 @@ fn print_replies() {
 
 fn main() {
     print_examples();
-    print_lengths();
+    print_entry_payloads();
+    print_order();
+    print_all_and_addresses();
     print_replies();
     io::write_all(
         STDOUT_FILENO,
-        b"of 256 pair bytes: commands, and refused with 9 to 13\n",
+        b"of 256 pair bytes: commands, and refused with 9, 10, 11, 12, 22, 13\n",
     );
     print_table();
     print_wrong_bodies();

@@ -10,8 +10,9 @@ use borrow.Author.Tests.{eq-eqb, ne-eqb, eqb-true, eqb-false, not-true}
 use lib.Dec.{eqb}
 use lib.ListN.{length}
 use Rattle.entries.specs.Entries.{listed}
+use Rattle.entries.proofs.Listed.{formed}
 use Rattle.checks.proofs.Tests.{both}
-use Rattle.network_message.specs.Decoding.{functionOf, pairOf, fromOf, toOf, allPorts, mayBeAll, isPair, namesPorts, entriesEnd, holdsEntries, hasGoodBody, refusalOf, commandOf, answered, decoded}
+use Rattle.network_message.specs.Decoding.{functionOf, pairOf, fromOf, toOf, allPorts, mayBeAll, isPair, namesPorts, entriesEnd, holdsEntries, hasGoodBody, wrongIn, wrongEntry, between, judged, commandOf, answered, decoded}
 use Rattle.checks.specs.Ports.{isPort}
 use Rattle.network_message.specs.Commands.{named, pairs, Own, Ports, Holding, Good}
 use Rattle.checks.proofs.Ports.{port-bounds}
@@ -61,19 +62,21 @@ module _ (ports port function from to : ℕ) (payload : List ℕ) (P : Passed po
   unfolding namesPorts
   port-named e = rw (eq-eqb function 64 e) at (P .ported)
 
-  held : (start : ℕ) → start ≤ 3 → 8 ≤ length payload → holdsEntries start payload ≡ true → Holding start (entriesEnd start payload) payload
-  unfolding holdsEntries
-  held start s l e = let b = end-bounds start payload s l in record { forward = b .0; inside = b .1; formed = e }
+  held : (start : ℕ) → start ≤ 3 → 8 ≤ length payload → holdsEntries start payload ≡ true → eqb (wrongIn start payload) 0 ≡ true → Holding start (entriesEnd start payload) payload
+  unfolding holdsEntries wrongIn
+  held start s l e w =
+      let b = end-bounds start payload s l in
+      record { forward = b .0; inside = b .1; formed = formed (between start (entriesEnd start payload) payload) e (eqb-true _ 0 w) }
 
   pub command-good : 8 ≤ length payload → Good ports payload (commandOf function from to payload)
-  unfolding hasGoodBody listed
+  unfolding hasGoodBody wrongEntry listed
   command-good l =
       by-function (Good ports payload) function from to payload (P .known)
       (λ e. (here (λ h. omega arith), request-port ports from to (rw e at (pairs-named (λ h. omega arith)))))
-      (λ e. (here (λ h. omega arith), held 2 (omega arith) l (rw e at (P .bodied))))
-      (λ e. (here (λ h. omega arith), held 2 (omega arith) l (rw e at (P .bodied))))
+      (λ e. (here (λ h. omega arith), held 2 (omega arith) l (rw e at (P .bodied)) (rw e at (P .entered))))
+      (λ e. (here (λ h. omega arith), held 2 (omega arith) l (rw e at (P .bodied)) (rw e at (P .entered))))
       (λ e. here (λ h. omega arith))
-      (λ _ e. (here (λ h. omega arith), held 3 (omega arith) l (rw e at (P .bodied))))
+      (λ _ e. (here (λ h. omega arith), held 3 (omega arith) l (rw e at (P .bodied)) (rw e at (P .entered))))
       (λ e. port-bounds ports to (port-named e))
     where
       here : (function ≡ 64 → ⊥) → Ports ports from to
@@ -91,20 +94,20 @@ module _ (ports port : ℕ) (payload : List ℕ) where
   unfolding decoded
   decoded-good l = go (functionOf payload) (fromOf (pairOf payload)) (toOf (pairOf payload))
     where
-      go : (function from to : ℕ) → Good ports payload (answered (refusalOf ports port function from to payload) (commandOf function from to payload))
+      go : (function from to : ℕ) → Good ports payload (answered (judged ports port function from to payload) (commandOf function from to payload))
       go function from to =
           answered-by ports port function from to payload (Good ports payload)
-          (λ n r. r)
+          (λ n e r. r)
           (λ P. command-good ports port function from to payload P l)
 
   pub decoded-own : 2 ≤ port → port ≤ ports → ports ≤ 8 → Own ports port (named (decoded ports port payload))
   unfolding decoded named
   decoded-own tool there few = go (functionOf payload) (fromOf (pairOf payload)) (toOf (pairOf payload))
     where
-      go : (function from to : ℕ) → Own ports port (named (answered (refusalOf ports port function from to payload) (commandOf function from to payload)))
+      go : (function from to : ℕ) → Own ports port (named (answered (judged ports port function from to payload) (commandOf function from to payload)))
       go function from to =
           answered-by ports port function from to payload (λ c. Own ports port (named c))
-          (λ n r. tt)
+          (λ n e r. tt)
           (λ P.
           let mine = own ports port function from to payload P tool there few in
           by-function (λ c. Own ports port (named c)) function from to payload (P .known)

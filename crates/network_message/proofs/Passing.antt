@@ -10,7 +10,7 @@ use Rattle.entries.specs.Entries.{listed}
 use Rattle.network_message.specs.declared.Command.{Command}
 use Rattle.network_message.specs.declared.Command.the-variants.{Refused, Request, Add, Delete, Clear, Create, AddressList}
 use Rattle.checks.specs.Checks.{acknowledges}
-use Rattle.network_message.specs.Decoding.{isKnown, namesPorts, mayName, entriesEnd, hasGoodBody, bodyRefusal, payloadChecks, refusalOf, commandOf, answered}
+use Rattle.network_message.specs.Decoding.{isKnown, namesPorts, mayName, entriesEnd, hasGoodBody, wrongEntry, payloadChecks, refusalOf, judged, commandOf, answered}
 use Rattle.checks.proofs.FirstNumber.{first-in}
 
 -- ---- what a payload that is not refused has passed
@@ -19,28 +19,11 @@ pub record Passed (ports port function from to : ℕ) (payload : List ℕ) : Typ
   pub ported : namesPorts ports function from to ≡ true
   pub allowed : mayName ports port function from to ≡ true
   pub bodied : hasGoodBody function payload ≡ true
+  pub entered : eqb (wrongEntry function payload) 0 ≡ true
 
 next : (b : Bool) (n : ℕ) {rest : ℕ} → 0 < n → cond (not b) n rest ≡ 0 → (b ≡ true) × (rest ≡ 0)
 next true n h e = (refl, e)
 next false n h e = absurd (omega arith)
-
--- ---- the number of the body, by its test
-module _ (function : ℕ) (payload : List ℕ) {n : ℕ} (e : n ≡ bodyRefusal function payload) where
-  pub body-wrong : (n ≡ 0 → ⊥) → (hasGoodBody function payload ≡ false) × (n ≡ 12)
-  unfolding bodyRefusal
-  body-wrong h = go (hasGoodBody function payload) refl e
-    where
-      go : (b : Bool) → hasGoodBody function payload ≡ b → n ≡ cond b 0 12 → (hasGoodBody function payload ≡ false) × (n ≡ 12)
-      go true t e = absurd (h e)
-      go false t e = (t, e)
-
-  pub body-right : n ≡ 0 → hasGoodBody function payload ≡ true
-  unfolding bodyRefusal
-  body-right z = go (hasGoodBody function payload) refl e
-    where
-      go : (b : Bool) → hasGoodBody function payload ≡ b → n ≡ cond b 0 12 → hasGoodBody function payload ≡ true
-      go true t e = t
-      go false t e = absurd (omega arith)
 
 -- ---- a choice, by its test
 choose : (P : Command → Type 0) (b : Bool) {x y : Command} → (b ≡ true → P x) → (b ≡ false → P y) → P (cond b x y)
@@ -55,17 +38,19 @@ module _ (ports port function from to : ℕ) (payload : List ℕ) where
       let b = next (namesPorts ports function from to) 10 (omega arith) (a .1) in
       let c = next (mayName ports port function from to) 11 (omega arith) (b .1) in
       let d = next (hasGoodBody function payload) 12 (omega arith) (c .1) in
-      record { known = a .0; ported = b .0; allowed = c .0; bodied = d .0 }
+      let f = next (eqb (wrongEntry function payload) 0) 22 (omega arith) (d .1) in
+      record { known = a .0; ported = b .0; allowed = c .0; bodied = d .0; entered = f .0 }
 
   told : (refusalOf ports port function from to payload ≡ 0 → ⊥) → acknowledges (refusalOf ports port function from to payload) ≡ true
   unfolding refusalOf
   told h = first-in acknowledges (payloadChecks ports port function from to payload) refl h
 
   -- refused with a number that is acknowledged, or a command that has passed
-  pub answered-by : (Q : Command → Type 0) → ((n : ℕ) → acknowledges n ≡ true → Q (Refused n)) → (Passed ports port function from to payload → Q (commandOf function from to payload)) → Q (answered (refusalOf ports port function from to payload) (commandOf function from to payload))
+  pub answered-by : (Q : Command → Type 0) → ((n e : ℕ) → acknowledges n ≡ true → Q (Refused n e)) → (Passed ports port function from to payload → Q (commandOf function from to payload)) → Q (answered (judged ports port function from to payload) (commandOf function from to payload))
+  unfolding judged
   answered-by Q refused command =
       let n = refusalOf ports port function from to payload in
-      choose Q (eqb n 0) (λ e. command (passed (eqb-true n 0 e))) (λ e. refused n (told (eqb-false n 0 e)))
+      choose Q (eqb n 0) (λ e. command (passed (eqb-true n 0 e))) (λ e. refused n (judged ports port function from to payload .entry) (told (eqb-false n 0 e)))
 
 -- ---- a command, by its function
 -- a known function that is none of the five is 64

@@ -21,7 +21,7 @@ pub data Named : Type 0 where
   port : ℕ → Named
 
 unfoldable pub named : Command → Named
-named (Refused number) = none
+named (Refused number entry) = none
 named (Request from to) = pairs from to
 named (Add from to start end) = pairs from to
 named (Delete from to start end) = pairs from to
@@ -56,7 +56,7 @@ pub record Holding (start end : ℕ) (payload : List ℕ) : Type 0 where
   pub formed : wellFormed (between start end payload) ≡ true
 
 abbrev pub Good : ℕ → List ℕ → Command → Type 0
-Good ports payload (Refused number) = acknowledges number ≡ true
+Good ports payload (Refused number entry) = acknowledges number ≡ true
 Good ports payload (Request from to) = Ports ports from to × (to ≤ ports)
 Good ports payload (Add from to start end) = Ports ports from to × Holding start end payload
 Good ports payload (Delete from to start end) = Ports ports from to × Holding start end payload

@@ -1,12 +1,13 @@
--- Document 01, "Network messages", and its numbers 9 to 13: what a payload says. All is over the number of ports; ports are counted from 1 here, as on the wire.
+-- Document 01, "Network messages", and its numbers 9 to 13 and 22: what a payload says. All is over the number of ports; ports are counted from 1 here, as on the wire.
 -- Assumes nothing.
 use mathlib.Core.Bool.{Bool, cond, not, _&&_, _||_}
 use mathlib.Core.List.{List, [], _∷_}
 use Prim.Native.Nat.{ℕ, _+_, _-_, _/_, _%_}
 use lib.ListN.{length, getD, take, drop}
 use lib.Dec.{ltb, eqb}
-use Rattle.entries.specs.Entries.{listed, every, wellFormed}
+use Rattle.entries.specs.Entries.{listed, every, entriesOf, whole, firstWrong}
 use Rattle.network_message.specs.declared.Command.{Command}
+use Rattle.network_message.specs.declared.judging.Judged.{Judged}
 use Rattle.network_message.specs.declared.Command.the-variants.{Refused, Request, Add, Delete, Clear, Create, AddressList}
 use Rattle.checks.specs.Checks.{Check, check, first}
 use Rattle.checks.specs.Ports.{isPort}
@@ -57,7 +58,7 @@ unfoldable pub mayName : ℕ → ℕ → ℕ → ℕ → ℕ → Bool
 mayName ports port function from to =
     eqb port 1 || (eqb to port || (not (eqb function 64) && (eqb from port || (eqb to allPorts && eqb ports 2))))
 
--- ---- 12: body wrong: length, entry or filling
+-- ---- 12: body wrong: length or filling
 -- "entries from byte 3", in Create "from byte 4"; bytes are counted from 0 here
 abbrev pub entriesStart : ℕ → ℕ
 entriesStart function = cond (eqb function 6) 3 2
@@ -74,16 +75,20 @@ abbrev pub between : ℕ → ℕ → List ℕ → List ℕ
 between start end payload = take (end - start) (drop start payload)
 
 unfoldable pub holdsEntries : ℕ → List ℕ → Bool
-holdsEntries start payload = wellFormed (between start (entriesEnd start payload) payload)
+holdsEntries start payload = whole (between start (entriesEnd start payload) payload)
 
 -- Add, Delete and Create hold entries, the others are of 8 bytes
 unfoldable pub hasGoodBody : ℕ → List ℕ → Bool
 hasGoodBody function payload =
     cond (listed function (2 ∷ 3 ∷ 6 ∷ [])) (holdsEntries (entriesStart function) payload) (eqb (length payload) 8)
 
--- the number of the body alone, or 0
-unfoldable pub bodyRefusal : ℕ → List ℕ → ℕ
-bodyRefusal function payload = cond (hasGoodBody function payload) 0 12
+-- ---- 22 (document 02, ticket 2): three bytes that aren't a PGN
+-- "the first such entry's number from 1", 0 where there is none
+unfoldable pub wrongIn : ℕ → List ℕ → ℕ
+wrongIn start payload = firstWrong (entriesOf (between start (entriesEnd start payload) payload))
+
+unfoldable pub wrongEntry : ℕ → List ℕ → ℕ
+wrongEntry function payload = cond (listed function (2 ∷ 3 ∷ 6 ∷ [])) (wrongIn (entriesStart function) payload) 0
 
 -- ---- 13: Create mode, in byte 3, not 0 or 1
 unfoldable pub hasWrongMode : ℕ → List ℕ → Bool
@@ -96,6 +101,7 @@ payloadChecks ports port function from to payload =
     ∷ check (not (namesPorts ports function from to)) 10
     ∷ check (not (mayName ports port function from to)) 11
     ∷ check (not (hasGoodBody function payload)) 12
+    ∷ check (not (eqb (wrongEntry function payload) 0)) 22
     ∷ check (hasWrongMode function payload) 13
     ∷ []
 
@@ -111,12 +117,19 @@ commandOf function from to payload =
     (cond (eqb function 6) (Create from to (eqb (getD payload 2 0) 1) 3 (entriesEnd 3 payload))
     (AddressList to)))))
 
+-- what a payload is judged: the number that refuses it, and with 22 which entry
+unfoldable pub judged : ℕ → ℕ → ℕ → ℕ → ℕ → List ℕ → Judged
+judged ports port function from to payload = record {
+  number = refusalOf ports port function from to payload;
+  entry = cond (eqb (refusalOf ports port function from to payload) 22) (wrongEntry function payload) 0;
+}
+
 -- a payload that arrived at a port is refused with the first number that applies, else it is its command
-abbrev pub answered : ℕ → Command → Command
-answered number command = cond (eqb number 0) command (Refused number)
+abbrev pub answered : Judged → Command → Command
+answered j command = cond (eqb (j .number) 0) command (Refused (j .number) (j .entry))
 
 unfoldable pub decoded : ℕ → ℕ → List ℕ → Command
 decoded ports port payload =
     answered
-    (refusalOf ports port (functionOf payload) (fromOf (pairOf payload)) (toOf (pairOf payload)) payload)
+    (judged ports port (functionOf payload) (fromOf (pairOf payload)) (toOf (pairOf payload)) payload)
     (commandOf (functionOf payload) (fromOf (pairOf payload)) (toOf (pairOf payload)) payload)

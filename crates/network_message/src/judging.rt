@@ -1,4 +1,4 @@
-// Judging a payload: the checks 9 to 13, from the payload and the port alone.
+// Judging a payload: the checks 9 to 13 and 22, from the payload and the port alone.
 use crate::ADD;
 use crate::ADDRESS_LIST;
 use crate::CLEAR;
@@ -8,8 +8,7 @@ use crate::REQUEST;
 ghost use mathlib.Core.Path.{_≡_};
 ghost use Prim.Native.Nat.{_≤_};
 ghost use lib.ListN.{length};
-ghost use Rattle.entries.specs.Entries.{entriesRefusal};
-ghost use Rattle.network_message.specs.Decoding.{isKnown, mayBeAll, isPair, namesPorts, mayName, isFilling, entriesEnd, between, bodyRefusal, hasWrongMode, refusalOf};
+ghost use Rattle.network_message.specs.Decoding.{isKnown, mayBeAll, isPair, namesPorts, mayName, isFilling, entriesEnd, holdsEntries, hasGoodBody, wrongIn, wrongEntry, hasWrongMode, judged};
 
 // To 15: all pairs from a port.
 const ALL_PORTS: u32 = 15;
@@ -116,30 +115,47 @@ pub fn entries_end(start: usize, payload: &[u8]) -> usize
     n
 }
 
-// The number that refuses the entries from `start` on, or 0.
-fn entries_refusal(start: usize, payload: &[u8]) -> u32
+// Whether the entries from `start` on go to the last byte, or up to the filling.
+fn holds_entries(start: usize, payload: &[u8]) -> bool
     requires { ⌜ (start ≤ 3) × (8 ≤ length (now payload)) ⌝ }
-    ensures { λ r. ⌜ r ≡ entriesRefusal (between start (entriesEnd start (now (payload .entry))) (now (payload .entry))) ⌝ }
+    ensures { λ r. ⌜ r ≡ holdsEntries start (now (payload .entry)) ⌝ }
 {
     let end = entries_end(start, payload);
-    entries::refusal(&payload[start..end])
+    entries::is_whole(&payload[start..end])
 }
 
-// 12 where length, entries or filling are wrong, or 0.
-fn body_refusal(function: u8, payload: &[u8]) -> u32
+// 12: whether length and filling are right.
+fn has_good_body(function: u8, payload: &[u8]) -> bool
     requires { ⌜ 8 ≤ length (now payload) ⌝ }
-    ensures { λ r. ⌜ r ≡ bodyRefusal function (now (payload .entry)) ⌝ }
+    ensures { λ r. ⌜ r ≡ hasGoodBody function (now (payload .entry)) ⌝ }
 {
     match function {
-        ADD => entries_refusal(2, payload),
-        DELETE => entries_refusal(2, payload),
-        CREATE => entries_refusal(3, payload),
-        _ => {
-            if payload.len() == 8 {
-                return 0;
-            }
-            12
-        }
+        ADD => holds_entries(2, payload),
+        DELETE => holds_entries(2, payload),
+        CREATE => holds_entries(3, payload),
+        _ => payload.len() == 8,
+    }
+}
+
+// The number from 1 of the first entry from `start` on that is no PGN, or 0.
+fn wrong_in(start: usize, payload: &[u8]) -> usize
+    requires { ⌜ (start ≤ 3) × (8 ≤ length (now payload)) ⌝ }
+    ensures { λ r. ⌜ r ≡ wrongIn start (now (payload .entry)) ⌝ }
+{
+    let end = entries_end(start, payload);
+    entries::first_wrong(&payload[start..end])
+}
+
+// 22: the number from 1 of a command's first entry that is no PGN, or 0.
+fn wrong_entry(function: u8, payload: &[u8]) -> usize
+    requires { ⌜ 8 ≤ length (now payload) ⌝ }
+    ensures { λ r. ⌜ r ≡ wrongEntry function (now (payload .entry)) ⌝ }
+{
+    match function {
+        ADD => wrong_in(2, payload),
+        DELETE => wrong_in(2, payload),
+        CREATE => wrong_in(3, payload),
+        _ => 0,
     }
 }
 
@@ -154,26 +170,40 @@ fn has_wrong_mode(function: u8, payload: &[u8]) -> bool
     false
 }
 
-// The number that a payload is refused with, or 0.
-pub fn refusal(ports: u32, port: u32, function: u8, from: u32, to: u32, payload: &[u8]) -> u32
+// The number that a payload is refused with, or 0; with 22 the first wrong entry's, else 0.
+pub struct Judged {
+    pub number: u32,
+    pub entry: usize,
+}
+
+fn number_alone(number: u32) -> Judged
+    ensures { λ r. ⌜ r ≡ record { number = number; entry = 0 } ⌝ }
+{
+    Judged { number, entry: 0 }
+}
+
+pub fn judge(ports: u32, port: u32, function: u8, from: u32, to: u32, payload: &[u8]) -> Judged
     requires { ⌜ (ports ≤ 8) × (8 ≤ length (now payload)) ⌝ }
-    ensures { λ r. ⌜ r ≡ refusalOf ports port function from to (now (payload .entry)) ⌝ }
+    ensures { λ r. ⌜ r ≡ judged ports port function from to (now (payload .entry)) ⌝ }
 {
     if !is_known(function) {
-        return 9;
+        return number_alone(9);
     }
     if !names_ports(ports, function, from, to) {
-        return 10;
+        return number_alone(10);
     }
     if !may_name(ports, port, function, from, to) {
-        return 11;
+        return number_alone(11);
     }
-    let body = body_refusal(function, payload);
-    if body != 0 {
-        return body;
+    if !has_good_body(function, payload) {
+        return number_alone(12);
+    }
+    let entry = wrong_entry(function, payload);
+    if entry != 0 {
+        return Judged { number: 22, entry };
     }
     if has_wrong_mode(function, payload) {
-        return 13;
+        return number_alone(13);
     }
-    0
+    number_alone(0)
 }

@@ -4,7 +4,7 @@ mod judging;
 ghost use mathlib.Core.Path.{_≡_};
 ghost use Prim.Native.Nat.{_≤_};
 ghost use lib.ListN.{length};
-ghost use Rattle.network_message.specs.Decoding.{fromOf, toOf, commandOf, decoded};
+ghost use Rattle.network_message.specs.Decoding.{functionOf, fromOf, toOf, wrongEntry, commandOf, decoded};
 
 // The functions.
 pub const REQUEST: u8 = 0;
@@ -19,9 +19,12 @@ pub const CREATE: u8 = 6;
 
 pub const ADDRESS_LIST: u8 = 64;
 
-// What a payload asks, or the number that refuses it. A `to` of 15 is all pairs from that port. Entries are the payload's bytes from `start` up to `end`.
+// What a payload asks, or the number that refuses it, with 22 the first wrong entry's number from 1, else 0. A `to` of 15 is all pairs from that port. Entries are the payload's bytes from `start` up to `end`.
 pub enum Command {
-    Refused(u32),
+    Refused {
+        number: u32,
+        entry: usize,
+    },
     Request {
         from: u32,
         to: u32,
@@ -107,9 +110,12 @@ pub fn decode(ports: u32, port: u32, payload: &[u8]) -> Command
     let function = payload[0];
     let from = from_port(payload[1]);
     let to = to_port(payload[1]);
-    let number = judging::refusal(ports, port, function, from, to, payload);
-    if number != 0 {
-        return Command::Refused(number);
+    let judged = judging::judge(ports, port, function, from, to, payload);
+    if judged.number != 0 {
+        return Command::Refused {
+            number: judged.number,
+            entry: judged.entry,
+        };
     }
     command_of(function, from, to, payload)
 }

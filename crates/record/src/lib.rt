@@ -12,7 +12,7 @@ ghost use Prim.Native.Nat.{ℕ, _+_, _-_, _*_, _≤_, _<_};
 ghost use lib.ListN.{length, getD, set};
 ghost use Rattle.address_claims.specs.Claims.{claimed, claimEvent, withdrawn, withdrawEvent, othersDropped, settled};
 ghost use Rattle.filter.specs.Filter.{clear, blockSize as filterLength};
-ghost use Rattle.entries.specs.Entries.{entriesOf};
+ghost use Rattle.entries.specs.Entries.{listed, entriesOf};
 ghost use Rattle.network_message.specs.Decoding.{longest};
 ghost use Rattle.queue.specs.Queue.{blockLength as queueLength};
 ghost use Rattle.replies.specs.Replies.{listReply, addressReply, Writing};
@@ -75,6 +75,16 @@ pub fn ask_pair(words: &[u64], ports: usize, from: usize, to: usize, pgn: u32) -
     let i = pair_at(ports, from, to);
     let a = filter_at(ports, i);
     ask_filter(words, a, pgn)
+}
+
+// Whether the list of pair i holds a PGN.
+pub fn lists(words: &[u64], ports: usize, i: usize, pgn: u64) -> bool
+    requires { ⌜ (ports ≤ 8) × (length (now words) ≡ recordLength ports) × (i < pairCount ports) ⌝ }
+    ensures { λ r. ⌜ r ≡ listed pgn (getD (modelOf ports (now (words .entry)) .rest .pairs) i clear .entries) ⌝ }
+{
+    let a = filter_at(ports, i);
+    let e = a + filter::BLOCK_SIZE;
+    filter::lists(&words[a..e], pgn)
 }
 
 // A question to pair i, before a command with these entries.

@@ -1,18 +1,19 @@
 // One line of a script: its call on the unit, counted, and the answer as a line.
-use crate::print;
-use crate::reasons;
-use crate::script;
-use crate::tally;
-use crate::words;
 use address_claims::Event;
+use bridge::Absent;
 use bridge::FrameAnswer;
 use bridge::MessageAnswer;
+use bridge::StartAnswer;
 use bridge::TakeAnswer;
 use bridge::UnitAnswer;
 use queue::Frame;
 use queue::Taken;
 use script::Call;
 use script::Wrong;
+use script_output::print;
+use script_output::reasons;
+use script_output::tally;
+use script_output::words;
 use unit::Claim;
 use unit::NO_ADDRESS;
 use unit::Unit;
@@ -32,6 +33,24 @@ fn no_call(counts: &mut [u64], why: Wrong, out: &mut [u8]) -> usize
     words::wrong(out, at, why)
 }
 
+// A call that is refused: its letter and the number.
+fn refused(out: &mut [u8], letter: u8, number: u32) -> usize
+    ensures { λ r. ⌜ r ≤ length (now (out .entry)) ⌝ }
+{
+    let at = print::byte(out, 0, letter);
+    print::count(out, at, b" R ", number as u64)
+}
+
+// A call that answers nothing but whether it is done: its letter, and the number that refused it.
+fn done_or_refused(out: &mut [u8], letter: u8, number: u32) -> usize
+    ensures { λ r. ⌜ r ≤ length (now (out .entry)) ⌝ }
+{
+    if number != 0 {
+        return refused(out, letter, number);
+    }
+    print::byte(out, 0, letter)
+}
+
 // Power-on.
 fn power_on(
     words: &mut [u64],
@@ -46,10 +65,7 @@ fn power_on(
     let number = Unit::power_on_ports(words, name, preferred, count);
     tally::unit(counts, unit::ports_of(words));
     tally::call(counts, tally::POWER_ON, number);
-    if number != 0 {
-        return print::count(out, 0, b"P R ", number as u64);
-    }
-    print::text(out, 0, b"P")
+    done_or_refused(out, b'P', number)
 }
 
 // The word of a claim state.
@@ -60,20 +76,27 @@ fn claim(out: &mut [u8], at: usize, c: Claim) -> usize
     print::one_of(out, at, b" Unstarted| Claiming| Claimed| Lost", c.word())
 }
 
-// Start: what became of the unit, and the ports where its own frame was lost.
+// Start's answer: what became of the unit, and the ports where its own frame was lost.
+fn start_answer(out: &mut [u8], a: StartAnswer) -> usize
+    ensures { λ r. ⌜ r ≤ length (now (out .entry)) ⌝ }
+{
+    if a.refusal != 0 {
+        return refused(out, b'S', a.refusal);
+    }
+    let at = print::byte(out, 0, b'S');
+    let became = a.claim;
+    let at = claim(out, at, became);
+    print::ports(out, at, a.unsent)
+}
+
+// Start.
 fn start(words: &mut [u64], counts: &mut [u64], out: &mut [u8]) -> usize
     ensures { λ r. ⌜ r ≤ length (now (out .entry)) ⌝ }
 {
     let a = bridge::start(words);
     tally::call(counts, tally::START, a.refusal);
     tally::ports(counts, tally::OWN_LOST, a.unsent);
-    if a.refusal != 0 {
-        return print::count(out, 0, b"S R ", a.refusal as u64);
-    }
-    let at = print::text(out, 0, b"S");
-    let became = a.claim;
-    let at = claim(out, at, became);
-    print::ports(out, at, a.unsent)
+    start_answer(out, a)
 }
 
 // Quiet.
@@ -82,10 +105,7 @@ fn quiet(words: &mut [u64], counts: &mut [u64], out: &mut [u8]) -> usize
 {
     let number = bridge::quiet(words);
     tally::call(counts, tally::QUIET, number);
-    if number != 0 {
-        return print::count(out, 0, b"Q R ", number as u64);
-    }
-    print::text(out, 0, b"Q")
+    done_or_refused(out, b'Q', number)
 }
 
 // The unit's address, - for none.
@@ -96,7 +116,7 @@ fn address(out: &mut [u8], at: usize, own: u8) -> usize
     if own == NO_ADDRESS {
         return print::text(out, at, b" -");
     }
-    print::count(out, at, b" ", own as u64)
+    print::next_number(out, at, own as u64)
 }
 
 // What power-on gave it: preferred address, NAME, number of ports.
@@ -104,17 +124,17 @@ fn given_at_power_on(out: &mut [u8], at: usize, own: Unit) -> usize
     requires { ⌜ at ≤ length (now out) ⌝ }
     ensures { λ r. ⌜ r ≤ length (now (out .entry)) ⌝ }
 {
-    let at = print::count(out, at, b" ", own.preferred as u64);
+    let at = print::next_number(out, at, own.preferred as u64);
     let at = print::byte(out, at, b' ');
     let at = print::hex(out, at, own.name, 16);
-    print::count(out, at, b" ", own.ports as u64)
+    print::next_number(out, at, own.ports as u64)
 }
 
 // The unit: claim state, address, and what power-on gave it.
 fn told(out: &mut [u8], own: Unit) -> usize
     ensures { λ r. ⌜ r ≤ length (now (out .entry)) ⌝ }
 {
-    let at = print::text(out, 0, b"U");
+    let at = print::byte(out, 0, b'U');
     let is = own.claim;
     let at = claim(out, at, is);
     let at = address(out, at, own.address);
@@ -128,7 +148,7 @@ fn read_unit(words: &[u64], counts: &mut [u64], out: &mut [u8]) -> usize
     match bridge::unit(words) {
         UnitAnswer::Refused(number) => {
             tally::call(counts, tally::UNIT, number);
-            print::count(out, 0, b"U R ", number as u64)
+            refused(out, b'U', number)
         }
         UnitAnswer::Told(own) => {
             tally::call(counts, tally::UNIT, 0);
@@ -217,7 +237,7 @@ fn told_frame(out: &mut [u8], a: FrameAnswer) -> usize
     let e = a.event;
     let at = event(out, at, e);
     let at = print::ports(out, at, a.unsent);
-    print::count(out, at, b" ", a.compared as u64)
+    print::next_number(out, at, a.compared as u64)
 }
 
 // A frame's answer: that, and the reasons at the ports of the unit, `ports` of them.
@@ -226,7 +246,7 @@ fn frame_answer(out: &mut [u8], ports: usize, a: FrameAnswer) -> usize
     ensures { λ r. ⌜ r ≤ length (now (out .entry)) ⌝ }
 {
     if a.refusal != 0 {
-        return print::count(out, 0, b"F R ", a.refusal as u64);
+        return refused(out, b'F', a.refusal);
     }
     let at = told_frame(out, a);
     reasons::told(out, at, a.reasons, ports)
@@ -257,7 +277,7 @@ fn given(out: &mut [u8], f: Frame) -> usize
 {
     let at = print::text(out, 0, b"T ");
     let at = print::hex(out, at, f.id as u64, 8);
-    let at = print::count(out, at, b" ", f.len as u64);
+    let at = print::next_number(out, at, f.len as u64);
     print::word_bytes(out, at, f.bytes, f.len)
 }
 
@@ -281,7 +301,7 @@ fn take(words: &mut [u64], counts: &mut [u64], port: u32, out: &mut [u8]) -> usi
     match bridge::take(words, port) {
         TakeAnswer::Refused(number) => {
             tally::call(counts, tally::TAKE, number);
-            print::count(out, 0, b"T R ", number as u64)
+            refused(out, b'T', number)
         }
         TakeAnswer::Took(t) => {
             tally::call(counts, tally::TAKE, 0);
@@ -291,17 +311,50 @@ fn take(words: &mut [u64], counts: &mut [u64], port: u32, out: &mut [u8]) -> usi
 }
 
 // The number, the PGN, the length and the bytes that were written.
-fn message_answer(out: &mut [u8], a: MessageAnswer, reply: &[u8]) -> usize
+fn written(out: &mut [u8], a: MessageAnswer, reply: &[u8]) -> usize
     ensures { λ r. ⌜ r ≤ length (now (out .entry)) ⌝ }
 {
-    let at = print::count(out, 0, b"M ", a.refusal as u64);
-    let at = print::count(out, at, b" ", a.pgn as u64);
-    let at = print::count(out, at, b" ", a.length as u64);
+    let at = print::byte(out, 0, b'M');
+    let at = print::next_number(out, at, a.refusal as u64);
+    let at = print::next_number(out, at, a.pgn as u64);
+    let at = print::next_number(out, at, a.length as u64);
     let n = a.length as usize;
     if n <= reply.len() {
         return print::bytes(out, at, &reply[0..n]);
     }
     at
+}
+
+// Where a PGN is absent: the pair's To port, and the PGN.
+fn absent(out: &mut [u8], at: usize, told: Absent) -> usize
+    requires { ⌜ at ≤ length (now out) ⌝ }
+    ensures { λ r. ⌜ r ≤ length (now (out .entry)) ⌝ }
+{
+    let next = print::count(out, at, b"  port ", told.to as u64);
+    print::count(out, next, b" PGN ", told.pgn)
+}
+
+// Which entry was wrong: with 22 its number, with 17 where it is absent.
+fn wrong_entry(out: &mut [u8], at: usize, number: u32, told: Absent) -> usize
+    requires { ⌜ at ≤ length (now out) ⌝ }
+    ensures { λ r. ⌜ r ≤ length (now (out .entry)) ⌝ }
+{
+    if number == 22 {
+        return print::count(out, at, b"  entry ", told.entry as u64);
+    }
+    if number == 17 {
+        return absent(out, at, told);
+    }
+    at
+}
+
+// A message's answer: what was written, and which entry was wrong.
+fn message_answer(out: &mut [u8], a: MessageAnswer, reply: &[u8]) -> usize
+    ensures { λ r. ⌜ r ≤ length (now (out .entry)) ⌝ }
+{
+    let at = written(out, a, reply);
+    let told = a.told;
+    wrong_entry(out, at, a.refusal, told)
 }
 
 // A network message, with a reply buffer of the least length.

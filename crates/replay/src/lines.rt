@@ -1,9 +1,8 @@
 // One line of a script: passed over or answered, and what is written for it.
 use crate::calls;
-use crate::print;
-use crate::script;
-use crate::tally;
-use crate::words;
+use script_output::print;
+use script_output::tally;
+use script_output::words;
 ghost use Prim.Native.Nat.{_≤_};
 ghost use lib.ListN.{length};
 

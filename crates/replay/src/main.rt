@@ -2,15 +2,12 @@
 // standard error, and at the end how many lines are no call: a program has no status of its own, and the script `./replay` makes one of that.
 mod calls;
 mod lines;
-mod print;
-mod reasons;
-mod script;
-mod summary;
-mod tally;
-mod words;
 
 use libc::STDERR_FILENO;
 use libc::STDIN_FILENO;
+use script_output::print;
+use script_output::summary;
+use script_output::tally;
 ghost use Prim.Native.Nat.{_≤_};
 ghost use lib.ListN.{length};
 

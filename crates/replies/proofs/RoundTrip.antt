@@ -12,9 +12,9 @@ use lib.Seq.{take-at}
 use Rattle.storage.specs.Bytes.{bytesOf}
 use Rattle.identifier.specs.Identifier.{isPgn}
 use Rattle.filter.specs.Filter.{Mode, cleared, block, pass, Filter, reportedMode}
-use Rattle.entries.specs.Entries.{listed, every, wellFormed, reported}
+use Rattle.entries.specs.Entries.{listed, every, firstWrong, reported}
 use Rattle.entries.proofs.Reported.{pgns-small, reported-back, reported-long}
-use Rattle.network_message.specs.Decoding.{fromOf, toOf, isKnown, isPair, namesPorts, mayName, isFilling, entriesEnd, between, holdsEntries, hasGoodBody, hasWrongMode, refusalOf, commandOf, decoded}
+use Rattle.network_message.specs.Decoding.{judged, fromOf, toOf, isKnown, isPair, namesPorts, mayName, isFilling, entriesEnd, between, holdsEntries, hasGoodBody, wrongIn, wrongEntry, hasWrongMode, refusalOf, commandOf, decoded}
 use Rattle.replies.specs.Replies.{filled, listBody, listReply}
 use Rattle.replies.specs.SentBack.{asCreate, SentBack}
 
@@ -51,23 +51,31 @@ sent-part pair mode es = take-at (reported es) (replicate (8 - length (6 ∷ pai
 
 module _ (pair mode : ℕ) (es : List ℕ) (some : 1 ≤ length es) (pgns : every isPgn es ≡ true) where
   sent-holds : holdsEntries 3 (sent pair mode es) ≡ true
-  unfolding holdsEntries wellFormed
+  unfolding holdsEntries
   sent-holds =
+      rw (
+        sent-end pair mode es some,
+        sent-part pair mode es,
+        eq-eqb (length (reported es) % 3) 0 (omega (arith, reported-long es)),
+      )
+
+  sent-right : wrongIn 3 (sent pair mode es) ≡ 0
+  unfolding wrongIn firstWrong
+  sent-right =
       rw (
         sent-end pair mode es some,
         sent-part pair mode es,
         reported-back es (pgns-small es pgns),
         pgns,
-        eq-eqb (length (reported es) % 3) 0 (omega (arith, reported-long es)),
       )
 
   sent-passes : (ports port : ℕ) → isPair ports 6 (fromOf pair) (toOf pair) ≡ true → mayName ports port 6 (fromOf pair) (toOf pair) ≡ true → ltb 1 mode ≡ false → refusalOf ports port 6 (fromOf pair) (toOf pair) (sent pair mode es) ≡ 0
-  unfolding refusalOf isKnown listed namesPorts hasGoodBody hasWrongMode
-  sent-passes ports port named may good = rw (named, may, sent-holds, good)
+  unfolding refusalOf isKnown listed namesPorts hasGoodBody wrongEntry hasWrongMode
+  sent-passes ports port named may good = rw (named, may, sent-holds, sent-right, good)
 
 -- for a tool that may name the pair
 pub round-trip : (ports port pair : ℕ) (f : Filter) → isPair ports 6 (fromOf pair) (toOf pair) ≡ true → mayName ports port 6 (fromOf pair) (toOf pair) ≡ true → 1 ≤ length (f .entries) → every isPgn (f .entries) ≡ true → SentBack ports port pair f (asCreate (listReply pair f))
-unfolding decoded commandOf
+unfolding decoded judged commandOf
 round-trip ports port pair f named may some pgns =
     let es = f .entries in
     let mode = reportedMode (f .mode) in

@@ -72,11 +72,11 @@ module _ {w w′ out : List ℕ} (long : length w ≡ recordLength (portsOf w)) 
   take-step l o = record { state = rw long at (l .call .state); answer = o ∙ ap (λ r. code (ToTake r)) (rw long at (l .answer)); ports = l .call .count }
 
   pub message-step : {port requester : ℕ} {payload lent back : List ℕ} {r : MessageAnswer} → Messaging (portsOf w) w w′ port requester payload lent back r
-      → out ≡ r .refusal ∷ r .pgn ∷ r .length ∷ 0 ∷ 0 ∷ 0 ∷ 0 ∷ 0 ∷ 0 ∷ [] → Stepping w w′ (Message port requester payload (length lent)) out
+      → out ≡ r .refusal ∷ r .pgn ∷ r .length ∷ r .told .entry ∷ r .told .to ∷ r .told .pgn ∷ 0 ∷ 0 ∷ 0 ∷ [] → Stepping w w′ (Message port requester payload (length lent)) out
   unfolding answer code
   message-step {r} l o = record {
     state = rw long at (l .call .state);
-    answer = o ∙ ap (λ (r : MessageAnswer). r .refusal ∷ r .pgn ∷ r .length ∷ 0 ∷ 0 ∷ 0 ∷ 0 ∷ 0 ∷ 0 ∷ []) (rw long at (l .answer));
+    answer = o ∙ ap (λ (r : MessageAnswer). r .refusal ∷ r .pgn ∷ r .length ∷ r .told .entry ∷ r .told .to ∷ r .told .pgn ∷ 0 ∷ 0 ∷ 0 ∷ []) (rw long at (l .answer));
     ports = l .call .count;
   }
 

@@ -11,7 +11,7 @@ ghost use lib.ListN.{length};
 // How many numbers, bytes and calls there is room for.
 const NUMBERS: usize = 32768;
 
-const BYTES: usize = 16384;
+const BYTES: usize = 24576;
 
 const CALLS: usize = 1024;
 

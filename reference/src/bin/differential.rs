@@ -223,7 +223,9 @@ impl Both {
         let mut expected = vec![BYTE; length];
         let answer = self.reference.message(port, requester, payload, &mut expected);
         same("number", told.number, answer.number)?;
-        same("answer", told.words.contents(), &mut [u64::from(answer.pgn), answer.length as u64])?;
+        let [entry, to, absent] = answer.wrong_words();
+        let mut words = [u64::from(answer.pgn), answer.length as u64, entry, to, absent];
+        same("answer", told.words.contents(), &mut words)?;
         same("reply", told.bytes.contents(), &mut expected)?;
         told.guarded()?;
         Ok(Answer::Message(answer, expected[..answer.length].to_vec()))
@@ -267,7 +269,7 @@ impl Both {
         same("number of a wrong length", told.number, expected)?;
         check(self.record.all == before, "a wrong length changed the record")?;
         // A message whose answer is of its length is told that nothing was written.
-        let told_nothing = is_message && !wrong_words && told.words.contents() == [0, 0];
+        let told_nothing = is_message && !wrong_words && told.words.contents() == [0; MESSAGE_ANSWER];
         check(told_nothing || told.words.untouched(WORD), "a wrong length changed the answer")?;
         check(told.bytes.untouched(BYTE), "a wrong length changed the bytes")?;
         self.count("calls with lent lengths wrong");

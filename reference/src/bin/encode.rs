@@ -90,7 +90,10 @@ fn words(answer: &Answer) -> [u64; 9] {
             let bytes = frame.bytes.iter().rev().fold(0, |word, &byte| word << 8 | u64::from(byte));
             [0, 1, u64::from(frame.id), frame.bytes.len() as u64, bytes, 0, 0, 0, 0]
         }
-        Answer::Message(told, _) => [number, u64::from(told.pgn), told.length as u64, 0, 0, 0, 0, 0, 0],
+        Answer::Message(told, _) => {
+            let [entry, to, absent] = told.wrong_words();
+            [number, u64::from(told.pgn), told.length as u64, entry, to, absent, 0, 0, 0]
+        }
         Answer::Start(Ok(told)) => [0, mask(&told.own_lost), u64::from(told.state.number()), 0, 0, 0, 0, 0, 0],
         Answer::Unit(told) => {
             let address = u64::from(told.address.unwrap_or(NULL));

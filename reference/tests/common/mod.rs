@@ -4,6 +4,7 @@
 
 use reference::address::{ClaimState, Event, Holder, StartAnswer};
 use reference::frame::Frame;
+use reference::message::{MessageAnswer, WrongEntry};
 use reference::pair::Pair;
 use reference::unit::{FrameAnswer, Unit};
 
@@ -94,6 +95,12 @@ pub fn message(unit: &mut Unit, port: u32, requester: u32, payload: &[u8]) -> (u
 
 /// A message with a buffer of some length: number, PGN, bytes written.
 pub fn message_with(unit: &mut Unit, port: u32, requester: u32, payload: &[u8], length: usize) -> (u32, u32, Vec<u8>) {
+    let (answer, written) = told(unit, port, requester, payload, length);
+    (answer.number, answer.pgn, written)
+}
+
+/// A message's whole answer, and the bytes written.
+pub fn told(unit: &mut Unit, port: u32, requester: u32, payload: &[u8], length: usize) -> (MessageAnswer, Vec<u8>) {
     let before = unit.clone();
     let mut reply = vec![0xA5; length];
     let answer = unit.message(port, requester, payload, &mut reply);
@@ -113,7 +120,28 @@ pub fn message_with(unit: &mut Unit, port: u32, requester: u32, payload: &[u8], 
     }
     assert_eq!(unit.queues, before.queues, "messages touch no row");
     assert_eq!(unit.table, before.table);
-    (answer.number, answer.pgn, written)
+    match answer.wrong {
+        None => assert!(![17, 22].contains(&answer.number)),
+        Some(WrongEntry::NoPgn { .. }) => assert_eq!(answer.number, 22),
+        Some(WrongEntry::Absent { .. }) => assert_eq!(answer.number, 17),
+    }
+    (answer, written)
+}
+
+/// The number of a message from the service port's tool, and which entry was wrong.
+pub fn wrong(unit: &mut Unit, payload: &[u8]) -> (u32, Option<WrongEntry>) {
+    let (answer, _) = told(unit, 1, TOOL, payload, 1785);
+    (answer.number, answer.wrong)
+}
+
+/// 22 at an entry.
+pub fn no_pgn(entry: usize) -> (u32, Option<WrongEntry>) {
+    (22, Some(WrongEntry::NoPgn { entry }))
+}
+
+/// 17 at an entry, for the pair to a port.
+pub fn absent(entry: usize, to: u32, pgn: u32) -> (u32, Option<WrongEntry>) {
+    (17, Some(WrongEntry::Absent { entry, to, pgn }))
 }
 
 /// The number of a message from the service port's tool.

@@ -32,6 +32,18 @@ cast-answer-2 c = search needs
 slice-write-answer-2 : tie.Need-slice-write-answer-2
 slice-write-answer-2 c = simp length-set (omega arith)
 
+slice-write-answer-3 : tie.Need-slice-write-answer-3
+slice-write-answer-3 c = simp length-set (omega arith)
+
+cast-answer-3 : tie.Need-cast-answer-3
+cast-answer-3 c = search needs
+
+slice-write-answer-4 : tie.Need-slice-write-answer-4
+slice-write-answer-4 c = simp length-set (omega arith)
+
+slice-write-answer-5 : tie.Need-slice-write-answer-5
+slice-write-answer-5 c = simp length-set (omega arith)
+
 same-length-2 : tie.Need-same-length-2
 same-length-2 c = search needs
 
@@ -43,10 +55,11 @@ same-length-4 c = search needs
 
 returns-2 : tie.Need-returns-2
 returns-2 c =
-    let at = c .before .before .before .before .before .before in
+    let at = c .before .before .before .before .before .before .before in
     let right = at .before .before .before .if1 .left in
     let args = at .before .before .before .before .before .before .before .before .args in
-    message-done (at .message .ensures) right (stored (at .message .result .pgn ∷ at .message .result .length ∷ []) (args .answer .now) right)
+    let a = at .message .result in
+    message-done (at .message .ensures) right (stored (a .pgn ∷ a .length ∷ a .told .entry ∷ a .told .to ∷ a .told .pgn ∷ []) (args .answer .now) right)
 
 pub deorasaeng-message-spec : {M : Type 1} → statement M
 deorasaeng-message-spec =
@@ -60,6 +73,10 @@ deorasaeng-message-spec =
     slice-write-answer
     cast-answer-2
     slice-write-answer-2
+    slice-write-answer-3
+    cast-answer-3
+    slice-write-answer-4
+    slice-write-answer-5
     same-length-2
     same-length-3
     same-length-4

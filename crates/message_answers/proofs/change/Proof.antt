@@ -16,6 +16,18 @@ part-command-end c = search needs
 command-requires : tie.Need-command-requires
 command-requires c κs = search needs
 
+sub-absent-told : tie.Need-sub-absent-told
+sub-absent-told c = search needs
+
+part-absent-told-start : tie.Need-part-absent-told-start
+part-absent-told-start c = search needs
+
+part-absent-told-end : tie.Need-part-absent-told-end
+part-absent-told-end c = search needs
+
+absent-told-requires : tie.Need-absent-told-requires
+absent-told-requires c κs = search needs
+
 shared-slice-read-tell : tie.Need-shared-slice-read-tell
 shared-slice-read-tell c = search needs
 
@@ -31,9 +43,10 @@ same-length-2 c = search needs
 returns : tie.Need-returns
 returns c =
     let at-tell = c .before .before in
-    let at-command = at-tell .before .before .before .before .before in
+    let at-told = at-tell .before .before .before in
+    let at-command = at-told .before .before .before .before .before in
     let args = at-command .before .before .before .before .before .before .args in
-    change-told (args .requester) (args .payload .now) (args .what) (args .from) (args .to) (args .start) (args .end) (at-command .command .ensures) (at-tell .tell .ensures)
+    change-told (args .requester) (args .payload .now) (args .what) (args .from) (args .to) (args .start) (args .end) (at-command .command .ensures) (at-told .absent-told .ensures) (at-tell .tell .ensures)
 
 pub change-spec : {M : Type 1} → statement M
 change-spec =
@@ -43,6 +56,10 @@ change-spec =
     part-command-start
     part-command-end
     command-requires
+    sub-absent-told
+    part-absent-told-start
+    part-absent-told-end
+    absent-told-requires
     shared-slice-read-tell
     tell-requires
     same-length

@@ -9,11 +9,11 @@ use Rattle.message_answers.proofs.perform.Tie as tie
 enum-known-command : tie.Need-enum-known-command
 enum-known-command c = search needs
 
-shared-slice-read-tell : tie.Need-shared-slice-read-tell
-shared-slice-read-tell c = search needs
+shared-slice-read-refuse : tie.Need-shared-slice-read-refuse
+shared-slice-read-refuse c = search needs
 
-tell-requires : tie.Need-tell-requires
-tell-requires c κs = search needs
+refuse-requires : tie.Need-refuse-requires
+refuse-requires c κs = search needs
 
 enum-known-command-2 : tie.Need-enum-known-command-2
 enum-known-command-2 c = search needs
@@ -87,7 +87,7 @@ returns c =
     let at = c .before .before in
     let told = at .before .before .before .before in
     let args = told .before .before .before .before .before .args in
-    rw (told .command .given .1) (refusal-told _ (args .requester) (args .payload .now) (at .tell .ensures))
+    rw (told .command .given .1) (refusal-told _ _ (args .requester) (args .payload .now) (at .refuse .ensures))
 
 same-length-2 : tie.Need-same-length-2
 same-length-2 c = search needs
@@ -156,8 +156,8 @@ perform-spec =
     tie.close
     (tie.spec
     enum-known-command
-    shared-slice-read-tell
-    tell-requires
+    shared-slice-read-refuse
+    refuse-requires
     enum-known-command-2
     shared-slice-read-report
     report-requires

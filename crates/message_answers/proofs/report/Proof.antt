@@ -16,13 +16,16 @@ reply-list-requires c κs = search needs
 cast-t14 : tie.Need-cast-t14
 cast-t14 c = search needs
 
+nothing-told-requires : tie.Need-nothing-told-requires
+nothing-told-requires c κs = search needs
+
 same-length : tie.Need-same-length
 same-length c = search needs
 
 returns : tie.Need-returns
-returns c = reported-of (c .before .before .reply-list .ensures)
+returns c = rw (c .nothing-told .ensures) (reported-of (c .before .before .before .reply-list .ensures))
 
 pub report-spec : {M : Type 1} → statement M
 report-spec =
     tie.close
-    (tie.spec sub-reply-list sub-reply-list-2 reply-list-requires cast-t14 same-length returns)
+    (tie.spec sub-reply-list sub-reply-list-2 reply-list-requires cast-t14 nothing-told-requires same-length returns)

@@ -17,13 +17,16 @@ reply-addresses-requires c κs = search needs
 cast-t9 : tie.Need-cast-t9
 cast-t9 c = omega (arith, c .before .before .reply-addresses .ensures 4 .small)
 
+nothing-told-requires : tie.Need-nothing-told-requires
+nothing-told-requires c κs = search needs
+
 same-length : tie.Need-same-length
 same-length c = search needs
 
 returns : tie.Need-returns
 returns c =
-    let at = c .before .before in
-    λ ports. reported-of (rw (at .before .before .before .read-unit .ensures ports) at (at .reply-addresses .ensures ports))
+    let at = c .before .before .before in
+    λ ports. rw (c .nothing-told .ensures) (reported-of (rw (at .before .before .before .read-unit .ensures ports) at (at .reply-addresses .ensures ports)))
 
 pub report-addresses-spec : {M : Type 1} → statement M
 report-addresses-spec =
@@ -33,5 +36,6 @@ report-addresses-spec =
     cast-reply-addresses
     reply-addresses-requires
     cast-t9
+    nothing-told-requires
     same-length
     returns)

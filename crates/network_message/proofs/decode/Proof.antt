@@ -20,16 +20,16 @@ shared-slice-read-to-port c = search needs
 to-port-requires : tie.Need-to-port-requires
 to-port-requires c κs = search needs
 
-refusal-requires : tie.Need-refusal-requires
-refusal-requires c κs = search needs
+judge-requires : tie.Need-judge-requires
+judge-requires c κs = search needs
 
 returns : tie.Need-returns
 unfolding decoded
 returns c =
-    let at = c .before in
+    let at = c .before .before in
     let to = at .before in
     let from = to .before .before in
-    simp (← (from .from-port .ensures), ← (to .to-port .ensures), ← (at .refusal .ensures), ne-eqb _ _ (c .if1 .taken))
+    simp (← (from .from-port .ensures), ← (to .to-port .ensures), ← (at .judge .ensures), ne-eqb _ _ (c .if1 .taken))
 
 command-of-requires : tie.Need-command-of-requires
 command-of-requires c κs = search needs
@@ -37,10 +37,10 @@ command-of-requires c κs = search needs
 returns-2 : tie.Need-returns-2
 unfolding decoded
 returns-2 c =
-    let at = c .before .before in
+    let at = c .before .before .before in
     let to = at .before in
     let from = to .before .before in
-    simp (← (from .from-port .ensures), ← (to .to-port .ensures), ← (at .refusal .ensures), eq-eqb _ _ (c .before .if1 .left)) (c .command-of .ensures)
+    simp (← (from .from-port .ensures), ← (to .to-port .ensures), ← (at .judge .ensures), eq-eqb _ _ (c .before .if1 .left)) (c .command-of .ensures)
 
 pub decode-spec : {M : Type 1} → statement M
 decode-spec =
@@ -51,7 +51,7 @@ decode-spec =
     from-port-requires
     shared-slice-read-to-port
     to-port-requires
-    refusal-requires
+    judge-requires
     returns
     command-of-requires
     returns-2)

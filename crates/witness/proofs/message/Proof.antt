@@ -16,6 +16,9 @@ cast-put-2 c = search needs
 cast-put-3 : tie.Need-cast-put-3
 cast-put-3 c = search needs
 
+cast-put-4 : tie.Need-cast-put-4
+cast-put-4 c = search needs
+
 put-requires : tie.Need-put-requires
 put-requires c κs = search needs
 
@@ -29,7 +32,9 @@ same-length-3 : tie.Need-same-length-3
 same-length-3 c = search needs
 
 returns : tie.Need-returns
-returns c = message-step (search needs) (c .before .before .before .before .before .before .before .before .before .before .before .message .ensures) (c .before .before .put .ensures)
+returns c =
+    let at = c .before .before .before .before .before .before .before .before .before .before .before .before in
+    message-step (at .before .before .before .before .before .before .before .pre .0) (at .message .ensures) (c .before .before .put .ensures)
 
 pub message-spec : {M : Type 1} → statement M
 message-spec =
@@ -39,6 +44,7 @@ message-spec =
     cast-put
     cast-put-2
     cast-put-3
+    cast-put-4
     put-requires
     same-length
     same-length-2

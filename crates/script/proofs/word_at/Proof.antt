@@ -1,0 +1,47 @@
+-- `word_at` meets its contract: each word that is found stands within the line. Assumes nothing.
+use Prim.Native.Nat.{_-_, _≤_}
+use borrow.Author.Needs.{needs}
+use lib.ListN.{length}
+use Rattle.script.proofs.word_at.Statement.{statement}
+use Rattle.script.proofs.word_at.Tie as tie
+
+abbrev Inv-loop : tie.InvT-loop
+Inv-loop line k found₀ i₀ found i = (found .start ≤ found .end) × (found .end ≤ length line)
+
+abbrev μ-loop : tie.MeasureT-loop
+μ-loop line k found₀ i₀ found i = k - i
+
+next-word-requires : tie.Need-next-word-requires Inv-loop μ-loop
+next-word-requires c κs = search needs
+
+loop-holds : tie.Need-loop-holds Inv-loop μ-loop
+loop-holds c = search needs
+
+next-word-requires-2 : tie.Need-next-word-requires-2 Inv-loop μ-loop
+next-word-requires-2 c κs = search needs
+
+add-i : tie.Need-add-i Inv-loop μ-loop
+add-i c = search needs
+
+loop-less : tie.Need-loop-less Inv-loop μ-loop
+loop-less c = search needs
+
+loop-again : tie.Need-loop-again Inv-loop μ-loop
+loop-again c = search needs
+
+returns : tie.Need-returns Inv-loop μ-loop
+returns c = search needs
+
+pub word-at-spec : {M : Type 1} → statement M
+word-at-spec =
+    tie.close
+    (tie.spec
+    Inv-loop
+    μ-loop
+    next-word-requires
+    loop-holds
+    next-word-requires-2
+    add-i
+    loop-less
+    loop-again
+    returns)
