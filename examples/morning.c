@@ -118,6 +118,21 @@ static void transmit(uint32_t port, uint64_t queue[DEORASAENG_QUEUE_WORDS])
     print_take("transmit", port, number, answer, bytes);
 }
 
+/* What a service page asks every second. */
+static void counts(uint32_t port)
+{
+    uint64_t answer[DEORASAENG_COUNTS_ANSWER];
+    uint32_t number = deorasaeng_counts(record, DEORASAENG_RECORD_WORDS, port, answer, DEORASAENG_COUNTS_ANSWER);
+    printf("counts at port %" PRIu32 ": %" PRIu32 " %s", port, number, words_of(number));
+    if (number == 0) {
+        printf(", waiting");
+        for (int priority = 0; priority < 8; priority++)
+            printf(" %" PRIu64, answer[DEORASAENG_COUNTS_WAITING + priority]);
+        printf(", accepted %" PRIu64 ", taken %" PRIu64, answer[DEORASAENG_COUNTS_ACCEPTED], answer[DEORASAENG_COUNTS_TAKEN]);
+    }
+    printf("\n");
+}
+
 static void message(uint32_t port, uint32_t requester, const uint8_t *payload, size_t length)
 {
     uint64_t answer[DEORASAENG_MESSAGE_ANSWER];
@@ -168,10 +183,13 @@ int main(void)
     frame(1, 0x18FEF100, NULL, 0);             /* no bytes */
     frame(5, 0x0CF00400, engine, 8);           /* 1 */
     frame(1, 0x20000000, engine, 8);           /* 3 */
+    counts(2);                                 /* one of rank 3, two of rank 6; the unit's claim has left */
     take(2);                                   /* rank 3 before rank 6 */
     transmit(2, record + DEORASAENG_QUEUE_AT(2));
     transmit(2, record + DEORASAENG_QUEUE_AT(2));
     transmit(2, record + DEORASAENG_QUEUE_AT(2));
+    counts(2);                                 /* all that was accepted was taken */
+    counts(5);                                 /* 1 */
     take(3);
     return 0;
 }

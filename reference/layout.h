@@ -5,16 +5,18 @@
 
 #include "../include/deorasaeng.h"
 
-enum { USUAL_PORTS = 4, FEWEST_PORTS = DEORASAENG_FEWEST_PORTS, MOST_PORTS = DEORASAENG_MOST_PORTS, LIST = 32, QUEUE = 32, PLACES = 254 };
+enum { USUAL_PORTS = 4, FEWEST_PORTS = DEORASAENG_FEWEST_PORTS, MOST_PORTS = DEORASAENG_MOST_PORTS, LIST = 32, QUEUE = 32, RANKS = 8, PLACES = 254 };
 
-/* The unit's own words are its claim state, address, preferred address, NAME and number of ports. A place of the table is its port and its NAME; a queue its count and two
-   words for each frame; a pair its mode, its count and its list. */
+/* The unit's own words are its claim state, address, preferred address, NAME and number of ports. A place of the table is its port and its NAME; a queue how
+   many wait, what the port counts and two words for each frame; a pair its mode, its count and its list. */
 enum {
     PORTS_AT = 4,
     TABLE_AT = 5,
     PLACE_WORDS = 2,
     QUEUES_AT = TABLE_AT + PLACE_WORDS * PLACES,
     QUEUE_WORDS = DEORASAENG_QUEUE_WORDS,
+    COUNTS_AT = 1, /* in a queue, as are the frames */
+    FRAMES_AT = COUNTS_AT + DEORASAENG_COUNTS_ANSWER,
     PAIR_WORDS = 2 + LIST,
     MOST_WORDS = DEORASAENG_RECORD_WORDS_FOR(MOST_PORTS)
 };

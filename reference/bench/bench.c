@@ -92,9 +92,10 @@ static void make(const struct row *r)
             pair[2 + j] = j + 1 == r->at ? PGN : listed(j);
     }
     for (uint32_t port = 1; port <= ports; port++) {
-        w[WAITING(port)] = r->waiting;
+        uint64_t *queue = w + WAITING(port), id = DATA | (r->lower ? 0x18000000 : 0);
+        queue[0] = queue[COUNTS_AT + (id >> 26 & 7)] = queue[COUNTS_AT + DEORASAENG_COUNTS_ACCEPTED] = r->waiting;
         for (int j = 0; j < r->waiting; j++)
-            w[WAITING(port) + 1 + 2 * j] = DATA | 8ull << 32 | (r->lower ? 0x18000000 : 0);
+            queue[FRAMES_AT + 2 * j] = id | 8ull << 32;
     }
     for (int i = 0, n = 0; n < r->held; i++)
         if (i != 0x50) {
@@ -178,6 +179,15 @@ static uint32_t units(const struct side *side, const struct row *r, long calls)
     return number;
 }
 
+static uint32_t counts(const struct side *side, const struct row *r, long calls)
+{
+    uint32_t number = 0;
+    (void)r;
+    for (long k = 0; k < calls; k++)
+        number = side->counts(w, record_len, 2, lent.answer, DEORASAENG_COUNTS_ANSWER);
+    return number;
+}
+
 static uint32_t power_ons(const struct side *side, const struct row *r, long calls)
 {
     uint32_t number = 0;
@@ -221,6 +231,7 @@ static const struct row frame_rows[] = {
     {"Start", starts, .resets = NOTHING_WAITS},
     {"Quiet", quiets, .mode = 0},
     {"unit told", units, .mode = 0},
+    {"counts of a port", counts, .waiting = 32},
     {"power-on", power_ons, .mode = 0},
     {"power-on with 2 ports", power_ons, .ports = 2},
     {"power-on with 8 ports", power_ons, .ports = 8},
@@ -297,7 +308,7 @@ static const struct table {
     const struct row *rows;
     size_t count;
 } tables[] = {
-    {"Frames, takes, Start, Quiet, the unit, power-on", "call", frame_rows, sizeof frame_rows / sizeof *frame_rows},
+    {"Frames, takes, Start, Quiet, the unit, counts, power-on", "call", frame_rows, sizeof frame_rows / sizeof *frame_rows},
     {"Network messages, from port 1", "message", message_rows, sizeof message_rows / sizeof *message_rows},
     {"Growth with the lists: frame and 3 takes, depth 1, a PGN that is absent", "PGNs in each list", list_rows, sizeof list_rows / sizeof *list_rows},
     {"Growth with the queues: frame and 3 takes, cleared pairs, equal ranks", "depth", depth_rows, sizeof depth_rows / sizeof *depth_rows},
@@ -397,7 +408,7 @@ static void time_tables(int rounds)
 /* ---- the stack: painted before each call, and looked through after it */
 static uint32_t nothing();
 
-static const struct side empty = {"nothing", nothing, nothing, nothing, nothing, nothing, nothing, nothing, nothing};
+static const struct side empty = {"nothing", nothing, nothing, nothing, nothing, nothing, nothing, nothing, nothing, nothing};
 
 static uint32_t nothing()
 {
@@ -433,7 +444,7 @@ static size_t touched(const struct side *side)
 /* The most that a call takes, with its return address. */
 static void print_stack(long calls)
 {
-    static const char *labels[KINDS] = {"frame", "take", "message", "Start", "Quiet", "unit", "power-on", "power-on with ports"};
+    static const char *labels[KINDS] = {"frame", "take", "message", "Start", "Quiet", "unit", "counts", "power-on", "power-on with ports"};
     size_t most[KINDS][SIDES] = {{0}};
     for (int s = 0; s < SIDES; s++) {
         memset(&lent, 0, sizeof lent);

@@ -3,7 +3,7 @@
 #include <stdio.h>
 #include <string.h>
 
-#define SIDE(name, side) {name, side##_power_on, side##_power_on_ports, side##_frame, side##_take, side##_message, side##_start, side##_quiet, side##_unit}
+#define SIDE(name, side) {name, side##_power_on, side##_power_on_ports, side##_frame, side##_take, side##_message, side##_start, side##_quiet, side##_unit, side##_counts}
 
 const struct side sides[SIDES] = {SIDE("Rattle", deorasaeng), SIDE("C", c), SIDE("Rust", rust)};
 
@@ -159,6 +159,8 @@ void make_call(struct call *c, const uint64_t *record)
         c->kind = record[0] == 0 ? START : record[0] == 1 ? QUIET : one_in(3) ? POWER_ON : POWER_ON_PORTS;
     if (one_in(512))
         c->kind = START + below(3);
+    if (one_in(32))
+        c->kind = COUNTS;
     if (one_in(4096))
         c->kind = POWER_ON + below(2);
     uint32_t ports = ports_of(record, MOST_WORDS);
@@ -170,7 +172,7 @@ void make_call(struct call *c, const uint64_t *record)
     c->name = one_in(4) ? some_name() : own_name;
     c->preferred = one_in(8) ? below(300) : own_address;
     static const size_t answers[KINDS] = {DEORASAENG_FRAME_ANSWER, DEORASAENG_TAKE_ANSWER, DEORASAENG_MESSAGE_ANSWER, DEORASAENG_START_ANSWER, 0,
-                                          DEORASAENG_UNIT_ANSWER};
+                                          DEORASAENG_UNIT_ANSWER, DEORASAENG_COUNTS_ANSWER};
     c->answer_len = one_in(256) ? below(ANSWER_WORDS + 1) : answers[c->kind];
     if (c->kind == FRAME)
         make_frame(c);
@@ -188,6 +190,7 @@ uint32_t do_call(const struct side *side, const struct call *c, struct lent *l)
     case START: return side->start(l->record, c->record_len, l->answer, c->answer_len);
     case QUIET: return side->quiet(l->record, c->record_len);
     case UNIT: return side->unit(l->record, c->record_len, l->answer, c->answer_len);
+    case COUNTS: return side->counts(l->record, c->record_len, c->port, l->answer, c->answer_len);
     case POWER_ON: return side->power_on(l->record, c->record_len, c->name, c->preferred);
     default: return side->power_on_ports(l->record, c->record_len, c->name, c->preferred, c->ports);
     }
@@ -205,7 +208,7 @@ static void meaning(const uint64_t *record, uint64_t *out)
     }
     for (uint32_t port = 1; port <= ports; port++) {
         uint64_t *queue = out + DEORASAENG_QUEUE_AT(port);
-        memset(queue + 1 + 2 * queue[0], 0, 16 * (QUEUE - queue[0]));
+        memset(queue + FRAMES_AT + 2 * queue[0], 0, 16 * (QUEUE - queue[0]));
     }
     memset(out + DEORASAENG_RECORD_WORDS_FOR(ports), 0, 8 * (MOST_WORDS - DEORASAENG_RECORD_WORDS_FOR(ports)));
 }
@@ -230,7 +233,8 @@ static bool is_number(int i)
 
 /* What came of the calls, so that one sees that nothing was left untried. */
 struct tally {
-    long numbers[NUMBERS], events[8], reasons[REASONS], done[65], ports[MOST_PORTS + 1], full, longest, permanent, later_entry, later_absent, later_pair;
+    long numbers[NUMBERS], events[8], reasons[REASONS], done[65], ports[MOST_PORTS + 1], full, longest, permanent, later_entry, later_absent, later_pair, counts_of_full,
+        counts_of_none;
 };
 
 /* How many lists on a frame's way would stop it if its PGN, which is permanent, were not. */
@@ -260,6 +264,11 @@ static void count(struct tally *t, const struct call *c, const struct lent *l, u
         for (uint32_t port = 1; port <= ports_of(l->record, MOST_WORDS); port++)
             t->reasons[DEORASAENG_REASON(l->answer[DEORASAENG_REASONS], port)]++;
     }
+    if (number == 0 && c->kind == COUNTS) {
+        uint64_t waiting = l->answer[DEORASAENG_COUNTS_ACCEPTED] - l->answer[DEORASAENG_COUNTS_TAKEN];
+        t->counts_of_full += waiting == QUEUE;
+        t->counts_of_none += waiting == 0;
+    }
     if (number == DEORASAENG_WRONG_ENTRY)
         t->later_entry += l->answer[DEORASAENG_ENTRY] > 1;
     if (number == DEORASAENG_PGN_ABSENT) {
@@ -275,7 +284,7 @@ static void count(struct tally *t, const struct call *c, const struct lent *l, u
 
 static bool is_whole(const struct tally *t, long calls)
 {
-    bool whole = t->full && t->longest && t->permanent && t->later_entry && t->later_absent && t->later_pair;
+    bool whole = t->full && t->longest && t->permanent && t->later_entry && t->later_absent && t->later_pair && t->counts_of_full && t->counts_of_none;
     for (int i = 0; i < NUMBERS; i++)
         whole &= !is_number(i) || t->numbers[i] > 0;
     for (int i = FEWEST_PORTS; i <= MOST_PORTS; i++)
@@ -298,6 +307,7 @@ static bool is_whole(const struct tally *t, long calls)
         printf(" %d:%ld", i, t->reasons[i]);
     printf("; permanent PGNs across lists that stop others: %ld; wrong entries behind the first: %ld; absent ones: %ld, in a pair behind the first of all: %ld", t->permanent,
            t->later_entry, t->later_absent, t->later_pair);
+    printf("; counts of full queues: %ld, of empty ones: %ld", t->counts_of_full, t->counts_of_none);
     printf("; on units with so many ports:");
     for (int i = FEWEST_PORTS; i <= MOST_PORTS; i++)
         printf(" %d:%ld", i, t->ports[i]);

@@ -6,8 +6,8 @@
 #include "twin.h"
 #include <stdbool.h>
 
-/* The longest answer, a frame's, and a word more. */
-enum { SIDES = 3, LONGEST = DEORASAENG_REPLY_BYTES, ANSWER_WORDS = DEORASAENG_FRAME_ANSWER + 1 };
+/* The longest answer, that of counts, and a word more. */
+enum { SIDES = 3, LONGEST = DEORASAENG_REPLY_BYTES, ANSWER_WORDS = DEORASAENG_COUNTS_ANSWER + 1 };
 
 struct side {
     const char *name;
@@ -19,11 +19,12 @@ struct side {
     __typeof__(deorasaeng_start) *start;
     __typeof__(deorasaeng_quiet) *quiet;
     __typeof__(deorasaeng_unit) *unit;
+    __typeof__(deorasaeng_counts) *counts;
 };
 
 extern const struct side sides[SIDES];
 
-enum kind { FRAME, TAKE, MESSAGE, START, QUIET, UNIT, POWER_ON, POWER_ON_PORTS, KINDS };
+enum kind { FRAME, TAKE, MESSAGE, START, QUIET, UNIT, COUNTS, POWER_ON, POWER_ON_PORTS, KINDS };
 
 /* The arguments of a call, with the lengths that are lent. */
 struct call {

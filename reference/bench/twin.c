@@ -18,8 +18,9 @@ struct frame {
     uint64_t head, bytes;
 };
 
+/* `counts`: the answer's words, kept. */
 struct queue {
-    uint64_t count;
+    uint64_t count, counts[DEORASAENG_COUNTS_ANSWER];
     struct frame frames[QUEUE];
 };
 
@@ -35,6 +36,7 @@ struct unit {
 };
 
 _Static_assert(sizeof(struct unit) == 8 * DEORASAENG_QUEUES_AT, "the published place");
+_Static_assert(sizeof(struct queue) == 8 * DEORASAENG_QUEUE_WORDS, "the published queue");
 
 #define WORDS_FOR(ports) ((sizeof(struct unit) + (ports) * sizeof(struct queue) + (ports) * ((ports) - 1) * sizeof(struct pair)) / 8)
 
@@ -67,6 +69,8 @@ static bool join(struct queue *q, uint64_t head, uint64_t bytes)
     q->frames[n].head = head;
     q->frames[n].bytes = bytes;
     q->count = n + 1;
+    q->counts[DEORASAENG_COUNTS_WAITING + (head >> 26 & 7)]++;
+    q->counts[DEORASAENG_COUNTS_ACCEPTED]++;
     return true;
 }
 
@@ -257,6 +261,8 @@ uint32_t c_take(uint64_t *record, size_t record_len, uint32_t port, uint64_t *an
     for (uint64_t i = first + 1; i < n; i++)
         q->frames[i - 1] = q->frames[i];
     q->count = n - 1;
+    q->counts[DEORASAENG_COUNTS_WAITING + low]--;
+    q->counts[DEORASAENG_COUNTS_TAKEN]++;
     answer[DEORASAENG_GIVEN] = 1;
     answer[DEORASAENG_ID] = (uint32_t)head;
     answer[DEORASAENG_LENGTH] = head >> 32;
@@ -510,7 +516,7 @@ uint32_t c_message(uint64_t *record, size_t record_len, uint32_t port, uint32_t 
     return number;
 }
 
-/* ---- power-on, Start, Quiet, the unit */
+/* ---- power-on, Start, Quiet, the unit, counts */
 static uint32_t make(uint64_t *record, size_t record_len, uint64_t name, uint32_t preferred, uint32_t ports)
 {
     if (record_len != words_for[ports])
@@ -583,5 +589,16 @@ uint32_t c_unit(const uint64_t *record, size_t record_len, uint64_t *answer, siz
     answer[DEORASAENG_UNIT_PREFERRED] = u->preferred;
     answer[DEORASAENG_UNIT_NAME] = u->name;
     answer[DEORASAENG_UNIT_PORTS] = ports;
+    return 0;
+}
+
+uint32_t c_counts(const uint64_t *record, size_t record_len, uint32_t port, uint64_t *answer, size_t answer_len)
+{
+    uint32_t ports = ports_of(record, record_len);
+    if (port - 1 >= ports)
+        return 1;
+    if (record_len != words_for[ports] || answer_len != DEORASAENG_COUNTS_ANSWER)
+        return 2;
+    memcpy(answer, ((const struct unit *)record)->queues[port - 1].counts, 8 * DEORASAENG_COUNTS_ANSWER);
     return 0;
 }

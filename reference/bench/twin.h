@@ -12,7 +12,8 @@
     __typeof__(deorasaeng_message) side##_message;   \
     __typeof__(deorasaeng_start) side##_start;       \
     __typeof__(deorasaeng_quiet) side##_quiet;       \
-    __typeof__(deorasaeng_unit) side##_unit
+    __typeof__(deorasaeng_unit) side##_unit;         \
+    __typeof__(deorasaeng_counts) side##_counts
 
 FUNCTIONS(c);
 FUNCTIONS(rust);

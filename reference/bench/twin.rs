@@ -7,9 +7,14 @@ const USUAL: usize = 4;
 const MOST: usize = 8;
 const LIST: usize = 32;
 const QUEUE: usize = 32;
+const RANKS: usize = 8;
+/// What a port counts: the ranks, then accepted and taken.
+const COUNTS: usize = RANKS + 2;
+const ACCEPTED: usize = RANKS;
+const TAKEN: usize = RANKS + 1;
 const PLACES: usize = 254;
 const PAIR_WORDS: usize = 2 + LIST;
-const QUEUE_WORDS: usize = 1 + 2 * QUEUE;
+const QUEUE_WORDS: usize = 1 + COUNTS + 2 * QUEUE;
 const PLACE_WORDS: usize = 2;
 const OWN: usize = 5;
 const LONGEST: usize = 1785;
@@ -50,7 +55,7 @@ const ADDRESSES: u8 = 64;
 
 /// The mode, the count, the PGNs.
 type Pair = [u64; PAIR_WORDS];
-/// The count, and two words for each frame: the identifier with the length above it, the bytes.
+/// How many wait, what the port counts, and two words for each frame: the identifier with the length above it, the bytes.
 type Queue = [u64; QUEUE_WORDS];
 /// The arrival port, the NAME.
 type Place = [u64; PLACE_WORDS];
@@ -104,8 +109,19 @@ struct Taken {
 
 // ---- queues
 
+/// How many wait, what the port counts, the frames' words.
+fn parts(queue: &mut Queue) -> (&mut u64, &mut [u64; COUNTS], &mut [u64; 2 * QUEUE]) {
+    let [count, rest @ ..] = queue;
+    let (counts, frames) = rest.split_at_mut(COUNTS);
+    (count, counts.try_into().unwrap(), frames.try_into().unwrap())
+}
+
+fn rank_of(head: u64) -> usize {
+    (head >> 26 & 7) as usize
+}
+
 fn join(queue: &mut Queue, head: u64, bytes: u64) -> bool {
-    let [count, frames @ ..] = queue;
+    let (count, counts, frames) = parts(queue);
     let n = *count as usize;
     if n >= QUEUE {
         return false;
@@ -113,16 +129,20 @@ fn join(queue: &mut Queue, head: u64, bytes: u64) -> bool {
     frames[2 * n] = head;
     frames[2 * n + 1] = bytes;
     *count += 1;
+    counts[rank_of(head)] = counts[rank_of(head)].wrapping_add(1);
+    counts[ACCEPTED] = counts[ACCEPTED].wrapping_add(1);
     true
 }
 
 fn take(queue: &mut Queue) -> Option<Taken> {
-    let [count, frames @ ..] = queue;
+    let (count, counts, frames) = parts(queue);
     let waiting = &mut frames.as_chunks_mut::<2>().0[..*count as usize];
-    let first = (0..waiting.len()).min_by_key(|&i| waiting[i][0] >> 26 & 7)?;
+    let first = (0..waiting.len()).min_by_key(|&i| rank_of(waiting[i][0]))?;
     let [head, bytes] = waiting[first];
     waiting.copy_within(first + 1.., first);
     *count -= 1;
+    counts[rank_of(head)] = counts[rank_of(head)].wrapping_sub(1);
+    counts[TAKEN] = counts[TAKEN].wrapping_add(1);
     Some(Taken { id: head as u32, len: (head >> 32) as u32, bytes })
 }
 
@@ -738,5 +758,21 @@ pub unsafe extern "C" fn rust_unit(record: *const u64, record_len: usize, answer
     }
     answer.copy_from_slice(&words[..OWN]);
     answer[OWN - 1] = ports as u64;
+    0
+}
+
+#[no_mangle]
+pub unsafe extern "C" fn rust_counts(record: *const u64, record_len: usize, port: u32, answer: *mut u64, answer_len: usize) -> u32 {
+    let words = slice::from_raw_parts(record, record_len);
+    let answer = slice::from_raw_parts_mut(answer, answer_len);
+    let ports = ports_of(words);
+    if !(1..=ports as u32).contains(&port) {
+        return 1;
+    }
+    if words.len() != record_words(ports) || answer.len() != COUNTS {
+        return 2;
+    }
+    let queue = OWN + PLACE_WORDS * PLACES + QUEUE_WORDS * (port as usize - 1);
+    answer.copy_from_slice(&words[queue + 1..][..COUNTS]);
     0
 }

@@ -8,12 +8,12 @@
 #include <stdlib.h>
 #include <string.h>
 
-enum kind { POWER_ON, POWER_ON_PORTS, FRAME, TAKE, MESSAGE, START, QUIET, UNIT, TAKE_QUEUE, KINDS };
+enum kind { POWER_ON, POWER_ON_PORTS, FRAME, TAKE, MESSAGE, START, QUIET, UNIT, COUNTS, TAKE_QUEUE, KINDS };
 
 /* One more than the highest number. */
 enum { NUMBERS = DEORASAENG_WRONG_PORT_COUNT + 1 };
 
-static const char *const kind_name[KINDS] = {"power-on", "power-on with ports", "frame", "take", "message", "Start", "Quiet", "unit", "take on a queue"};
+static const char *const kind_name[KINDS] = {"power-on", "power-on with ports", "frame", "take", "message", "Start", "Quiet", "unit", "counts", "take on a queue"};
 
 /* The numbers that each call can give. */
 static const uint32_t allowed[KINDS] = {
@@ -25,6 +25,7 @@ static const uint32_t allowed[KINDS] = {
     1u << 0 | 1u << 2 | 1u << 8 | 1u << 18,
     1u << 0 | 1u << 2 | 1u << 18,
     1u << 0 | 1u << 2,
+    0x7u,
     1u << 0 | 1u << 2,
 };
 
@@ -120,6 +121,70 @@ static void check_reasons(uint32_t port, uint32_t id, const uint64_t *answer)
     }
     check(word >> 4 * ports == 0, "a reason of no port");
     check(!permanent || answer[DEORASAENG_COMPARED] == 0, "a permanent PGN that was compared");
+}
+
+/* How many frames wait in a queue. */
+static uint64_t waiting_in(const uint64_t *queue)
+{
+    return queue[0] < QUEUE ? queue[0] : QUEUE;
+}
+
+static uint32_t rank_of(uint64_t id)
+{
+    return id >> 26 & 7;
+}
+
+/* A queue's counts are those that it had, with one more for each of the frames that joined, by the rank of its identifier, and one less for a frame that left, all modulo 2^64. */
+struct changes {
+    uint64_t ranks[RANKS], accepted, taken;
+};
+
+static void joins(struct changes *changes, uint64_t id)
+{
+    changes->ranks[rank_of(id)]++;
+    changes->accepted++;
+}
+
+static void leaves(struct changes *changes, uint64_t id)
+{
+    changes->ranks[rank_of(id)]--;
+    changes->taken++;
+}
+
+static void check_counts(const uint64_t *queue, const uint64_t *before, const struct changes *changes)
+{
+    const uint64_t *now = queue + COUNTS_AT, *old = before + COUNTS_AT;
+    for (int rank = 0; rank < RANKS; rank++)
+        check(now[rank] == old[rank] + changes->ranks[rank], "the count of a rank");
+    check(now[DEORASAENG_COUNTS_ACCEPTED] == old[DEORASAENG_COUNTS_ACCEPTED] + changes->accepted, "frames accepted");
+    check(now[DEORASAENG_COUNTS_TAKEN] == old[DEORASAENG_COUNTS_TAKEN] + changes->taken, "frames taken");
+    check(waiting_in(queue) == waiting_in(before) + changes->accepted - changes->taken, "frames waiting");
+}
+
+/* The forwarded frame joins where it is accepted, the unit's own, if it is sent, at every port save where it is lost; each is counted where it joins, and nothing else is. */
+static void check_joined(const uint64_t *record, const uint64_t *before, uint32_t id, uint64_t accepted, int own, uint64_t own_lost)
+{
+    check(own || own_lost == 0, "own frame lost, and none was sent");
+    for (uint32_t q = 1; q <= ports; q++) {
+        const uint64_t *queue = record + DEORASAENG_QUEUE_AT(q);
+        uint64_t bit = 1u << (q - 1);
+        struct changes changes = {{0}, 0, 0};
+        if (accepted & bit)
+            joins(&changes, id);
+        if (own && !(own_lost & bit) && waiting_in(queue) != 0)
+            joins(&changes, queue[FRAMES_AT + 2 * (waiting_in(queue) - 1)]);
+        check_counts(queue, before + DEORASAENG_QUEUE_AT(q), &changes);
+        check(!(own_lost & bit) || waiting_in(queue) == QUEUE, "own frame lost though there was room");
+    }
+}
+
+/* A take that gave a frame counts it, one that gave nothing counts nothing. */
+static void check_left(const uint64_t *queue, const uint64_t *before, const uint64_t *answer)
+{
+    struct changes changes = {{0}, 0, 0};
+    if (answer[DEORASAENG_GIVEN])
+        leaves(&changes, answer[DEORASAENG_ID]);
+    check_counts(queue, before, &changes);
 }
 
 static int is_pgn(uint32_t number)

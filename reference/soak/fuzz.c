@@ -76,7 +76,7 @@ static size_t some_size(size_t right, uint32_t most)
     }
 }
 
-/* A record whose claim state is one of the four, and whose lists and queues are of likely lengths. */
+/* A record whose claim state is one of the four, whose lists and queues are of likely lengths, and of whose counts some are likely or the last before 2^64. */
 static void fill_record(uint64_t *record, uint32_t likely, size_t length)
 {
     record[0] = below(3) ? 2 : below(5);
@@ -87,8 +87,21 @@ static void fill_record(uint64_t *record, uint32_t likely, size_t length)
         for (int j = 0; j < LIST; j++)
             pair[2 + j] = some_pgn();
     }
-    for (uint32_t port = 1; port <= likely; port++)
-        record[DEORASAENG_QUEUE_AT(port)] = below(QUEUE + 4);
+    for (uint32_t port = 1; port <= likely; port++) {
+        uint64_t *queue = record + DEORASAENG_QUEUE_AT(port);
+        queue[0] = below(QUEUE + 4);
+        for (int i = COUNTS_AT; i < FRAMES_AT; i++)
+            if (below(4) == 0)
+                queue[i] = below(4) ? below(QUEUE) : UINT64_MAX;
+    }
+}
+
+/* The record's or queue's words before the call. */
+static const uint64_t *old_words(void)
+{
+    static uint64_t words[ROOM / 8];
+    memcpy(words, lent[0].old, lent[0].size);
+    return words;
 }
 
 static size_t record_words; /* what the record's own count asks for */
@@ -157,6 +170,18 @@ static void fuzz_power_on_ports(size_t length, uint64_t *record, uint32_t likely
         check(record[i] == 0, "a word of a fresh unit");
 }
 
+/* Whether the unit sent its own frame shows in the totals: it joined where one more was accepted than forwarded. */
+static void judge_joined(const uint64_t *record, uint32_t id, uint64_t accepted, uint64_t own_lost)
+{
+    const uint64_t *before = old_words();
+    int own = own_lost != 0;
+    for (uint32_t q = 1; q <= ports; q++) {
+        size_t at = DEORASAENG_QUEUE_AT(q) + COUNTS_AT + DEORASAENG_COUNTS_ACCEPTED;
+        own |= record[at] != before[at] + (accepted >> (q - 1) & 1);
+    }
+    check_joined(record, before, id, accepted, own, own_lost);
+}
+
 static void fuzz_frame(size_t length, uint64_t *record)
 {
     uint32_t port = some_port(), id = below(4) ? some_id() : (uint32_t)next();
@@ -170,8 +195,10 @@ static void fuzz_frame(size_t length, uint64_t *record)
     judge(FRAME, number, is_port(port), right);
     if (right && bytes == NULL)
         judge_null(port, id, number, record, answer);
-    if (number == 0)
+    if (number == 0) {
         check_reasons(port, id, answer);
+        judge_joined(record, id, answer[DEORASAENG_ACCEPTED], answer[DEORASAENG_OWN_LOST]);
+    }
     if (is_port(port) && right) {
         check((id >> 29 != 0) == (number == 3), "number 3");
         check((id >> 29 == 0 && size > 8) == (number == 4), "number 4");
@@ -194,9 +221,12 @@ static void fuzz_take(size_t length, uint64_t *record, int by_queue)
     judge(by_queue ? TAKE_QUEUE : TAKE, number, is_port(port), right && (by_queue || length == record_words));
     if (number == 0 && answer[DEORASAENG_GIVEN] == 0)
         check(unchanged(0) && unchanged(2), "a take of nothing changed something");
-    if (number == 0)
-        for (uint64_t i = answer[DEORASAENG_GIVEN] ? answer[DEORASAENG_LENGTH] : 8; i < 8; i++)
-            check(bytes[i] == 0, "a byte past the frame's length");
+    if (number != 0)
+        return;
+    size_t at = by_queue ? 0 : DEORASAENG_QUEUE_AT(port);
+    check_left(record + at, old_words() + at, answer);
+    for (uint64_t i = answer[DEORASAENG_GIVEN] ? answer[DEORASAENG_LENGTH] : 8; i < 8; i++)
+        check(bytes[i] == 0, "a byte past the frame's length");
 }
 
 static void fuzz_message(size_t length, uint64_t *record)
@@ -229,6 +259,8 @@ static void fuzz_start(size_t length, uint64_t *record)
     uint64_t *answer = lend(1, 8 * words);
     uint32_t number = deorasaeng_start(record, length, answer, words);
     judge(START, number, 1, length == record_words && words == DEORASAENG_START_ANSWER);
+    if (number == 0)
+        check_joined(record, old_words(), 0, 0, 1, answer[DEORASAENG_START_OWN_LOST]);
 }
 
 static void fuzz_unit(size_t length, uint64_t *record)
@@ -238,6 +270,19 @@ static void fuzz_unit(size_t length, uint64_t *record)
     uint32_t number = deorasaeng_unit(record, length, answer, words);
     judge(UNIT, number, 1, length == record_words && words == DEORASAENG_UNIT_ANSWER);
     check(unchanged(0), "reading the unit changed the record");
+}
+
+/* The counts are the record's words, whatever they are. */
+static void fuzz_counts(size_t length, uint64_t *record)
+{
+    uint32_t port = some_port();
+    size_t words = some_size(DEORASAENG_COUNTS_ANSWER, 20);
+    uint64_t *answer = lend(1, 8 * words);
+    uint32_t number = deorasaeng_counts(record, length, port, answer, words);
+    judge(COUNTS, number, is_port(port), length == record_words && words == DEORASAENG_COUNTS_ANSWER);
+    check(unchanged(0), "reading the counts changed the record");
+    if (number == 0)
+        check(memcmp(answer, record + DEORASAENG_QUEUE_AT(port) + COUNTS_AT, 8 * DEORASAENG_COUNTS_ANSWER) == 0, "other counts");
 }
 
 static void fuzz(void)
@@ -253,6 +298,7 @@ static void fuzz(void)
     case MESSAGE: fuzz_message(length, record); break;
     case START: fuzz_start(length, record); break;
     case UNIT: fuzz_unit(length, record); break;
+    case COUNTS: fuzz_counts(length, record); break;
     case QUIET: judge(kind, deorasaeng_quiet(record, length), 1, length == record_words); break;
     default: fuzz_take(length, record, kind == TAKE_QUEUE); break;
     }

@@ -1,8 +1,8 @@
-/* A soak: one unit after the other, of every number of ports, through the C interface, every buffer between guards. After each call the guards hold, a refusal has changed nothing, and what the answer
-   says agrees with what the record's words say. usage: soak SEED CALLS */
+/* A soak: one unit after the other, of every number of ports, through the C interface, every buffer between guards. After each call the guards hold, a refusal has changed nothing, what the answer
+   says agrees with what the record's words say, and every port's counts equal a recount and the history. usage: soak SEED CALLS */
 #include "common.h"
 
-enum { GUARDS = 16, LONGEST = 2000 };
+enum { GUARDS = 16, LONGEST = 2000, MOST_ANSWER = DEORASAENG_COUNTS_ANSWER };
 
 static const uint64_t WORD = 0xA5A55A5AA5A55A5A;
 static const uint8_t BYTE = 0x5C;
@@ -10,12 +10,14 @@ static const uint8_t BYTE = 0x5C;
 static uint64_t record_area[GUARDS + MOST_WORDS + GUARDS], before[MOST_WORDS];
 static size_t words; /* of the record, as the unit's number of ports has it */
 static uint64_t *const record = record_area + GUARDS;
-static uint64_t answer_area[GUARDS + DEORASAENG_FRAME_ANSWER + GUARDS];
+static uint64_t answer_area[GUARDS + MOST_ANSWER + GUARDS];
 static uint64_t *const answer = answer_area + GUARDS;
 static uint8_t byte_area[GUARDS + LONGEST + GUARDS];
 static uint8_t *const bytes = byte_area + GUARDS;
 static uint8_t handed_in[LONGEST];
 static uint64_t later_entry, later_pair; /* told with 17 */
+static uint64_t accepted_at[MOST_PORTS + 1], taken_at[MOST_PORTS + 1]; /* frames since power-on, read off the answers */
+static uint64_t counts_of_full, counts_of_none;
 
 /* Everything that is lent is filled with the guards' pattern first. */
 static void lend(size_t byte_length)
@@ -46,7 +48,7 @@ static int bytes_are(const uint8_t *from, size_t length, uint8_t byte)
 static void check_lent(size_t answered, size_t written, size_t byte_length)
 {
     check(words_are(answer_area, GUARDS, WORD), "a guard before the answer");
-    check(words_are(answer + answered, DEORASAENG_FRAME_ANSWER - answered + GUARDS, WORD), "a word behind the answer");
+    check(words_are(answer + answered, MOST_ANSWER - answered + GUARDS, WORD), "a word behind the answer");
     check(bytes_are(byte_area, GUARDS, BYTE), "a guard before the bytes");
     check(bytes_are(bytes + written, byte_length - written + GUARDS, BYTE), "a byte past what was written");
     check(words_are(record_area, GUARDS, WORD) && words_are(record + words, MOST_WORDS - words + GUARDS, WORD), "a guard of the record");
@@ -59,8 +61,21 @@ static void check_same(size_t from, size_t to, const char *otherwise)
 
 static uint64_t waiting(const uint64_t *unit, uint32_t port)
 {
-    uint64_t count_word = unit[DEORASAENG_QUEUE_AT(port)];
-    return count_word < 32 ? count_word : 32;
+    return waiting_in(unit + DEORASAENG_QUEUE_AT(port));
+}
+
+/* At each port the counts equal a recount, the totals are those of the history, and accepted is taken and waiting. */
+static void check_recount(void)
+{
+    for (uint32_t q = 1; q <= ports; q++) {
+        const uint64_t *queue = record + DEORASAENG_QUEUE_AT(q), *counts = queue + COUNTS_AT;
+        uint64_t ranks[RANKS] = {0};
+        for (uint64_t i = 0; i < queue[0]; i++)
+            ranks[rank_of(queue[FRAMES_AT + 2 * i])]++;
+        check(memcmp(counts, ranks, sizeof ranks) == 0, "counts that are no recount");
+        check(counts[DEORASAENG_COUNTS_ACCEPTED] == accepted_at[q] && counts[DEORASAENG_COUNTS_TAKEN] == taken_at[q], "totals of another history");
+        check(accepted_at[q] == taken_at[q] + queue[0], "accepted is not taken and waiting");
+    }
 }
 
 static void power_on(void)
@@ -79,22 +94,46 @@ static void power_on(void)
         number = deorasaeng_power_on_ports(record, words, name, preferred[below(8)], asked);
     count(plain ? POWER_ON : POWER_ON_PORTS, number);
     ports = good ? asked : USUAL_PORTS;
+    memset(accepted_at, 0, sizeof accepted_at);
+    memset(taken_at, 0, sizeof taken_at);
     check(number == (good ? 0 : 27) && record[PORTS_AT] == ports && words_are(record + TABLE_AT, words - TABLE_AT, 0), "power-on");
     check(words_are(record + words, MOST_WORDS - words + GUARDS, WORD), "power-on wrote behind the record");
 }
 
-/* The forwarded frame joins where it is accepted, the unit's own at every port or at none, save where it is lost. */
-static void check_joined(uint32_t port, uint64_t accepted, uint64_t lost, uint64_t own_lost)
+/* Whether a frame made the unit send its own: a claim that it defends against or loses to, or a request for address claimed that it answers. */
+static int sends_own(uint32_t id, size_t length)
 {
-    int sent = own_lost != 0;
-    for (uint32_t q = 1; q <= ports; q++)
-        sent |= waiting(record, q) != waiting(before, q) + (accepted >> (q - 1) & 1);
+    uint64_t event = answer[DEORASAENG_EVENT];
+    int to_all = (id >> 8 & 0xFF) == 255 && before[0] != DEORASAENG_STATE_UNSTARTED;
+    if (event == DEORASAENG_DEFENDED || event == DEORASAENG_DISPLACED)
+        return 1;
+    return pgn_of(id) == 59904 && length == 3 && memcmp(handed_in, "\x00\xEE\x00", 3) == 0 && (answer[DEORASAENG_CONSUMED] || to_all);
+}
+
+/* The unit's own frame is its claim or cannot-claim, with its NAME. */
+static void check_own(uint64_t own_lost)
+{
     for (uint32_t q = 1; q <= ports; q++) {
-        uint64_t bit = 1u << (q - 1), own = sent && !(own_lost & bit);
-        check(waiting(record, q) == waiting(before, q) + !!(accepted & bit) + own, "frames that joined");
-        check(!(lost & bit) || waiting(before, q) == 32, "lost though there was room");
-        check(!(own_lost & bit) || waiting(record, q) == 32, "own frame lost though there was room");
+        if (own_lost >> (q - 1) & 1)
+            continue;
+        const uint64_t *last = record + DEORASAENG_QUEUE_AT(q) + FRAMES_AT + 2 * (waiting(record, q) - 1);
+        check(last[0] == (UINT64_C(8) << 32 | 0x18EEFF00 | record[1]) && last[1] == record[3], "another frame of the unit's own");
+        accepted_at[q]++;
     }
+}
+
+/* Where frames joined, by the answer and the rules alone. */
+static void check_frame_joined(uint32_t port, uint32_t id, size_t length)
+{
+    uint64_t accepted = answer[DEORASAENG_ACCEPTED], lost = answer[DEORASAENG_LOST], own_lost = answer[DEORASAENG_OWN_LOST];
+    int own = sends_own(id, length);
+    check_joined(record, before, id, accepted, own, own_lost);
+    for (uint32_t q = 1; q <= ports; q++) {
+        check(!(lost >> (q - 1) & 1) || waiting(before, q) == QUEUE, "lost though there was room");
+        accepted_at[q] += accepted >> (q - 1) & 1;
+    }
+    if (own)
+        check_own(own_lost);
     check((accepted & lost) == 0 && !((accepted | lost) >> (port - 1) & 1), "accepted and lost ports");
     check((accepted | lost | own_lost) >> ports == 0, "ports");
 }
@@ -129,7 +168,7 @@ static void frame(void)
         return;
     }
     check_same(PAIRS_AT(ports), words, "a frame changed a list");
-    check_joined(port, answer[DEORASAENG_ACCEPTED], answer[DEORASAENG_LOST], answer[DEORASAENG_OWN_LOST]);
+    check_frame_joined(port, id, length);
     int has_address = before[0] == DEORASAENG_STATE_CLAIMING || before[0] == DEORASAENG_STATE_CLAIMED;
     check(answer[DEORASAENG_CONSUMED] == (has_address && (id >> 16 & 0xFF) < 240 && (id >> 8 & 0xFF) == before[1]), "consumed or not");
     if (answer[DEORASAENG_CONSUMED])
@@ -144,9 +183,9 @@ static void frame(void)
 /* The frame that a take must give: the first of the lowest priority number. */
 static const uint64_t *due(uint32_t port)
 {
-    const uint64_t *frames = before + DEORASAENG_QUEUE_AT(port) + 1, *best = frames;
+    const uint64_t *frames = before + DEORASAENG_QUEUE_AT(port) + FRAMES_AT, *best = frames;
     for (uint64_t i = 1; i < waiting(before, port); i++)
-        if ((frames[2 * i] >> 26 & 7) < (*best >> 26 & 7))
+        if (rank_of(frames[2 * i]) < rank_of(*best))
             best = frames + 2 * i;
     return best;
 }
@@ -157,7 +196,9 @@ static void check_taken(uint32_t port)
     size_t at = DEORASAENG_QUEUE_AT(port);
     check_same(0, at, "a take changed a word before its queue");
     check_same(at + DEORASAENG_QUEUE_WORDS, words, "a take changed a word behind its queue");
-    check(answer[DEORASAENG_GIVEN] == given && waiting(record, port) == waiting(before, port) - given, "nothing waiting");
+    check(answer[DEORASAENG_GIVEN] == given, "nothing waiting");
+    check_left(record + at, before + at, answer);
+    taken_at[port] += given;
     check_lent(DEORASAENG_TAKE_ANSWER, given ? 8 : 0, DEORASAENG_FRAME_BYTES);
     if (!given) {
         check(answer[DEORASAENG_ID] == 0 && answer[DEORASAENG_LENGTH] == 0, "an identifier of nothing");
@@ -251,8 +292,8 @@ static void start(void)
         return;
     }
     check_same(PAIRS_AT(ports), words, "Start changed a list");
-    for (uint32_t q = 1; q <= ports; q++)
-        check(waiting(record, q) == waiting(before, q) + !(answer[DEORASAENG_START_OWN_LOST] >> (q - 1) & 1), "Start's frame");
+    check_joined(record, before, 0, 0, 1, answer[DEORASAENG_START_OWN_LOST]);
+    check_own(answer[DEORASAENG_START_OWN_LOST]);
     uint64_t state = answer[DEORASAENG_START_STATE];
     check(state == record[0] && (state == DEORASAENG_STATE_CLAIMING || state == DEORASAENG_STATE_LOST), "what became of the unit");
 }
@@ -282,6 +323,22 @@ static void unit(void)
     check(answer[DEORASAENG_UNIT_PORTS] == ports, "number of ports");
 }
 
+/* The counts are the record's words; `check_recount` has said what those are. */
+static void counts(void)
+{
+    uint32_t port = some_port();
+    lend(0);
+    uint32_t number = deorasaeng_counts(record, words, port, answer, DEORASAENG_COUNTS_ANSWER);
+    count(COUNTS, number);
+    check_lent(number == 0 ? DEORASAENG_COUNTS_ANSWER : 0, 0, 0);
+    check_same(0, words, "reading the counts changed the record");
+    if (number != 0)
+        return;
+    check(memcmp(answer, record + DEORASAENG_QUEUE_AT(port) + COUNTS_AT, 8 * DEORASAENG_COUNTS_ANSWER) == 0, "other counts");
+    counts_of_full += waiting(record, port) == QUEUE;
+    counts_of_none += waiting(record, port) == 0;
+}
+
 int main(int argc, char **argv)
 {
     seed = argc > 1 ? strtoull(argv[1], NULL, 10) : 1;
@@ -296,16 +353,20 @@ int main(int argc, char **argv)
             (record[0] == 1) == (below(10) != 0) ? quiet() : start();
         else if (below(500) == 0)
             unit();
+        else if (below(50) == 0)
+            counts();
         else if (pick < takes)
             take();
         else if (pick < takes + 12)
             message();
         else
             frame();
-        full += waiting(record, 1) == 32;
+        check_recount();
+        full += waiting(record, 1) == QUEUE;
     }
     print_counts();
     printf("17 at an entry behind the first %" PRIu64 ", at a pair of all behind the first %" PRIu64 "\n", later_entry, later_pair);
+    printf("counts of a full queue %" PRIu64 ", of an empty one %" PRIu64 "\n", counts_of_full, counts_of_none);
     printf("%" PRIu64 " calls from seed %s, %" PRIu64 " with port 1 full: every check held\n", calls, argc > 1 ? argv[1] : "1", full);
     return 0;
 }

@@ -4,6 +4,7 @@ use std::collections::{BTreeMap, BTreeSet};
 use std::ops::RangeInclusive;
 
 use crate::address::{is_claim, is_request_for_address_claimed, name_of, ClaimState, Event, StartAnswer};
+use crate::counts::{recount, Counts};
 use crate::frame::{self, is_pgn, Frame, PERMANENT};
 use crate::message::{entries, entry_places, MessageAnswer, WrongEntry};
 use crate::pair::{added, Pair, Reason, LONGEST_LIST};
@@ -12,7 +13,7 @@ use crate::unit::{FrameAnswer, Unit, LONGEST_QUEUE, PORT_COUNTS};
 use crate::words::{REASONS, WORDS};
 
 /// The call letters of a script.
-pub const LETTERS: [&str; 7] = ["P", "S", "Q", "F", "T", "M", "U"];
+pub const LETTERS: [&str; 8] = ["P", "S", "Q", "F", "T", "M", "U", "C"];
 /// The rows of the event count.
 pub const EVENTS: [&str; 8] = ["-", "Withdrew", "Defended", "Displaced", "Recorded", "Refreshed", "TookOver", "Beaten"];
 /// The rows of the state count.
@@ -26,7 +27,7 @@ pub const DESTINATIONS: [&str; 3] = ["all", "the unit", "another"];
 pub const LENGTHS: [&str; 9] = ["0", "1", "2", "3", "4", "5", "6", "7", "8"];
 
 /// The further rows that a deep script reaches.
-pub const DEEP: [&str; 67] = [
+pub const DEEP: [&str; 75] = [
     "frame consumed",
     "frame stopped by a pair",
     "frame lost at some ports, accepted at others",
@@ -65,6 +66,14 @@ pub const DEEP: [&str; 67] = [
     "take of a later frame of higher rank",
     "take from a full queue",
     "take with nothing waiting",
+    "counts before a frame was accepted",
+    "counts of an emptied queue",
+    "counts of a full queue",
+    "counts of a full queue of one rank",
+    "counts with every rank waiting",
+    "counts with a frame of the unit's own waiting",
+    "counts after a loss",
+    "counts at the last port",
     "12 though an entry is no PGN",
     "22 with other entries that are none",
     "22 at a first entry before filling",
@@ -102,6 +111,10 @@ pub const ABSENT_PLACES: RangeInclusive<usize> = 1..=LONGEST_LIST;
 /// The places from 1 of the pair of To 15 that lacks it.
 pub const ABSENT_PAIRS: RangeInclusive<usize> = 1..=7;
 
+/// How many frames wait where counts are told, and of which priorities.
+pub const WAITING: RangeInclusive<usize> = 0..=LONGEST_QUEUE;
+pub const PRIORITIES: RangeInclusive<usize> = 0..=7;
+
 /// The counts of one or more scripts.
 #[derive(Default)]
 pub struct Coverage {
@@ -110,6 +123,8 @@ pub struct Coverage {
     pair_bytes: BTreeSet<(u32, u8)>,
     lengths: BTreeMap<usize, u64>,
     not_calls: u64,
+    /// The ports of the unit that have lost a frame.
+    losing: BTreeSet<u32>,
     longest_queue: usize,
     largest_table: usize,
 }
@@ -152,6 +167,9 @@ impl Coverage {
         self.add(&format!("ports {}", after.ports));
         self.longest_queue = after.queues.values().map(|queue| queue.len()).fold(self.longest_queue, usize::max);
         self.largest_table = self.largest_table.max(after.table.len());
+        if matches!(call, Call::PowerOn { .. }) {
+            self.losing.clear();
+        }
         let Some(before) = before else { return };
         if !matches!(call, Call::PowerOn { .. }) {
             self.add(&format!("state {:?}", before.state));
@@ -169,6 +187,7 @@ impl Coverage {
                 self.count_message(before, *port, payload, answer, after)
             }
             (Call::Unit, Answer::Unit(answer)) => self.add(&format!("told {:?}", answer.state)),
+            (Call::Counts { port }, Answer::Counts(Ok(counts))) => self.count_counts(before, *port, counts),
             _ => {}
         }
     }
@@ -184,6 +203,7 @@ impl Coverage {
         for to in &asked {
             self.add(&format!("mode {}", mode_row(&before.pairs[&(port, *to)])));
         }
+        self.losing.extend(answer.lost.iter().chain(&answer.own_lost));
         let (accepted, lost) = (answer.accepted.len(), answer.lost.len());
         self.add_if(accepted + lost < asked.len(), "frame stopped by a pair");
         self.add_if(lost > 0 && accepted > 0, "frame lost at some ports, accepted at others");
@@ -258,6 +278,7 @@ impl Coverage {
             (_, false) => "start to Claiming, address free",
         });
         self.add_if(!answer.own_lost.is_empty(), "start with own frame lost");
+        self.losing.extend(&answer.own_lost);
     }
 
     fn count_take(&mut self, before: &Unit, port: u32, given: &Option<Frame>, after: &Unit) {
@@ -267,6 +288,27 @@ impl Coverage {
         let front_stays = waiting.len() > 1 && after.queues[&port].front() == waiting.front();
         let front_left = given.as_ref() == waiting.front();
         self.add_if(front_stays && !front_left, "take of a later frame of higher rank");
+    }
+
+    fn count_counts(&mut self, unit: &Unit, port: u32, counts: &Counts) {
+        let queue = &unit.queues[&port];
+        let (nothing, full) = (queue.is_empty(), queue.len() == LONGEST_QUEUE);
+        let by_rank = recount(queue);
+        let ranks: Vec<usize> = PRIORITIES.filter(|&priority| by_rank[priority] > 0).collect();
+        self.add(&format!("counts in {:?}", unit.state));
+        self.add(&format!("counts of queues with {}", queue.len()));
+        for priority in &ranks {
+            self.add(&format!("counts with priority {priority}"));
+        }
+        self.add_if(counts.accepted == 0, "counts before a frame was accepted");
+        self.add_if(nothing && counts.accepted > 0, "counts of an emptied queue");
+        self.add_if(full, "counts of a full queue");
+        self.add_if(full && ranks.len() == 1, "counts of a full queue of one rank");
+        self.add_if(ranks.len() == 8, "counts with every rank waiting");
+        let own = queue.iter().any(|frame| is_claim(frame) && name_of(&frame.bytes) == unit.name);
+        self.add_if(own, "counts with a frame of the unit's own waiting");
+        self.add_if(self.losing.contains(&port), "counts after a loss");
+        self.add_if(port == unit.ports, "counts at the last port");
     }
 
     fn count_message(&mut self, before: &Unit, port: u32, payload: &[u8], answer: &Answer, after: &Unit) {
@@ -385,6 +427,9 @@ impl Coverage {
         lines.push(self.line_of("events", &EVENTS, "event "));
         lines.push(self.line_of("calls in state", &STATES, "state "));
         lines.push(self.line_of("unit told in state", &STATES, "told "));
+        lines.push(self.line_of("counts told in state", &STATES, "counts in "));
+        lines.push(self.places_of("counts of queues with", WAITING, ""));
+        lines.push(self.places_of("counts with priority", PRIORITIES, ""));
         lines.push(self.line_of("pairs asked in mode", &MODES, "mode "));
         let reasons = REASONS.map(|(number, words)| format!("{words} {}", self.reached(&format!("reason {number}"))));
         lines.push(format!("ports by reason: {}", reasons.join(", ")));
@@ -430,12 +475,15 @@ fn letter(call: &Call) -> &'static str {
         Call::Take { .. } => "T",
         Call::Message { .. } => "M",
         Call::Unit => "U",
+        Call::Counts { .. } => "C",
     }
 }
 
 fn named_port(call: &Call) -> Option<u32> {
     match call {
-        Call::Frame { port, .. } | Call::Take { port } | Call::Message { port, .. } => Some(*port),
+        Call::Frame { port, .. } | Call::Take { port } | Call::Message { port, .. } | Call::Counts { port } => {
+            Some(*port)
+        }
         _ => None,
     }
 }

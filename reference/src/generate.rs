@@ -211,6 +211,45 @@ impl Generator {
         self.send(port, 6, 60928, 255, 254, higher);
     }
 
+    /// How full a port's queue is; now and then a port that is none.
+    fn look(&mut self) {
+        let (port, past) = (self.some_port(), self.unit.ports + 1);
+        let bad = self.random.pick(&[0, past, past, 9, 15, 256, 257, u32::MAX]);
+        let asked = if self.random.once_in(30) { bad } else { port };
+        self.make(Call::Counts { port: asked });
+    }
+
+    /// A queue runs over, by frames of all ranks or of one, and is emptied; it is asked on the way how full it is. No pair stops a
+    /// permanent PGN.
+    fn fill_and_empty(&mut self) {
+        let port = self.some_port();
+        let from = self.some_other_port(port);
+        let asks = self.random.pick(&[1, 3, 9]);
+        let one = self.random.below(8);
+        let several = self.random.once_in(2);
+        if !several {
+            (0..self.unit.queues[&port].len()).for_each(|_| self.make(Call::Take { port }));
+        }
+        for count in 0..34 {
+            let any = self.random.below(8);
+            let sa = self.some_sa();
+            self.send(from, if several { any } else { one }, 59904, 255, sa, vec![count]);
+            self.ask_now_and_then(port, asks);
+        }
+        self.make(Call::Counts { port });
+        for _ in 0..=self.unit.queues[&port].len() {
+            self.make(Call::Take { port });
+            self.ask_now_and_then(port, asks);
+        }
+        self.make(Call::Counts { port });
+    }
+
+    fn ask_now_and_then(&mut self, port: u32, once_in: u32) {
+        if self.random.once_in(once_in) {
+            self.make(Call::Counts { port });
+        }
+    }
+
     /// Takes until nothing waits, and once more.
     fn empty_queues(&mut self) {
         for port in self.unit.all_ports() {
@@ -225,10 +264,13 @@ impl Generator {
         self.stuck = self.random.below(self.unit.ports + 1);
     }
 
-    /// Start and Quiet, in their place and out of it, and now and then a look at the unit.
+    /// Start and Quiet, in their place and out of it, and now and then a look at the unit and at a queue.
     fn claim_calls(&mut self, start_after: u32, quiet_after: u32) {
         if self.random.once_in(60) {
             self.make(Call::Unit);
+        }
+        if self.random.once_in(12) {
+            self.look();
         }
         let stray = self.random.once_in(150);
         let start_due = self.unit.state == ClaimState::Unstarted && self.random.once_in(start_after);
@@ -250,6 +292,8 @@ impl Generator {
             self.storm();
         } else if self.random.once_in(150) {
             self.burst();
+        } else if self.random.once_in(400) {
+            self.fill_and_empty();
         } else {
             self.frame();
         }

@@ -4,6 +4,7 @@
 pub mod frame;
 pub mod pair;
 pub mod unit;
+pub mod counts;
 pub mod address;
 pub mod message;
 pub mod script;

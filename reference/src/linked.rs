@@ -5,18 +5,23 @@
 
 use std::ops::Range;
 
+use crate::counts::RANKS;
 use crate::frame::{Frame, NULL};
 use crate::pair::{Pair, LONGEST_LIST};
 use crate::unit::{Unit, LONGEST_QUEUE, PORT_COUNTS, USUAL_PORTS};
 
-/// The published length of a queue, in words; `record_words` has the record's.
-pub const QUEUE_WORDS: usize = 1 + 2 * LONGEST_QUEUE;
+/// The published length of a queue, in words; `record_words` has the record's. In it: how many wait, what the port counts, the
+/// frames.
+pub const QUEUE_WORDS: usize = FRAMES_AT + 2 * LONGEST_QUEUE;
+pub const COUNTS_AT: usize = 1;
+const FRAMES_AT: usize = COUNTS_AT + COUNTS_ANSWER;
 /// The lengths of the answers, in words.
 pub const FRAME_ANSWER: usize = 8;
 pub const TAKE_ANSWER: usize = 3;
 pub const MESSAGE_ANSWER: usize = 5;
 pub const START_ANSWER: usize = 2;
 pub const UNIT_ANSWER: usize = 5;
+pub const COUNTS_ANSWER: usize = RANKS + 2;
 /// The length of a frame's bytes in a take.
 pub const FRAME_BYTES: usize = 8;
 
@@ -83,6 +88,7 @@ extern "C" {
     fn deorasaeng_start(record: *mut u64, record_len: usize, answer: *mut u64, answer_len: usize) -> u32;
     fn deorasaeng_quiet(record: *mut u64, record_len: usize) -> u32;
     fn deorasaeng_unit(record: *const u64, record_len: usize, answer: *mut u64, answer_len: usize) -> u32;
+    fn deorasaeng_counts(record: *const u64, record_len: usize, port: u32, answer: *mut u64, answer_len: usize) -> u32;
     fn deorasaeng_take_queue(
         queue: *mut u64,
         answer: *mut u64,
@@ -141,6 +147,10 @@ impl Record<'_> {
 
     pub fn unit(&self, answer: &mut [u64]) -> u32 {
         unsafe { deorasaeng_unit(self.0.as_ptr(), self.0.len(), answer.as_mut_ptr(), answer.len()) }
+    }
+
+    pub fn counts(&self, port: u32, answer: &mut [u64]) -> u32 {
+        unsafe { deorasaeng_counts(self.0.as_ptr(), self.0.len(), port, answer.as_mut_ptr(), answer.len()) }
     }
 }
 
@@ -205,15 +215,20 @@ fn pairs_difference(words: &[u64], unit: &Unit) -> Option<String> {
     None
 }
 
-/// For each port: the count, then each frame's identifier and length, and its bytes.
+/// For each port: how many wait, what it counts, then each frame's identifier and length, and its bytes.
 fn queues_difference(words: &[u64], unit: &Unit) -> Option<String> {
     for (&port, queue) in &unit.queues {
         let block = &words[queue_range(port)];
+        let (counts, expected) = (&block[COUNTS_AT..FRAMES_AT], unit.counts[&port].words());
+        if counts != expected {
+            return Some(format!("counts of port {port}: {counts:X?}, expected {expected:X?}"));
+        }
         let count = (block[0] as usize).min(LONGEST_QUEUE);
-        let waiting = block[1..].chunks(2).take(count);
+        let waiting = block[FRAMES_AT..].chunks(2).take(count);
         let same = count == queue.len() && waiting.zip(queue).all(|(pair, frame)| is_frame(pair, frame));
         if !same {
-            return Some(format!("queue of port {port}: {:X?}, expected {queue:X?}", &block[..1 + 2 * count]));
+            let found = &block[FRAMES_AT..FRAMES_AT + 2 * count];
+            return Some(format!("queue of port {port}: {found:X?}, expected {queue:X?}"));
         }
     }
     None

@@ -3,6 +3,7 @@
 use std::fmt;
 
 use crate::address::{Event, StartAnswer, UnitAnswer};
+use crate::counts::Counts;
 use crate::frame::Frame;
 use crate::message::{MessageAnswer, WrongEntry, LONGEST_MESSAGE};
 use crate::unit::{FrameAnswer, Number, Unit, USUAL_PORTS};
@@ -18,6 +19,7 @@ pub enum Call {
     Take { port: u32 },
     Message { port: u32, requester: u32, payload: Vec<u8> },
     Unit,
+    Counts { port: u32 },
 }
 
 /// The answer to a call; a message's answer carries the bytes written.
@@ -30,6 +32,7 @@ pub enum Answer {
     Take(Result<Option<Frame>, Number>),
     Message(MessageAnswer, Vec<u8>),
     Unit(UnitAnswer),
+    Counts(Result<Counts, Number>),
 }
 
 impl Answer {
@@ -43,6 +46,7 @@ impl Answer {
             Answer::Frame(result) => result.as_ref().err().copied().unwrap_or(0),
             Answer::Take(result) => result.as_ref().err().copied().unwrap_or(0),
             Answer::Message(answer, _) => answer.number,
+            Answer::Counts(result) => result.as_ref().err().copied().unwrap_or(0),
         }
     }
 }
@@ -65,7 +69,7 @@ impl fmt::Display for Wrong {
     fn fmt(&self, out: &mut fmt::Formatter) -> fmt::Result {
         match self {
             Wrong::TooLong => out.write_str("longer than 4,096 bytes"),
-            Wrong::NoLetter => out.write_str("the first word is none of P S Q F T M U"),
+            Wrong::NoLetter => out.write_str("the first word is none of P S Q F T M U C"),
             Wrong::Missing(field) => write!(out, "{field} missing"),
             Wrong::Malformed(field, form) => write!(out, "{field}: not {form}"),
             Wrong::MoreWords => out.write_str("more words than the call has"),
@@ -74,7 +78,7 @@ impl fmt::Display for Wrong {
     }
 }
 
-/// Makes one call. Power-on makes the unit; without a unit there is no answer.
+/// Makes one call. Power-on makes the unit; without a unit there is no answer. The counts are held against a recount.
 pub fn apply(unit: &mut Option<Unit>, call: &Call) -> Option<Answer> {
     if let Call::PowerOn { name, preferred, ports } = call {
         let (fresh, result) = Unit::power_on_ports(*name, *preferred, *ports);
@@ -82,7 +86,7 @@ pub fn apply(unit: &mut Option<Unit>, call: &Call) -> Option<Answer> {
         return Some(Answer::PowerOn(result));
     }
     let unit = unit.as_mut()?;
-    Some(match call {
+    let answer = match call {
         Call::PowerOn { .. } => return None,
         Call::Start => Answer::Start(unit.start()),
         Call::Quiet => Answer::Quiet(unit.quiet()),
@@ -94,7 +98,10 @@ pub fn apply(unit: &mut Option<Unit>, call: &Call) -> Option<Answer> {
             Answer::Message(answer, reply[..answer.length].to_vec())
         }
         Call::Unit => Answer::Unit(unit.tell()),
-    })
+        Call::Counts { port } => Answer::Counts(unit.how_full(*port)),
+    };
+    assert!(unit.counts_hold(), "{}: a port's counts are no recount", write_call(call));
+    Some(answer)
 }
 
 /// Blanks, tabs and carriage returns part words and are no part of them.
@@ -194,6 +201,7 @@ pub fn read_call(line: impl AsRef<[u8]>) -> Result<Call, Wrong> {
             payload: words.bytes("payload")?,
         },
         b"U" => Call::Unit,
+        b"C" => Call::Counts { port: words.decimal("port")? },
         _ => return Err(Wrong::NoLetter),
     };
     words.end().map(|()| call)
@@ -238,6 +246,7 @@ pub fn write_call(call: &Call) -> String {
             format!("M {port} {requester} {}", print_bytes(payload))
         }
         Call::Unit => "U".to_string(),
+        Call::Counts { port } => format!("C {port}"),
     }
 }
 
@@ -259,6 +268,8 @@ pub fn print_answer(answer: &Answer) -> String {
         Answer::Take(Err(number)) => format!("T R {number}"),
         Answer::Message(answer, written) => print_message_answer(answer, written),
         Answer::Unit(answer) => print_unit_answer(answer),
+        Answer::Counts(Ok(counts)) => print_counts(counts),
+        Answer::Counts(Err(number)) => format!("C R {number}"),
     }
 }
 
@@ -298,6 +309,13 @@ fn print_message_answer(answer: &MessageAnswer, written: &[u8]) -> String {
 fn print_unit_answer(answer: &UnitAnswer) -> String {
     let address = answer.address.map_or("-".to_string(), |address| address.to_string());
     format!("U {:?} {address} {} {:016X} {}", answer.state, answer.preferred, answer.name, answer.ports)
+}
+
+/// How many frames wait at priority 0 to 7; then how many in all, and how many were accepted and taken.
+fn print_counts(counts: &Counts) -> String {
+    let by_rank = counts.waiting.map(|count| count.to_string()).join(" ");
+    let (waiting, accepted, taken) = (counts.all_waiting(), counts.accepted, counts.taken);
+    format!("C {by_rank}  waiting {waiting}, accepted {accepted}, taken {taken}")
 }
 
 /// The event's word, `-` for none.

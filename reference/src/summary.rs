@@ -19,6 +19,7 @@ pub struct Summary {
     takes: Outcomes,
     messages: Outcomes,
     units: Outcomes,
+    counts: Outcomes,
     consumed: u64,
     given: u64,
     accepted: ByPort,
@@ -101,6 +102,7 @@ impl Summary {
             }
             (Call::Message { .. }, _) => self.messages.add(number),
             (Call::Unit, _) => self.units.add(number),
+            (Call::Counts { .. }, _) => self.counts.add(number),
             (Call::PowerOn { ports, .. }, _) => {
                 self.power_ons.add(number);
                 let ports = if number == 0 { *ports } else { USUAL_PORTS };
@@ -138,6 +140,7 @@ impl Summary {
         lines.extend((1..=ports).flat_map(|port| self.port_lines(port)));
         let given = format!("given {}, nothing waiting {nothing}", self.given);
         lines.extend(outcome_lines("takes", &given, &self.takes));
+        lines.extend(outcome_lines("counts", &format!("told {}", self.counts.done()), &self.counts));
         lines.extend(outcome_lines("messages", &format!("answered {}", self.messages.done()), &self.messages));
         lines
     }

@@ -4,6 +4,7 @@ use std::collections::{BTreeMap, VecDeque};
 use std::ops::RangeInclusive;
 
 use crate::address::{ClaimState, Event, Holder};
+use crate::counts::Counts;
 use crate::frame::{self, Frame};
 use crate::pair::{Pair, Reason};
 
@@ -29,6 +30,8 @@ pub struct Unit {
     pub pairs: BTreeMap<(u32, u32), Pair>,
     /// One queue for each port, in order of joining.
     pub queues: BTreeMap<u32, VecDeque<Frame>>,
+    /// What each port counts.
+    pub counts: BTreeMap<u32, Counts>,
     /// The address table: who holds which address.
     pub table: BTreeMap<u32, Holder>,
 }
@@ -73,17 +76,19 @@ impl Unit {
         }
     }
 
-    /// Pairs cleared, queues and table empty, the unit Unstarted.
+    /// Pairs cleared, queues and table empty, every count 0, the unit Unstarted.
     fn fresh(name: u64, preferred: u32, ports: u32) -> Unit {
         let mut pairs = BTreeMap::new();
         let mut queues = BTreeMap::new();
+        let mut counts = BTreeMap::new();
         for from in 1..=ports {
             queues.insert(from, VecDeque::new());
+            counts.insert(from, Counts::default());
             for to in (1..=ports).filter(|&to| to != from) {
                 pairs.insert((from, to), Pair::Cleared);
             }
         }
-        Unit { name, preferred, state: ClaimState::Unstarted, ports, pairs, queues, table: BTreeMap::new() }
+        Unit { name, preferred, state: ClaimState::Unstarted, ports, pairs, queues, counts, table: BTreeMap::new() }
     }
 
     /// The ports, in rising order.
@@ -149,11 +154,12 @@ impl Unit {
         }
     }
 
-    /// Forwarding rule 3: a permitted frame joins a port's queue where fewer than 32 wait.
+    /// Forwarding rule 3: a permitted frame joins a port's queue where fewer than 32 wait, and is counted there.
     pub(crate) fn join(&mut self, port: u32, frame: &Frame) -> bool {
         let queue = self.queues.get_mut(&port).expect("a port of the unit");
         if queue.len() < LONGEST_QUEUE {
             queue.push_back(frame.clone());
+            self.counts.get_mut(&port).expect("a port of the unit").join(frame);
             true
         } else {
             false
@@ -168,7 +174,11 @@ impl Unit {
             return Ok(None);
         };
         let first = queue.iter().position(|waiting| frame::priority(waiting.id) == highest);
-        Ok(first.and_then(|index| queue.remove(index)))
+        let given = first.and_then(|index| queue.remove(index));
+        if let Some(frame) = &given {
+            self.counts.get_mut(&port).expect("a port of the unit").take(frame);
+        }
+        Ok(given)
     }
 }
 

@@ -7,7 +7,8 @@ use std::collections::BTreeMap;
 use common::*;
 use reference::address::{ClaimState, Holder};
 use reference::coverage::{
-    Coverage, ABSENT_PAIRS, ABSENT_PLACES, DEEP, DESTINATIONS, EVENTS, LENGTHS, LETTERS, MODES, STATES, WRONG_PLACES,
+    Coverage, ABSENT_PAIRS, ABSENT_PLACES, DEEP, DESTINATIONS, EVENTS, LENGTHS, LETTERS, MODES, PRIORITIES, STATES,
+    WAITING, WRONG_PLACES,
 };
 use reference::frame::{pgn, priority, Frame, PERMANENT};
 use reference::generate::{generate, Random};
@@ -77,6 +78,7 @@ fn demand_2_no_frame_back_and_no_other_pair() {
                 assert!(named || *filter == before.pairs[pair]);
             }
             assert_eq!((&before.queues, &before.table), (&after.queues, &after.table));
+            assert_eq!(before.counts, after.counts);
         }
         (Call::PowerOn { .. }, _) => {}
         _ => assert_eq!(before.pairs, after.pairs),
@@ -276,12 +278,17 @@ fn generator_reaches_deep_states() {
     assert!(EVENTS.iter().all(|row| coverage.reached(&format!("event {row}")) > 0));
     assert!(STATES.iter().all(|row| coverage.reached(&format!("state {row}")) > 0));
     assert!(STATES.iter().all(|row| coverage.reached(&format!("told {row}")) > 0));
+    assert!(STATES.iter().all(|row| coverage.reached(&format!("counts in {row}")) > 0));
+    assert!(PRIORITIES.clone().all(|priority| coverage.reached(&format!("counts with priority {priority}")) > 0));
     assert!(MODES.iter().all(|row| coverage.reached(&format!("mode {row}")) > 0));
     assert!((0..=6).all(|reason| coverage.reached(&format!("reason {reason}")) > 0));
     assert!(DESTINATIONS.iter().all(|row| coverage.reached(&format!("permanent to {row}")) > 0));
     assert!(LENGTHS.iter().all(|row| coverage.reached(&format!("permanent of {row}")) > 0));
     for ports in 2..=8 {
         assert!(coverage.reached(&format!("ports {ports}")) > 0, "{ports} ports");
+    }
+    for waiting in WAITING {
+        assert!(coverage.reached(&format!("counts of queues with {waiting}")) > 0, "{waiting} waiting");
     }
     for place in WRONG_PLACES {
         assert!(coverage.reached(&format!("22 at entry {place}")) > 0, "22 at {place}");

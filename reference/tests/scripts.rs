@@ -51,7 +51,7 @@ fn recorded() {
     script += include_str!("../scripts/unit.txt");
     script += include_str!("../scripts/one_up.txt");
     script += include_str!("../scripts/ports.txt");
-    for call in sweep().iter().chain(&generate(43, 9000)) {
+    for call in sweep().iter().chain(&generate(128, 9000)) {
         script += &(write_call(call) + "\n");
     }
     script += "T 1";
@@ -129,6 +129,59 @@ fn printed_reasons() {
     assert_eq!(of_ports[..16], expected);
 }
 
+/// Counts: eight words, then all that wait, accepted and taken; also without the calls.
+#[test]
+fn printed_counts() {
+    let script = "P 20001C000AC00123 200\nC 2\nF 1 0CF00400 -\nF 1 18FEF100 -\nF 3 0CF00400 01\nF 1 1CFEF100 -\nC 2\nC 1\nT 2\nC 2\n\
+        C 5\nC 0\nS\nC 00002\n";
+    let printed = [
+        "C 0 0 0 2 0 0 1 1  waiting 4, accepted 4, taken 0",
+        "C 0 0 0 1 0 0 0 0  waiting 1, accepted 1, taken 0",
+        "T 0CF00400 0 -",
+        "C 0 0 0 1 0 0 1 1  waiting 3, accepted 4, taken 1",
+        "C R 1",
+        "C R 1",
+        "S Claiming -",
+        "C 0 0 0 1 0 0 2 1  waiting 4, accepted 5, taken 1",
+    ];
+    assert_eq!(run_script(script)[1], "C 0 0 0 0 0 0 0 0  waiting 0, accepted 0, taken 0");
+    assert_eq!(run_script(script)[6..], printed);
+    let plain = String::from_utf8(Run::of(script).plain()).unwrap();
+    assert!(plain.starts_with("P\nC 0 0 0 0 0 0 0 0  waiting 0, accepted 0, taken 0\n"));
+    let beside = String::from_utf8(Run::of(script).beside()).unwrap();
+    let lines: Vec<&str> = beside.lines().collect();
+    assert_eq!(
+        lines[9..11],
+        [
+            "C 2                                   C 0 0 0 1 0 0 1 1  waiting 3, accepted 4, taken 1",
+            "C 5                                   C R 1  (1 port not 1 to the number of ports)",
+        ]
+    );
+    let summary = Run::of(script).summary.lines();
+    let counts = summary.iter().position(|line| line.starts_with("counts ")).unwrap();
+    assert_eq!(
+        summary[counts - 1..=counts + 2],
+        [
+            "takes 1: given 1, nothing waiting 0, refused 0",
+            "counts 7: told 5, refused 2",
+            "    1 port not 1 to the number of ports: 2",
+            "messages 0: answered 0, refused 0",
+        ]
+    );
+}
+
+/// The bundled morning shows a queue that fills, is full, and empties.
+#[test]
+fn morning_shows_a_queue_fill_and_empty() {
+    let answers = run_script(include_str!("../scripts/morning.txt"));
+    let waiting =
+        |answer: &String| answer.strip_prefix("C ")?.split("waiting ").nth(1)?.split(',').next()?.parse().ok();
+    let told: Vec<u32> = answers.iter().filter_map(waiting).collect();
+    let full = told.iter().position(|&count| count == 32).expect("full");
+    assert!(told[..full].contains(&0) && told[full..].contains(&0), "{told:?}");
+    assert!(told.len() >= 8, "{told:?}");
+}
+
 /// The wrong entry behind a message's answer, also without the calls; the number's words behind it.
 #[test]
 fn printed_entries() {
@@ -185,9 +238,9 @@ fn morning_shows_every_reason() {
 
 /// Each line that is no call, and what is said of it.
 const NO_CALLS: &[(&str, &str)] = &[
-    ("X", "the first word is none of P S Q F T M U"),
-    ("s", "the first word is none of P S Q F T M U"),
-    ("SS", "the first word is none of P S Q F T M U"),
+    ("X", "the first word is none of P S Q F T M U C"),
+    ("s", "the first word is none of P S Q F T M U C"),
+    ("SS", "the first word is none of P S Q F T M U C"),
     ("P", "NAME missing"),
     ("P 1", "preferred address missing"),
     ("P 1 2 3 4", "more words than the call has"),
@@ -220,7 +273,12 @@ const NO_CALLS: &[(&str, &str)] = &[
     ("M 1 33 é", "payload: not pairs of hex digits, or - for none"),
     ("M 1 33 00 12", "more words than the call has"),
     ("U 1", "more words than the call has"),
-    ("u", "the first word is none of P S Q F T M U"),
+    ("u", "the first word is none of P S Q F T M U C"),
+    ("C", "port missing"),
+    ("C x", "port: not a decimal number below 2^32"),
+    ("C 4294967296", "port: not a decimal number below 2^32"),
+    ("C 1 2", "more words than the call has"),
+    ("c 1", "the first word is none of P S Q F T M U C"),
 ];
 
 #[test]
@@ -247,7 +305,7 @@ fn harmless_bytes() {
     ];
     assert_eq!(run_script(scripts[0]), run_script(scripts[1]));
     assert_eq!(run_script(" \u{feff}\u{feff} P ff 0\n \t\r\n"), ["P"]);
-    assert_eq!(run_script("P ff 0\n\u{feff}S"), ["P", "? line 2: the first word is none of P S Q F T M U"]);
+    assert_eq!(run_script("P ff 0\n\u{feff}S"), ["P", "? line 2: the first word is none of P S Q F T M U C"]);
 }
 
 /// A call stands beside its answer, a refusal with its words; what is passed over stands as it is.
@@ -263,7 +321,7 @@ fn beside() {
         "S                                     S Claiming -",
         "M 3 33 0012FFFFFFFFFFFF               M 6 0 0 -  (6 unit not Claimed)",
         "F 9 18FEF100 -                        F R 1  (1 port not 1 to the number of ports)",
-        "x                                     ? line 7: the first word is none of P S Q F T M U",
+        "x                                     ? line 7: the first word is none of P S Q F T M U C",
         "",
     ];
     assert_eq!(lines, expected);
@@ -322,7 +380,7 @@ fn longest_line() {
 fn summary() {
     let script = "S\nP 20001C000AC00123 200\nS\nQ\nQ\nU\nx\nU\nM 1 33 061201F1FE00FFFF\nM 1 33 061201F1FE00FFFF\n\
         M 3 33 0012FFFFFFFFFFFF\nF 1 18FEE300 -\nF 1 18EFC800 -\nF 1 20000000 -\nF 9 18FEE300 -\nF 9 18FEE300 -\n\
-        T 2\nT 2\nT 9\n";
+        T 2\nT 2\nT 9\nC 3\nC 9\n";
     let lines = [
         "power-on 1, lines that are no call 2",
         "Start 1: done 1, refused 0",
@@ -341,6 +399,8 @@ fn summary() {
         "  port 4: accepted 1, stopped 0, lost 0, own lost 0",
         "    cleared 1, not asked 1",
         "takes 3: given 1, nothing waiting 1, refused 1",
+        "    1 port not 1 to the number of ports: 1",
+        "counts 2: told 1, refused 1",
         "    1 port not 1 to the number of ports: 1",
         "messages 3: answered 1, refused 2",
         "    11 pair or port not this tool's: 1",

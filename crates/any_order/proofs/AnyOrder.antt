@@ -7,7 +7,7 @@ use Prim.Native.Nat.{ℕ, _<_}
 use native.Mathlib.Omega.{arith}
 use borrow.Author.Tests.{le-leb, lt-leb}
 use Rattle.unit.specs.Model.{modelOf}
-use Rattle.bridge.specs.Calls.{Call, FrameIn, TakeOut, Message, Start, Quiet, ReadUnit}
+use Rattle.bridge.specs.Calls.{Call, FrameIn, TakeOut, Message, Start, Quiet, ReadUnit, ReadCounts}
 use Rattle.demand_3.specs.Demand3.{modelAfter}
 use Rattle.demand_3.proofs.Demand3.{demand-3}
 use Rattle.any_order.specs.Claimants.{Same}
@@ -38,6 +38,7 @@ never preferred (Message port requester payload lentReply ∷ ks) n = never pref
 never preferred (Start ∷ ks) n = lt-leb preferred 253 (n (List·Memᴰ·head refl))
 never preferred (Quiet ∷ ks) n = never preferred ks (λ m. n (List·Memᴰ·tail m))
 never preferred (ReadUnit ∷ ks) n = never preferred ks (λ m. n (List·Memᴰ·tail m))
+never preferred (ReadCounts port ∷ ks) n = never preferred ks (λ m. n (List·Memᴰ·tail m))
 
 once : (js later : List Call) → callsStart (js ++ Start ∷ later) ≡ true
 once [] later = refl
@@ -47,6 +48,7 @@ once (Message port requester payload lentReply ∷ js) later = once js later
 once (Start ∷ js) later = refl
 once (Quiet ∷ js) later = once js later
 once (ReadUnit ∷ js) later = once js later
+once (ReadCounts port ∷ js) later = once js later
 
 begins : {preferred : ℕ} {ks : List Call} {b : Bool} → Begins preferred ks b → hasStarted preferred ks ≡ b
 begins {preferred = preferred} {ks = ks} (unstarted n) = never preferred ks n

@@ -23,7 +23,7 @@ use Rattle.claims.specs.Claims.{frameOf, isClaim as isClaimFrame}
 use Rattle.checks.specs.Ports.{noPort, isPort}
 use Rattle.refusals.specs.Refusals.{frameRefusal, takeRefusal, startRefusal, quietRefusal, lengthRefusal}
 use Rattle.refusals.proofs.Checks.{none, port-in, source-in}
-use Rattle.bridge.specs.Calls.{Call, FrameIn, TakeOut, Message, Start, Quiet, ReadUnit, refusal, restAfter, performed, next}
+use Rattle.bridge.specs.Calls.{Call, FrameIn, TakeOut, Message, Start, Quiet, ReadUnit, ReadCounts, refusal, restAfter, performed, next}
 use Rattle.any_order.specs.Claimants.{Claimant, Stands, unstarted, keeps, loses}
 use Rattle.any_order.specs.Mornings.{isClaim, claimantIn, claimOf, claimants, callsStart, hasStarted, OneAddress, NoneWithdraws, NoneIsTheUnit, Unrefused, Holds, Orderly}
 use Rattle.any_order.proofs.Lowest.{grown-behind}
@@ -112,6 +112,7 @@ claims-more (Message port requester payload lentReply) ks = refl
 claims-more Start ks = refl
 claims-more Quiet ks = refl
 claims-more ReadUnit ks = refl
+claims-more (ReadCounts port) ks = refl
 
 starts-more : (k : Call) (ks : List Call) → callsStart (k ∷ ks) ≡ (callsStart (k ∷ []) || callsStart ks)
 starts-more (FrameIn port id bytes) ks = refl
@@ -120,6 +121,7 @@ starts-more (Message port requester payload lentReply) ks = refl
 starts-more Start ks = refl
 starts-more Quiet ks = refl
 starts-more ReadUnit ks = refl
+starts-more (ReadCounts port) ks = refl
 
 begun-more : (preferred : ℕ) (b : Bool) (k : Call) (ks : List Call)
     → (b || hasStarted preferred (k ∷ ks)) ≡ ((b || hasStarted preferred (k ∷ [])) || hasStarted preferred ks)
@@ -211,6 +213,8 @@ module _ (ports name preferred : ℕ) (day : List Call) (one : Holds ports name 
       (λ t. quiet-settles rest (quiet-goes ports (recordLength ports) (rest .own) t) S) S)
   after-call b {cs} rest ReadUnit seen now goes S =
       rw (append-nil cs, or-false b) (either-way (SettledIn b name preferred cs) (eqb (lengthRefusal ports (recordLength ports)) 0) rest rest (λ _. S) S)
+  after-call b {cs} rest (ReadCounts port) seen now goes S =
+      rw (append-nil cs, or-false b) (either-way (SettledIn b name preferred cs) (eqb (takeRefusal ports (recordLength ports) port) 0) rest rest (λ _. S) S)
 
   -- ---- a list of calls
   after-list : (b : Bool) (cs : List Claimant) (m : Model) (ks : List Call) → Among cs

@@ -10,7 +10,7 @@ use lib.ListN.{length}
 use Rattle.addresses.specs.Table.{places}
 use Rattle.unit.specs.Model.{recordLength}
 use Rattle.refusals.specs.Refusals.{frameRefusal}
-use Rattle.bridge.specs.Calls.{Call, FrameIn, TakeOut, Message, Start, Quiet, ReadUnit}
+use Rattle.bridge.specs.Calls.{Call, FrameIn, TakeOut, Message, Start, Quiet, ReadUnit, ReadCounts}
 use Rattle.any_order.specs.Claimants.{Claimant}
 use Rattle.any_order.specs.Mornings.{isClaim, claimants, Premise, Unrefused, OneAddress, OnePort, NoneWithdraws, NoneIsTheUnit, Holds}
 
@@ -49,6 +49,7 @@ passes ports (Message port requester payload lentReply) = true
 passes ports Start = true
 passes ports Quiet = true
 passes ports ReadUnit = true
+passes ports (ReadCounts port) = true
 
 unfoldable pub agreeOnAddress : Claimant → Claimant → Bool
 agreeOnAddress c d = implies (eqb (c .name) (d .name)) (implies (ltb (c .address) places) (implies (ltb (d .address) places) (eqb (c .address) (d .address))))

@@ -11,7 +11,7 @@ use Rattle.identifier.specs.Identifier.{pgnOf, psOf, saOf}
 use Rattle.addresses.specs.Table.{places}
 use Rattle.unit.specs.Model.{recordLength}
 use Rattle.refusals.specs.Refusals.{frameRefusal}
-use Rattle.bridge.specs.Calls.{Call, FrameIn, TakeOut, Message, Start, Quiet, ReadUnit}
+use Rattle.bridge.specs.Calls.{Call, FrameIn, TakeOut, Message, Start, Quiet, ReadUnit, ReadCounts}
 use Rattle.any_order.specs.Claimants.{Claimant}
 
 -- 01: "A claim is PGN 60928, PS 255, length 8"
@@ -34,6 +34,7 @@ claimants (Message port requester payload lentReply ∷ ks) = claimants ks
 claimants (Start ∷ ks) = claimants ks
 claimants (Quiet ∷ ks) = claimants ks
 claimants (ReadUnit ∷ ks) = claimants ks
+claimants (ReadCounts port ∷ ks) = claimants ks
 
 -- whether Start is called
 abbrev pub callsStart : List Call → Bool
@@ -44,6 +45,7 @@ callsStart (Message port requester payload lentReply ∷ ks) = callsStart ks
 callsStart (Start ∷ ks) = true
 callsStart (Quiet ∷ ks) = callsStart ks
 callsStart (ReadUnit ∷ ks) = callsStart ks
+callsStart (ReadCounts port ∷ ks) = callsStart ks
 
 -- whether the unit has started: Start was called, with a good preferred address. Where it stands among the calls does not matter.
 abbrev pub hasStarted : ℕ → List Call → Bool

@@ -1,4 +1,5 @@
 -- What is promised, whole: the customer's three demands, document 01's numbers in its literals, and its examples. `assurance` of proofs/Assurance.antt proves it.
+use mathlib.Core.Path.{_≡_}
 use mathlib.Core.List.{List}
 use Prim.Native.Nat.{ℕ}
 use Rattle.made.specs.Made.{Powered}
@@ -6,6 +7,7 @@ use Rattle.demand_1.specs.Demand1.{Demand1}
 use Rattle.demand_1.specs.Literals.{Literals}
 use Rattle.demand_2.specs.Demand2.{Demand2}
 use Rattle.demand_3.specs.Demand3.{EveryList}
+use Rattle.tallies.specs.Tallies.{EveryCount}
 use Rattle.assurance.specs.Examples.{Examples}
 
 pub record Assurance : Type 0 where
@@ -13,5 +15,7 @@ pub record Assurance : Type 0 where
   pub demand-2 : Demand2
   -- power-on was called on the words w, whatever they held, with any NAME, preferred address and count of ports, was answered r and left u
   pub demand-3 : {w u : List ℕ} {name preferred count r : ℕ} → Powered w name preferred count r u → EveryList w u name preferred count r
+  -- document 02, ticket 7
+  pub counts : {w u : List ℕ} {name preferred count r : ℕ} → Powered w name preferred count r u → (r ≡ 2 → ⊥) → EveryCount u name preferred count
   pub literals : Literals
   pub examples : Examples

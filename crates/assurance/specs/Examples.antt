@@ -6,6 +6,7 @@ use lib.ListN.{drop, replicate}
 use Rattle.delivery.specs.Calls.{answersOf}
 use Rattle.queue.specs.declared.Frame.{Frame}
 use Rattle.queue.specs.declared.Taken.the-variants.{Given}
+use Rattle.queue.specs.Queue.{idle}
 use Rattle.filter.specs.Filter.{Filter, pass, clear}
 use Rattle.addresses.specs.declared.Place.the-variants.{Free}
 use Rattle.unit.specs.declared.Claim.the-variants.{Claimed}
@@ -39,7 +40,7 @@ calls = FrameIn 1 0x18FEF121 [] ∷ FrameIn 1 0x18FEF122 [] ∷ FrameIn 1 0x0CF0
 abbrev pub with : List Filter → Model
 with pairs = record {
   rest = record { own = record { claim = Claimed; address = 0x90; preferred = 0x90; name = 1; ports = 4 }; pairs = pairs; table = replicate 254 Free };
-  rows = replicate 4 [];
+  queues = replicate 4 idle;
   seen = record {};
 }
 
@@ -52,11 +53,11 @@ afterP5 = with (record { mode = pass; entries = 65265 ∷ [] } ∷ replicate 11 
 
 -- what a frame from port 1 with no bytes is answered
 abbrev pub frameIn : Model → ℕ → FrameAnswer
-frameIn m id = frameAnswer 4 1181 m 1 id []
+frameIn m id = frameAnswer 4 1221 m 1 id []
 
 -- "Unless said, the tool is on port 1 with requester 21 and the buffer is long enough"
 abbrev pub message : Model → ℕ → List ℕ → Replied
-message m port payload = messaged 4 1181 1785 (m .rest) port 0x21 payload
+message m port payload = messaged 4 1221 1785 (m .rest) port 0x21 payload
 
 abbrev pub create : List ℕ
 create = 0x06 ∷ 0x12 ∷ 0x01 ∷ 0xF1 ∷ 0xFE ∷ 0x00 ∷ 0xFF ∷ 0xFF ∷ []

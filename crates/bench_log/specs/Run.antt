@@ -10,7 +10,7 @@ use lib.ListN.{length, take, drop}
 use Rattle.delivery.specs.Calls.{afterCalls, answersOf}
 use Rattle.unit.specs.Count.{portsOf}
 use Rattle.unit.specs.Model.{Model}
-use Rattle.demand_3.specs.Demand3.{Answer, ToFrame, ToTake, ToMessage, ToStart, ToQuiet, ToUnit, next, answer}
+use Rattle.demand_3.specs.Demand3.{Answer, ToFrame, ToTake, ToMessage, ToStart, ToQuiet, ToUnit, ToCounts, next, answer}
 use Rattle.bench_records.specs.Records.{logNumber}
 use Rattle.bench_lines.specs.Lines.{lineRoom, refusedText}
 use Rattle.bench_log.specs.declared.Stepped.{Stepped}
@@ -26,6 +26,7 @@ lineOf (ToMessage r reply) = []
 lineOf (ToStart r) = []
 lineOf (ToQuiet number) = []
 lineOf (ToUnit r) = []
+lineOf (ToCounts r) = []
 
 abbrev pub linesOf : List Answer → List ℕ
 linesOf [] = []

@@ -11,7 +11,7 @@ use Rattle.unit.specs.Model.{Model, modelOf}
 use Rattle.bridge.specs.declared.FrameAnswer.{FrameAnswer}
 use Rattle.bridge.specs.declared.TakeAnswer.{TakeAnswer}
 use Rattle.bridge.specs.declared.TakeAnswer.the-variants.{Refused, Took}
-use Rattle.bridge.specs.Calls.{Call, FrameIn, TakeOut, Message, Start, Quiet, ReadUnit, frameAnswer, takeAnswer, refusal, next, Calling}
+use Rattle.bridge.specs.Calls.{Call, FrameIn, TakeOut, Message, Start, Quiet, ReadUnit, ReadCounts, frameAnswer, takeAnswer, refusal, next, Calling}
 use Rattle.bench_log.specs.declared.Stepped.{Stepped}
 use Rattle.bench_records.specs.Records.{kindOf, sizeOf, logNumber}
 use Rattle.bench_lines.specs.Lines.{lineRoom, refusedText, passedText, takenText}
@@ -33,6 +33,7 @@ callText ports lent m (Message port requester payload lentReply) = []
 callText ports lent m Start = []
 callText ports lent m Quiet = []
 callText ports lent m ReadUnit = []
+callText ports lent m (ReadCounts port) = []
 
 -- one record's call, and its line at the start of the buffer
 pub record Doing (ports : ℕ) (before after : List ℕ) (k : Call) (lent back : List ℕ) (r : ℕ) : Type 0 where

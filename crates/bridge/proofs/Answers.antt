@@ -6,22 +6,22 @@ use Prim.Native.Nat.{ℕ, _-_}
 use native.Mathlib.Omega.{arith}
 use borrow.Author.Tests.{eq-eqb, ne-eqb}
 use lib.ListN.{length}
-use Rattle.delivery.specs.Row.{pull, kept}
 use Rattle.queue.specs.declared.Taken.{Taken}
-use Rattle.queue.specs.Queue.{priority}
+use Rattle.queue.specs.declared.Tally.{Tally}
+use Rattle.queue.specs.Queue.{taking, idle}
 use Rattle.unit.specs.declared.Claim.the-variants.{Claimed}
 use Rattle.unit.specs.declared.Unit.{Unit}
 use Rattle.bridge.specs.declared.TakeAnswer.{TakeAnswer}
 use Rattle.bridge.specs.declared.UnitAnswer.{UnitAnswer}
-use Rattle.unit.specs.Model.{Model, modelOf, recordLength, withOwn, withRest}
+use Rattle.unit.specs.Model.{Model, modelOf, queueOn, recordLength, withOwn, withRest}
 use Rattle.unit.specs.Own.{consumes, isClaiming, moved}
 use Rattle.refusals.specs.Refusals.{lengthRefusal, takeRefusal, quietRefusal}
-use Rattle.bridge.specs.Calls.{Call, FrameIn, TakeOut, Message, Start, Quiet, ReadUnit, frameOf, refusal, restAfter, asks, sends, performed, next, takeAnswer, unitAnswer, Calling, TakingOut, Quieting, Reading}
+use Rattle.bridge.specs.Calls.{Call, FrameIn, TakeOut, Message, Start, Quiet, ReadUnit, ReadCounts, frameOf, refusal, restAfter, asks, sends, performed, next, takeAnswer, unitAnswer, countsRefused, countsAnswer, Calling, TakingOut, Quieting, Reading, Counting}
 use Rattle.record.specs.Steps.{RowTaking}
 use Rattle.unit.proofs.Own.{own-ports}
 use Rattle.unit.proofs.Ports.{each-none, each-one}
 use Rattle.claims.proofs.Count.{acted-ports, started-ports}
-use Rattle.record.proofs.Regions.{rows-long}
+use Rattle.record.proofs.Regions.{queues-long}
 use Rattle.refusals.proofs.Checks.{take-goes}
 
 -- ---- any call
@@ -34,6 +34,7 @@ performed-ports ports lent m (Message port requester payload lentReply) = refl
 performed-ports ports lent m Start = started-ports (m .rest)
 performed-ports ports lent m Quiet = refl
 performed-ports ports lent m ReadUnit = refl
+performed-ports ports lent m (ReadCounts port) = refl
 
 module _ {ports : ℕ} {words : List ℕ} {k : Call} where
   pub call-refused : (refusal ports (length words) (modelOf ports words .rest) k ≡ 0 → ⊥) → Calling ports words words k
@@ -73,8 +74,8 @@ module _ {ports : ℕ} {words : List ℕ} {port n : ℕ} (e : n ≡ takeRefusal 
         call =
             call-done (sym e ∙ z) long
             (T .state
-            ∙ ap (λ rows. record { rest = modelOf ports words .rest; rows = rows; seen = modelOf ports words .seen })
-            (sym (each-one (λ row. kept (pull priority row)) (port - 1) ports (modelOf ports words .rows) [] (omega (arith, goes .1, goes .2)) (omega (arith, goes .1, goes .2, rows-long ports words)))));
+            ∙ ap (λ queues. record { rest = modelOf ports words .rest; queues = queues; seen = modelOf ports words .seen })
+            (sym (each-one taking (port - 1) ports (modelOf ports words .queues) idle (omega (arith, goes .1, goes .2)) (omega (arith, goes .1, goes .2, queues-long ports words)))));
         answer = rw (← e, eq-eqb n 0 z) (ap TakeAnswer.Took (T .answer));
         ahead = T .ahead;
         behind = T .behind;
@@ -110,7 +111,7 @@ module _ {ports : ℕ} {words : List ℕ} where
         record {
           call =
               call-done (sym e) long
-              (state ∙ rw (u, each-none ports (modelOf ports words .rows)));
+              (state ∙ rw (u, each-none ports (modelOf ports words .queues)));
           answer = e;
         }
 
@@ -130,6 +131,19 @@ module _ {ports : ℕ} {words : List ℕ} where
   unit-read full o =
       let e : 0 ≡ lengthRefusal ports (length words) = rw (eq-eqb (length words) (recordLength ports) full) in
       record {
-        call = call-done (sym e) refl (rw (each-none ports (modelOf ports words .rows)));
+        call = call-done (sym e) refl (rw (each-none ports (modelOf ports words .queues)));
         answer = rw (eq-eqb (length words) (recordLength ports) full, o);
       }
+
+-- ---- the counts of a port are read
+module _ {ports : ℕ} {words : List ℕ} {port n : ℕ} (e : n ≡ takeRefusal ports (length words) port) where
+  pub counts-refused : (n ≡ 0 → ⊥) → Counting ports words port (countsRefused n)
+  unfolding countsAnswer refusal
+  counts-refused h = record { call = call-refused (λ z. h (e ∙ z)); answer = rw (← e, ne-eqb n 0 h) }
+
+  pub counts-read : {t : Tally} → n ≡ 0 → t ≡ queueOn (modelOf ports words) (port - 1) .tally → Counting ports words port (record { refusal = 0; tally = t })
+  unfolding countsAnswer refusal performed restAfter asks sends
+  counts-read z h = record {
+    call = call-done (sym e ∙ z) refl (rw (each-none ports (modelOf ports words .queues)));
+    answer = rw (← e, eq-eqb n 0 z, h);
+  }

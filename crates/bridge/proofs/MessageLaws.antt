@@ -24,7 +24,7 @@ module _ (ports : ℕ) (words lent : List ℕ) (port requester : ℕ) (payload :
 
   done : {after back : List ℕ} {Still : ℕ → Type 0} {r : MessageAnswer} → outcome .number ≡ 0 → length after ≡ length words → Replying ports words after lent back outcome Still r → Calling ports words after (Message port requester payload (length lent))
   unfolding refusal performed restAfter asks sends
-  done z long S = call-done z long (S .state ∙ rw (each-none ports (modelOf ports words .rows)))
+  done z long S = call-done z long (S .state ∙ rw (each-none ports (modelOf ports words .queues)))
 
   undone : {after back : List ℕ} {Still : ℕ → Type 0} {r : MessageAnswer} → (outcome .number ≡ 0 → ⊥) → Replying ports words after lent back outcome Still r → Calling ports words after (Message port requester payload (length lent))
   unfolding refusal

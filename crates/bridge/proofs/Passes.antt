@@ -7,10 +7,10 @@ use native.Mathlib.Omega.{arith}
 use borrow.Author.Tests.{eq-eqb, ne-eqb}
 use lib.ListN.{length}
 use Rattle.identifier.specs.Identifier.{pgnOf}
-use Rattle.delivery.specs.Row.{join}
 use Rattle.delivery.specs.Unit.{joinAll}
 use Rattle.queue.specs.declared.Frame.{Frame}
-use Rattle.queue.specs.Queue.{size}
+use Rattle.queue.specs.Queue.{size, Queued, sentAll, idle}
+use Rattle.queue.proofs.Rows.{row-sent, sent-append}
 use Rattle.bridge.specs.declared.FrameAnswer.{FrameAnswer}
 use Rattle.bridge.specs.declared.Response.{Response}
 use Rattle.bridge.specs.declared.StartAnswer.{StartAnswer}
@@ -18,7 +18,7 @@ use Rattle.unit.specs.declared.Unit.{Unit}
 use Rattle.forwarding.specs.declared.Share.{Share}
 use Rattle.claims.specs.declared.Acted.{Acted as Done}
 use Rattle.unit.specs.Ports.{each, mask}
-use Rattle.unit.specs.Model.{modelOf, recordLength, rowAt, withRows}
+use Rattle.unit.specs.Model.{modelOf, recordLength, queueOn, rowAt, withQueues}
 use Rattle.unit.specs.Own.{startChecks, consumes, framesSent}
 use Rattle.refusals.specs.Refusals.{frameRefusal, startRefusal}
 use Rattle.checks.specs.Checks.{first}
@@ -29,13 +29,8 @@ use Rattle.forwarding.specs.Steps.{forwardedTo, sharesTo, Forwarding, announced
 use Rattle.claims.specs.Steps.{Acting}
 use Rattle.bridge.specs.Steps.{Sharing, Responding, Passing}
 use Rattle.unit.proofs.Ports.{each-at, each-same, each-twice, mask-same, mask-none, total-none, digits-none}
-use Rattle.record.proofs.Regions.{rows-long}
+use Rattle.record.proofs.Regions.{queues-long}
 use Rattle.bridge.proofs.Answers.{call-refused, call-done}
-
--- frames sent one after the other
-join-append : (row xs ys : List Frame) → joinAll size row (xs ++ ys) ≡ joinAll size (joinAll size row xs) ys
-join-append row [] ys = refl
-join-append row (x ∷ xs) ys = join-append (join size row x) xs ys
 
 -- ---- acted on, then announced
 pub responded : {ports : ℕ} {words mid after : List ℕ} {a : Acted} {d : Done} {n : ℕ} → Acting ports words mid a d → Announcing ports mid after (d .sent) n
@@ -60,10 +55,10 @@ module _ {ports : ℕ} {words after : List ℕ} (port : ℕ) (f : Frame) (r : Re
   -- ---- a frame that is carried on
   module _ {mid : List ℕ} {s : Share} (h : consumes (modelOf ports words .rest .own) (f .id) ≡ false) (F : Forwarding ports words mid (verdict ports (modelOf ports words .rest .pairs) (port - 1) (pgnOf (f .id))) f s) (R : Responding ports mid after (frameActed (modelOf ports mid .rest) port false f) r) where
     -- what forwarding does at port q
-    abbrev change : ℕ → List Frame → List Frame
-    change q row = joinAll size row (sentIf (verdict ports (modelOf ports words .rest .pairs) (port - 1) (pgnOf (f .id)) q) f)
+    abbrev change : ℕ → Queued → Queued
+    change q x = sentAll x (sentIf (verdict ports (modelOf ports words .rest .pairs) (port - 1) (pgnOf (f .id)) q) f)
 
-    forwarded : modelOf ports mid ≡ withRows (modelOf ports words) (each change ports (modelOf ports words .rows))
+    forwarded : modelOf ports mid ≡ withQueues (modelOf ports words) (each change ports (modelOf ports words .queues))
     unfolding forwardedTo
     forwarded = F .state
 
@@ -77,24 +72,29 @@ module _ {ports : ℕ} {words after : List ℕ} (port : ℕ) (f : Frame) (r : Re
     event-is : r .event ≡ done .event
     event-is = rw rest-still at (R .event)
 
-    row-then : (q : ℕ) → q < ports → rowAt (modelOf ports mid) q ≡ change q (rowAt (modelOf ports words) q)
-    row-then q l = rw forwarded (each-at change ports (modelOf ports words .rows) q [] l (omega (arith, rows-long ports words)))
+    abbrev joinedTo : ℕ → List Frame
+    joinedTo q = joinAll size (rowAt (modelOf ports words) q) (sentIf (verdict ports (modelOf ports words .rest .pairs) (port - 1) (pgnOf (f .id)) q) f)
 
-    unsent-is : r .unsent ≡ mask (λ q. losesOwn (done .sent) (change q (rowAt (modelOf ports words) q))) ports
+    row-then : (q : ℕ) → q < ports → rowAt (modelOf ports mid) q ≡ joinedTo q
+    row-then q l =
+        rw forwarded (ap (λ (x : Queued). x .row) (each-at change ports (modelOf ports words .queues) q idle l (omega (arith, queues-long ports words))))
+        ∙ row-sent (queueOn (modelOf ports words) q) (sentIf (verdict ports (modelOf ports words .rest .pairs) (port - 1) (pgnOf (f .id)) q) f)
+
+    unsent-is : r .unsent ≡ mask (λ q. losesOwn (done .sent) (joinedTo q)) ports
     unfolding unsentTo
     unsent-is =
         (rw rest-still at (R .unsent))
-        ∙ mask-same (λ q. losesOwn (done .sent) (rowAt (modelOf ports mid) q)) (λ q. losesOwn (done .sent) (change q (rowAt (modelOf ports words) q))) ports
+        ∙ mask-same (λ q. losesOwn (done .sent) (rowAt (modelOf ports mid) q)) (λ q. losesOwn (done .sent) (joinedTo q)) ports
         (λ q l. ap (losesOwn (done .sent)) (row-then q l))
 
-    rows-are : each (λ q row. joinAll size row (framesSent (done .sent))) ports (each change ports (modelOf ports words .rows))
-        ≡ each (λ q row. joinAll size row (sentIf (verdict ports (modelOf ports words .rest .pairs) (port - 1) (pgnOf (f .id)) q) f ++ framesSent (done .sent))) ports (modelOf ports words .rows)
-    rows-are =
-        each-twice change (λ q row. joinAll size row (framesSent (done .sent))) ports (modelOf ports words .rows)
-        ∙ each-same (λ q row. joinAll size (change q row) (framesSent (done .sent)))
-        (λ q row. joinAll size row (sentIf (verdict ports (modelOf ports words .rest .pairs) (port - 1) (pgnOf (f .id)) q) f ++ framesSent (done .sent)))
-        (λ q row. sym (join-append row (sentIf (verdict ports (modelOf ports words .rest .pairs) (port - 1) (pgnOf (f .id)) q) f) (framesSent (done .sent))))
-        ports (modelOf ports words .rows)
+    queues-are : each (λ q x. sentAll x (framesSent (done .sent))) ports (each change ports (modelOf ports words .queues))
+        ≡ each (λ q x. sentAll x (sentIf (verdict ports (modelOf ports words .rest .pairs) (port - 1) (pgnOf (f .id)) q) f ++ framesSent (done .sent))) ports (modelOf ports words .queues)
+    queues-are =
+        each-twice change (λ q x. sentAll x (framesSent (done .sent))) ports (modelOf ports words .queues)
+        ∙ each-same (λ q x. sentAll (change q x) (framesSent (done .sent)))
+        (λ q x. sentAll x (sentIf (verdict ports (modelOf ports words .rest .pairs) (port - 1) (pgnOf (f .id)) q) f ++ framesSent (done .sent)))
+        (λ q x. sym (sent-append x (sentIf (verdict ports (modelOf ports words .rest .pairs) (port - 1) (pgnOf (f .id)) q) f) (framesSent (done .sent))))
+        ports (modelOf ports words .queues)
 
     pub carried : Passing ports words after port f (record { refusal = 0; consumed = false; accepted = s .accepted; lost = s .lost; event = r .event; unsent = r .unsent; compared = s .compared; reasons = s .reasons })
     unfolding framePassed offered sharesTo announcedTo
@@ -103,7 +103,7 @@ module _ {ports : ℕ} {words after : List ℕ} (port : ℕ) (f : Frame) (r : Re
       state =
           rw h
           ((rw rest-still at (R .state))
-          ∙ rw forwarded (ap (λ rows. record { rest = done .rest; rows = rows; seen = modelOf ports words .seen }) rows-are));
+          ∙ rw forwarded (ap (λ queues. record { rest = done .rest; queues = queues; seen = modelOf ports words .seen }) queues-are));
     }
 
 -- ---- a frame that is not refused: for the unit or for others, as `consumed` says

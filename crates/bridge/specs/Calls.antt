@@ -10,18 +10,18 @@ use lib.ListN.{length, getD, take, drop}
 use lib.Dec.{eqb}
 use Rattle.identifier.specs.Identifier.{pgnOf}
 use Rattle.delivery.specs.Row.{pull, given}
-use Rattle.delivery.specs.Unit.{joinAll, rowNext}
+use Rattle.delivery.specs.Unit.{joinAll}
 use Rattle.filter.specs.declared.Asked.{Asked}
 use Rattle.filter.specs.Filter.{Filter, reasonNumber}
 use Rattle.queue.specs.declared.Frame.{Frame}
 use Rattle.queue.specs.declared.Taken.{Taken}
-use Rattle.queue.specs.Queue.{size, priority, takenOf, blockLength as queueLength}
+use Rattle.queue.specs.Queue.{size, priority, takenOf, queueNext, idle, blockLength as queueLength}
 use Rattle.address_claims.specs.declared.Event.{Event}
 use Rattle.network_message.specs.Decoding.{decoded}
 use Rattle.unit.specs.declared.Claim.the-variants.{Unstarted, Claimed}
 use Rattle.unit.specs.Ports.{each, mask, total, digits}
 use Rattle.unit.specs.Count.{portsOf}
-use Rattle.unit.specs.Model.{Rest, Model, rowAt, withOwn, withPairs, rowsFrom, modelOf}
+use Rattle.unit.specs.Model.{Rest, Model, queueOn, rowAt, withOwn, withPairs, rowsFrom, modelOf}
 use Rattle.unit.specs.Own.{consumes, moved, framesSent}
 use Rattle.forwarding.specs.Forwarding.{sentIf, accepts, loses, losesOwn, silent, verdict}
 use Rattle.claims.specs.Claims.{Acted, frameActed, started}
@@ -33,6 +33,7 @@ use Rattle.bridge.specs.declared.FrameAnswer.{FrameAnswer}
 use Rattle.bridge.specs.declared.TakeAnswer.{TakeAnswer}
 use Rattle.bridge.specs.declared.StartAnswer.{StartAnswer}
 use Rattle.bridge.specs.declared.UnitAnswer.{UnitAnswer}
+use Rattle.bridge.specs.declared.CountsAnswer.{CountsAnswer}
 
 -- a call, by its arguments
 pub data Call : Type 0 where
@@ -42,6 +43,7 @@ pub data Call : Type 0 where
   Start : Call
   Quiet : Call
   ReadUnit : Call
+  ReadCounts : (port : ℕ) → Call
 
 -- ---- a frame
 -- what is answered for port q: the pair is asked (rule 2), but a consumed frame is not forwarded (rule 1)
@@ -68,6 +70,7 @@ refusal ports lent rest (Message port requester payload lentReply) = messaged po
 refusal ports lent rest Start = startRefusal ports lent (rest .own)
 refusal ports lent rest Quiet = quietRefusal ports lent (rest .own)
 refusal ports lent rest ReadUnit = lengthRefusal ports lent
+refusal ports lent rest (ReadCounts port) = takeRefusal ports lent port
 
 -- a frame that came in is acted on where it is a claim or a request
 abbrev pub frameDone : Rest → ℕ → Frame → Acted
@@ -81,6 +84,7 @@ restAfter ports lent rest (Message port requester payload lentReply) = withPairs
 restAfter ports lent rest Start = started rest .rest
 restAfter ports lent rest Quiet = withOwn rest (moved (rest .own) Claimed (rest .own .address))
 restAfter ports lent rest ReadUnit = rest
+restAfter ports lent rest (ReadCounts port) = rest
 
 -- the port that a take is made on
 unfoldable pub asks : Call → Option ℕ
@@ -90,6 +94,7 @@ asks (Message port requester payload lentReply) = none
 asks Start = none
 asks Quiet = none
 asks ReadUnit = none
+asks (ReadCounts port) = none
 
 -- the frames sent to port q, in order: the forwarded, then the unit's own
 abbrev pub frameSends : ℕ → Rest → ℕ → Frame → ℕ → List Frame
@@ -102,12 +107,13 @@ sends ports rest (Message port requester payload lentReply) q = []
 sends ports rest Start q = framesSent (started rest .sent)
 sends ports rest Quiet q = []
 sends ports rest ReadUnit q = []
+sends ports rest (ReadCounts port) q = []
 
--- each row by itself: frames join under rule 3, or a take is made under rule 4
+-- each queue by itself: frames join under rule 3, or a take is made under rule 4, and what is accepted and taken is counted
 unfoldable pub performed : ℕ → ℕ → Model → Call → Model
 performed ports lent m k = record {
   rest = restAfter ports lent (m .rest) k;
-  rows = each (λ q row. rowNext priority size (asks k) q row (sends ports (m .rest) k q)) ports (m .rows);
+  queues = each (λ q x. queueNext (asks k) q x (sends ports (m .rest) k q)) ports (m .queues);
   seen = m .seen;
 }
 
@@ -187,6 +193,14 @@ abbrev pub readNumber : UnitAnswer → ℕ
 readNumber (UnitAnswer.Refused number) = number
 readNumber (UnitAnswer.Told own) = 0
 
+-- document 02, ticket 7: what is counted at a port; refused, nothing is told
+abbrev pub countsRefused : ℕ → CountsAnswer
+countsRefused number = record { refusal = number; tally = idle .tally }
+
+unfoldable pub countsAnswer : ℕ → ℕ → Model → ℕ → CountsAnswer
+countsAnswer ports lent m port =
+    cond (eqb (takeRefusal ports lent port) 0) (record { refusal = 0; tally = queueOn m (port - 1) .tally }) (countsRefused (takeRefusal ports lent port))
+
 -- ---- the contracts
 -- a call k on the record
 pub record Calling (ports : ℕ) (before after : List ℕ) (k : Call) : Type 0 where
@@ -232,3 +246,8 @@ pub record Quieting (ports : ℕ) (before after : List ℕ) (r : ℕ) : Type 0 w
 pub record Reading (ports : ℕ) (words : List ℕ) (r : UnitAnswer) : Type 0 where
   pub call : Calling ports words words ReadUnit
   pub answer : r ≡ unitAnswer ports (length words) (modelOf ports words)
+
+-- so are the counts of a port
+pub record Counting (ports : ℕ) (words : List ℕ) (port : ℕ) (r : CountsAnswer) : Type 0 where
+  pub call : Calling ports words words (ReadCounts port)
+  pub answer : r ≡ countsAnswer ports (length words) (modelOf ports words) port

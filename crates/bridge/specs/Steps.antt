@@ -5,9 +5,8 @@ use mathlib.Core.Bool.{Bool, true, false}
 use mathlib.Core.Path.{_≡_}
 use mathlib.Core.List.{List}
 use Rattle.identifier.specs.Identifier.{pgnOf}
-use Rattle.delivery.specs.Unit.{joinAll}
 use Rattle.queue.specs.declared.Frame.{Frame}
-use Rattle.queue.specs.Queue.{size}
+use Rattle.queue.specs.Queue.{sentAll}
 use Rattle.unit.specs.Ports.{each}
 use Rattle.unit.specs.Model.{Model, withRest, modelOf}
 use Rattle.forwarding.specs.declared.Share.{Share}
@@ -33,7 +32,7 @@ pub record Responding (ports : ℕ) (before after : List ℕ) (a : Acted) (r : R
 abbrev pub framed : ℕ → Model → ℕ → Frame → Model
 framed ports m port f = record {
   rest = frameDone (m .rest) port f .rest;
-  rows = each (λ q row. joinAll size row (frameSends ports (m .rest) port f q)) ports (m .rows);
+  queues = each (λ q x. sentAll x (frameSends ports (m .rest) port f q)) ports (m .queues);
   seen = m .seen;
 }
 

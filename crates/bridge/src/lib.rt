@@ -6,6 +6,7 @@ pub use list_commands::Absent;
 pub use message_answers::MessageAnswer;
 use queue::Frame;
 use queue::Taken;
+use queue::Tally;
 use unit::Claim;
 pub use unit::Unit;
 ghost use mathlib.Core.Path.{_≡_};
@@ -16,7 +17,7 @@ ghost use Rattle.unit.specs.Count.{portsOf};
 ghost use Rattle.unit.specs.Model.{modelOf, ownLength, recordLength};
 ghost use Rattle.unit.specs.Own.{consumes};
 ghost use Rattle.claims.specs.Claims.{frameActed};
-ghost use Rattle.bridge.specs.Calls.{frameRefused, startRefused, Framing, TakingOut, Messaging, Starting, Quieting, Reading};
+ghost use Rattle.bridge.specs.Calls.{frameRefused, startRefused, countsRefused, Framing, TakingOut, Messaging, Starting, Quieting, Reading, Counting};
 ghost use Rattle.bridge.specs.Steps.{Responding, Sharing, Passing};
 
 // What came of a frame. Ports are masks, bit p - 1 for port p. The reasons are those of each port's pair, four bits a port, port p's from bit 4(p - 1), by
@@ -50,6 +51,12 @@ pub struct StartAnswer {
 pub enum UnitAnswer {
     Refused(u32),
     Told(Unit),
+}
+
+// The number that refused the call, or 0, and what is counted at a port. Refused, the rest is 0.
+pub struct CountsAnswer {
+    pub refusal: u32,
+    pub tally: Tally,
 }
 
 // The claim event, and the ports where the unit's own frame was lost.
@@ -232,6 +239,34 @@ pub fn unit(words: &[u64]) -> UnitAnswer
         return UnitAnswer::Refused(2);
     }
     UnitAnswer::Told(unit::read_unit(words))
+}
+
+// A refused call's answer.
+fn counts_refused(number: u32) -> CountsAnswer
+    ensures { λ r. ⌜ r ≡ countsRefused number ⌝ }
+{
+    CountsAnswer {
+        refusal: number,
+        tally: Tally {
+            waiting: [0, 0, 0, 0, 0, 0, 0, 0],
+            accepted: 0,
+            taken: 0,
+        },
+    }
+}
+
+// The counts of a port are read: the frames that wait, by their priority, and those accepted and taken since power-on.
+pub fn counts(words: &[u64], port: u32) -> CountsAnswer
+    ensures { λ r. ⌜ Counting (portsOf (now (words .entry))) (now (words .entry)) port r ⌝ }
+{
+    let ports = unit::ports_of(words);
+    let number = refusals::take_refusal(ports, words.len(), port);
+    if number != 0 {
+        return counts_refused(number);
+    }
+    let q = port as usize - 1;
+    let tally = record::counts_at(words, q);
+    CountsAnswer { refusal: 0, tally }
 }
 
 // A network message to the unit, handed in whole, with a buffer for what is to be sent back.

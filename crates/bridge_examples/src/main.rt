@@ -1,5 +1,6 @@
-// A morning of the unit, run: power-on, Start, Quiet, claims, contention for the unit's address, a full port, takes. A line for each call.
+// A morning of the unit, run: power-on, Start, Quiet, claims, contention for the unit's address, a full port, takes, and what is counted there. A line for each call.
 use address_claims::Event;
+use bridge::CountsAnswer;
 use bridge::FrameAnswer;
 use bridge::TakeAnswer;
 use bridge::Unit;
@@ -107,6 +108,46 @@ fn take(words: &mut [u64], port: u32) {
     }
 }
 
+// A number after a blank.
+fn next_number(n: u64) {
+    text(b" ");
+    io::print_decimal(STDOUT_FILENO, n);
+}
+
+// How many wait of each priority.
+fn waiting(counts: &[u64]) {
+    let mut i = 0;
+    while i < counts.len() {
+        next_number(counts[i]);
+        i += 1;
+    }
+}
+
+fn counts_answer(a: CountsAnswer) {
+    if a.refusal != 0 {
+        text(b" refused with");
+        next_number(a.refusal as u64);
+        return;
+    }
+    let t = a.tally;
+    let by_priority = t.waiting;
+    text(b" waiting");
+    waiting(&by_priority);
+    text(b" accepted");
+    next_number(t.accepted);
+    text(b" taken");
+    next_number(t.taken);
+}
+
+// What is counted at a port.
+fn counts(words: &[u64], port: u32) {
+    text(b"counts at ");
+    number(port);
+    text(b":");
+    counts_answer(bridge::counts(words, port));
+    text(b"\n");
+}
+
 fn start(words: &mut [u64]) {
     let a = bridge::start(words);
     text(b"Start: ");
@@ -187,6 +228,15 @@ fn unload(words: &mut [u64]) {
     take(words, 5);
 }
 
+// How full is each port? Port 1 is asked first, the one behind the last port last.
+fn service_page(words: &[u64]) {
+    counts(words, 1);
+    counts(words, 2);
+    counts(words, 3);
+    counts(words, 4);
+    counts(words, 5);
+}
+
 fn main() {
     let mut record = [0u64; Unit::RECORD_LENGTH];
     let words: &mut [u64] = &mut record;
@@ -198,6 +248,9 @@ fn main() {
     requests(words);
     contention(words);
     afterwards(words);
+    service_page(words);
     load(words);
+    service_page(words);
     unload(words);
+    service_page(words);
 }

@@ -15,7 +15,7 @@ use Rattle.demand_2.specs.Demand2.{SameTo}
 use Rattle.demand_2.proofs.Demand2.{demand-2}
 use Rattle.demand_3.proofs.Demand3.{demand-3, powered-good}
 use Rattle.c_demands.specs.Exported.{Powered, powered, PoweredFour, poweredFour, Handed, handed}
-use Rattle.c_demands.specs.CDemands.{wordsOf, Exported, Gave, Made, frame-made, take-made, message-made, start-made, quiet-made, unit-made, queue-made, Listed, CDemands}
+use Rattle.c_demands.specs.CDemands.{wordsOf, Exported, Gave, Made, frame-made, take-made, message-made, start-made, quiet-made, unit-made, counts-made, queue-made, Listed, CDemands}
 use Rattle.c_demands.proofs.Calls.{is-call, is-none, answered, message-tells, message-none}
 use Rattle.c_demands.proofs.Numbers.{exact-number}
 use Rattle.c_demands.proofs.Lists.{leads}
@@ -66,8 +66,8 @@ every h n cs gs v run =
 
 pub c-demands : CDemands
 c-demands = record {
-  calls = record { frames = frame-made; takes = take-made; messages = message-made; starts = start-made; quiets = quiet-made; units = unit-made; queues = queue-made };
-  defined = ((λ κs w name preferred count. tt), (λ κs w name preferred. tt), (λ κs w b a port id. tt), (λ κs w a b port. tt), (λ κs w p b a port requester. tt), (λ κs w a. tt), (λ κs w. tt), (λ κs w a. tt));
+  calls = record { frames = frame-made; takes = take-made; messages = message-made; starts = start-made; quiets = quiet-made; units = unit-made; counts = counts-made; queues = queue-made };
+  defined = ((λ κs w name preferred count. tt), (λ κs w name preferred. tt), (λ κs w b a port id. tt), (λ κs w a b port. tt), (λ κs w p b a port requester. tt), (λ κs w a. tt), (λ κs w. tt), (λ κs w a. tt), (λ κs w a port. tt));
   exact = exact-number;
   is-call = is-call;
   is-none = is-none;

@@ -27,22 +27,22 @@ use Rattle.message_answers.specs.Messages.{Replied, messageAnswer}
 use Rattle.unit.specs.Count.{portsOf}
 use Rattle.unit.specs.Model.{modelOf, rowAt, recordLength, rowsFrom}
 use Rattle.refusals.specs.Refusals.{frameRefusal, takeRefusal, startRefusal, quietRefusal, lengthRefusal}
-use Rattle.bridge.specs.Calls.{Call, FrameIn, TakeOut, Message, Start, Quiet, ReadUnit, refusal, performed, next, queueAt, messaged, frameAnswer, takeAnswer, startAnswer, unitAnswer, Calling, Framing, TakingOut, Messaging, Starting, Quieting, Reading}
-use Rattle.flat_answers.specs.Answers.{frameLength, takeLength, bytesLength, unitLength, frameWords, takeWords, bytesOfTaken, unitWords}
-use Rattle.deorasaeng.specs.Interface.{lentRefusal, Served, messageLength, startLength, filled, over, startWords, repliedTo, takenFrom, FrameCall, TakeCall, MessageCall, StartCall, UnitCall, QueueCall}
+use Rattle.bridge.specs.Calls.{Call, FrameIn, TakeOut, Message, Start, Quiet, ReadUnit, refusal, performed, next, queueAt, messaged, frameAnswer, takeAnswer, startAnswer, unitAnswer, countsAnswer, Calling, Framing, TakingOut, Messaging, Starting, Quieting, Reading, Counting}
+use Rattle.flat_answers.specs.Answers.{frameLength, takeLength, bytesLength, unitLength, countsLength, frameWords, takeWords, bytesOfTaken, unitWords}
+use Rattle.deorasaeng.specs.Interface.{lentRefusal, Served, messageLength, startLength, filled, over, startWords, repliedTo, takenFrom, FrameCall, TakeCall, MessageCall, StartCall, UnitCall, CountsCall, QueueCall}
 use Rattle.bridge.specs.Calls.{gave as takenIn}
-use Rattle.deorasaeng.proofs.Numbers.{not-0, frame-lent, frame-number, take-lent, take-lent-bytes, take-number, silent, replied-as, start-lent, start-number, unit-lent, unit-number, queue-lent, queue-lent-bytes, queue-number}
-use Rattle.deorasaeng.proofs.Calls.{frame-refusal, start-refusal}
+use Rattle.deorasaeng.proofs.Numbers.{not-0, frame-lent, frame-number, take-lent, take-lent-bytes, take-number, silent, replied-as, start-lent, start-number, unit-lent, unit-number, counts-lent, counts-number, queue-lent, queue-lent-bytes, queue-number}
+use Rattle.deorasaeng.proofs.Calls.{frame-refusal, start-refusal, counts-refusal}
 use Rattle.record.specs.Steps.{RowTaking}
 use Rattle.record.proofs.Regions.{row-taken}
 use Rattle.storage.proofs.Parts.{length-back}
 use Rattle.bridge.proofs.Answers.{taken}
 use Rattle.made.specs.Made as made
-use Rattle.demand_3.specs.Demand3.{Answer, ToFrame, ToTake, ToMessage, ToStart, ToQuiet, ToUnit}
+use Rattle.demand_3.specs.Demand3.{Answer, ToFrame, ToTake, ToMessage, ToStart, ToQuiet, ToUnit, ToCounts}
 use Rattle.demand_3.specs.Demand3 as demand-3
-use Rattle.c_demands.specs.Exported.{Arrived, arrived, Handed, handed, Started, started, Quieted, quieted, ToldUnit, toldUnit, TookQueue, tookQueue, blockOf, withBlock}
+use Rattle.c_demands.specs.Exported.{Arrived, arrived, Handed, handed, Started, started, Quieted, quieted, ToldUnit, toldUnit, ToldCounts, toldCounts, TookQueue, tookQueue, blockOf, withBlock}
 use Rattle.c_demands.specs.Exported.{Took as TookOut, took as tookOut}
-use Rattle.c_demands.specs.CDemands.{wordsOf, Exported, CFrame, CTake, CMessage, CStart, CQuiet, CUnit, CTakeQueue, Gave, gave, Made, frame-made, take-made, message-made, start-made, quiet-made, unit-made, queue-made, lends, callOf, Tells, of-frame, of-take, of-refused-take, of-message, of-start, of-quiet, of-unit, of-refused-unit, of-queue, portless, refusedLent, IsCall, IsNone}
+use Rattle.c_demands.specs.CDemands.{wordsOf, Exported, CFrame, CTake, CMessage, CStart, CQuiet, CUnit, CCounts, CTakeQueue, Gave, gave, Made, frame-made, take-made, message-made, start-made, quiet-made, unit-made, counts-made, queue-made, lends, callOf, Tells, of-frame, of-take, of-refused-take, of-message, of-start, of-quiet, of-unit, of-refused-unit, of-counts, of-queue, portless, refusedLent, IsCall, IsNone}
 
 -- ---- the record
 module _ {ports : ℕ} {w w′ : List ℕ} {k : Call} {r : ℕ} (e : r ≡ refusal ports (length w) (modelOf ports w .rest) k) (S : Served ports w w′ k r) where
@@ -191,6 +191,23 @@ module _ {ports : ℕ} {w answer told : List ℕ} {r : ℕ} (U : UnitCall ports 
       let t : told ≡ answer = rw (ne-eqb r 0 z) at (U .tells) in
       record { unchanged = refl; refused = rw (n, t) }
 
+-- ---- deorasaeng_counts
+module _ {ports : ℕ} {w answer told : List ℕ} {port r : ℕ} (is : portsOf w ≡ ports) (C : CountsCall ports w port answer told r) where
+  counts-counting : length answer ≡ countsLength
+      → Counting ports w port (countsAnswer ports (length w) (modelOf ports w) port) × (r ≡ countsAnswer ports (length w) (modelOf ports w) port .refusal)
+  unfolding refusal
+  counts-counting e =
+      let n : r ≡ takeRefusal ports (length w) port = C .number ∙ counts-number ports (length w) (length answer) port e in
+      (record { call = called-as n (C .served); answer = refl }, n ∙ sym (counts-refusal ports (length w) (modelOf ports w) port))
+
+  counts-none : (length answer ≡ countsLength → ⊥) → IsNone w (CCounts port answer) (gave r told []) w
+  unfolding lentRefusal
+  counts-none h =
+      let n : r ≡ lentRefusal ports port = C .number ∙ sym (counts-lent ports (length w) (length answer) port h) in
+      let z : r ≡ 0 → ⊥ = λ z. not-0 ports port (sym n ∙ z) in
+      let t : told ≡ answer = rw (ne-eqb r 0 z) at (C .tells) in
+      record { unchanged = refl; refused = rw (is, n, t) }
+
 -- ---- deorasaeng_take_queue
 take-in : (ports lent port : ℕ) → lent ≡ recordLength ports → isPort ports port ≡ true → takeRefusal ports lent port ≡ 0
 unfolding takeRefusal
@@ -298,6 +315,15 @@ is-call full (unit-made (toldUnit κs w w′ a a′ r f)) l =
         tells = of-refused-unit {answer = a .now} {g = gave r (a′ .now) []} r h (rw (U .tells, ne-eqb r 0 h));
       }
     ]
+is-call full (counts-made (toldCounts κs w w′ a a′ port r f)) l =
+    let C = f tt in
+    let e = eqb-true (length (a .now)) 10 l in
+    let P = counts-counting refl C e in
+    record {
+      answer = ToCounts (countsAnswer (portsOf (w .now)) (length (w .now)) (modelOf (portsOf (w .now)) (w .now)) port);
+      made = demand-3.counts-made (made.counted (κs .0, tt) w w port _ (λ _. P .0));
+      tells = of-counts {port = port} {answer = a .now} {g = gave r (a′ .now) []} (countsAnswer (portsOf (w .now)) (length (w .now)) (modelOf (portsOf (w .now)) (w .now)) port) (rw (C .tells, P .1));
+    }
 is-call full (queue-made (tookQueue κs w w′ port answer bytes r block told written p Q is)) l =
     let two = both (eqb (length answer) 3) (eqb (length bytes) 8) l in
     let e = eqb-true (length answer) 3 (two .0) in
@@ -320,6 +346,7 @@ is-none (message-made (handed κs w w′ p p′ b b′ a a′ port requester r f
 is-none (start-made (started κs w w′ a a′ r f)) l = start-none (f tt) (eqb-false (length (a .now)) 2 l)
 is-none (quiet-made h) l = absurd (true≢false l)
 is-none (unit-made (toldUnit κs w w′ a a′ r f)) l = unit-none (f tt) (eqb-false (length (a .now)) 5 l)
+is-none (counts-made (toldCounts κs w w′ a a′ port r f)) l = counts-none refl (f tt) (eqb-false (length (a .now)) 10 l)
 is-none (queue-made (tookQueue κs w w′ port answer bytes r block told written p Q is)) l =
     let wrong : r ≡ 2 =
     ⊎-elim

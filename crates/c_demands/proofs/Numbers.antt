@@ -15,13 +15,13 @@ use Rattle.unit.specs.Model.{modelOf}
 use Rattle.unit.specs.PowerOn.{notLong}
 use Rattle.refusals.specs.Refusals.{quietRefusal}
 use Rattle.bridge.specs.Calls.{messaged, refusal}
-use Rattle.deorasaeng.specs.Interface.{lentRefusal, messageLength, frameNumber, takeNumber, startNumber, unitNumber, queueNumber, FrameCall, TakeCall, MessageCall, StartCall, UnitCall}
+use Rattle.deorasaeng.specs.Interface.{lentRefusal, messageLength, frameNumber, takeNumber, startNumber, unitNumber, countsNumber, queueNumber, FrameCall, TakeCall, MessageCall, StartCall, UnitCall}
 use Rattle.deorasaeng.proofs.Numbers.{silent, replied-as}
 use Rattle.demand_1.specs.Demand1.{Exact, messageNumbers, restOf}
 use Rattle.demand_1.proofs.Numbers.{exact, message-number}
-use Rattle.c_demands.specs.Exported.{arrived, handed, started, quieted, toldUnit, tookQueue, blockOf, withBlock}
+use Rattle.c_demands.specs.Exported.{arrived, handed, started, quieted, toldUnit, toldCounts, tookQueue, blockOf, withBlock}
 use Rattle.c_demands.specs.Exported.{took as tookOut}
-use Rattle.c_demands.specs.CDemands.{Exported, CFrame, CTake, CMessage, CStart, CQuiet, CUnit, CTakeQueue, Gave, Made, frame-made, take-made, message-made, start-made, quiet-made, unit-made, queue-made, numbers}
+use Rattle.c_demands.specs.CDemands.{Exported, CFrame, CTake, CMessage, CStart, CQuiet, CUnit, CCounts, CTakeQueue, Gave, Made, frame-made, take-made, message-made, start-made, quiet-made, unit-made, counts-made, queue-made, numbers}
 use Rattle.c_demands.proofs.Calls.{put-back}
 
 -- an answer of its length has no say among the checks of 2, another is one of them
@@ -48,7 +48,7 @@ message-first {w} {w′} {payload} {reply} {back} {answer} {told} {port} {reques
     ]
 
 pub exact-number : {w w′ : List ℕ} {c : Exported} {g : Gave} → Made w c g w′ → Exact (numbers w c) (g .number) × ((g .number ≡ 0 → ⊥) → w′ ≡ w)
-unfolding frameNumber takeNumber startNumber unitNumber queueNumber quietRefusal refusal
+unfolding frameNumber takeNumber startNumber unitNumber countsNumber queueNumber quietRefusal refusal
 exact-number (frame-made (arrived κs w w′ b b′ a a′ port id r f)) =
     let F = f tt in (rw (F .number) (exact (numbers (w .now) (CFrame port id (b .now) (a .now))) refl), F .served .refused)
 exact-number (take-made (tookOut κs w w′ a a′ b b′ port r f)) =
@@ -61,5 +61,7 @@ exact-number (quiet-made (quieted κs w w′ r f)) =
     let Q = f tt in (rw (Q .answer) (exact (numbers (w .now) CQuiet) refl), λ h. Q .call .refused (λ z. h (Q .answer ∙ z)))
 exact-number (unit-made (toldUnit κs w w′ a a′ r f)) =
     let U = f tt in (rw (U .number) (exact (numbers (w .now) (CUnit (a .now))) refl), λ _. refl)
+exact-number (counts-made (toldCounts κs w w′ a a′ port r f)) =
+    let C = f tt in (rw (C .number) (exact (numbers (w .now) (CCounts port (a .now))) refl), λ _. refl)
 exact-number (queue-made (tookQueue κs w w′ port answer bytes r block told written p Q is)) =
     (rw (Q .number) (exact (numbers (w .now) (CTakeQueue port answer bytes)) refl), λ h. is ∙ rw (Q .refused h) (put-back (w .now) port))

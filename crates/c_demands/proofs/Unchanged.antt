@@ -18,7 +18,7 @@ use Rattle.queue.specs.declared.Taken.the-variants.{Given, Nothing}
 use Rattle.checks.specs.Ports.{noPort}
 use Rattle.flat_answers.specs.Answers.{bytesOfFrame}
 use Rattle.bridge.specs.declared.TakeAnswer.the-variants.{Took}
-use Rattle.bridge.specs.Calls.{Call, FrameIn, TakeOut, Message, Start, Quiet, ReadUnit, refusal}
+use Rattle.bridge.specs.Calls.{Call, FrameIn, TakeOut, Message, Start, Quiet, ReadUnit, ReadCounts, refusal}
 use Rattle.unit.specs.Model.{Rest}
 use Rattle.unit.specs.PowerOn.{fresh}
 use Rattle.refusals.specs.Refusals.{frameRefusal, takeRefusal}
@@ -28,7 +28,7 @@ use Rattle.demand_3.specs.Demand3 as demand-3
 use Rattle.demand_3.proofs.AtPort.{Fine, lawful, powered-on}
 use Rattle.demand_3.proofs.Unchanged.{unchanged, named-so}
 use Rattle.flat_answers.proofs.Words.{whole-frame}
-use Rattle.c_demands.specs.CDemands.{Exported, CFrame, CTake, CMessage, CStart, CQuiet, CUnit, CTakeQueue, gave, lends, callOf, Tells, of-take, of-refused-take, of-queue, portless, refusedLent, Same, Takes, by-port, by-queue, Bytes, AsHandedIn}
+use Rattle.c_demands.specs.CDemands.{Exported, CFrame, CTake, CMessage, CStart, CQuiet, CUnit, CCounts, CTakeQueue, gave, lends, callOf, Tells, of-take, of-refused-take, of-queue, portless, refusedLent, Same, Takes, by-port, by-queue, Bytes, AsHandedIn}
 use Rattle.c_demands.specs.CDemands.{Gave as Given-back}
 use Rattle.c_demands.specs.CDemands as claim
 
@@ -75,6 +75,7 @@ from-frame (CMessage p requester payload reply answer) port id bytes e = let z :
 from-frame (CStart answer) port id bytes e = let z : _≡_ {A = ℕ} 0 1 = cc in absurd (omega arith)
 from-frame CQuiet port id bytes e = let z : _≡_ {A = ℕ} 0 1 = cc in absurd (omega arith)
 from-frame (CUnit answer) port id bytes e = let z : _≡_ {A = ℕ} 0 1 = cc in absurd (omega arith)
+from-frame (CCounts p answer) port id bytes e = let z : _≡_ {A = ℕ} 0 1 = cc in absurd (omega arith)
 from-frame (CTakeQueue p answer b) port id bytes e = let z : _≡_ {A = ℕ} 0 1 = cc in absurd (omega arith)
 
 -- the frames among the bridge's calls are frames among the exported
@@ -194,6 +195,7 @@ small-in (Message port requester payload lentReply) h i = omega arith
 small-in Start h i = omega arith
 small-in Quiet h i = omega arith
 small-in ReadUnit h i = omega arith
+small-in (ReadCounts port) h i = omega arith
 
 mem-mid : {A : Type 0} (xs : List A) (a : A) (ys : List A) → List·Memᴰ a (xs ++ a ∷ ys)
 mem-mid [] a ys = List·Memᴰ·head refl

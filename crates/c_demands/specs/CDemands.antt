@@ -36,9 +36,10 @@ use Rattle.bridge.specs.declared.TakeAnswer.the-variants.{Refused, Took}
 use Rattle.bridge.specs.declared.StartAnswer.{StartAnswer}
 use Rattle.bridge.specs.declared.UnitAnswer.{UnitAnswer}
 use Rattle.bridge.specs.declared.UnitAnswer.the-variants.{Told}
+use Rattle.bridge.specs.declared.CountsAnswer.{CountsAnswer}
 use Rattle.message_answers.specs.declared.MessageAnswer.{MessageAnswer}
-use Rattle.bridge.specs.Calls.{Call, FrameIn, TakeOut, Message, Start, Quiet, ReadUnit}
-use Rattle.flat_answers.specs.Answers.{frameWords, takeWords, bytesOfTaken, unitWords}
+use Rattle.bridge.specs.Calls.{Call, FrameIn, TakeOut, Message, Start, Quiet, ReadUnit, ReadCounts}
+use Rattle.flat_answers.specs.Answers.{frameWords, takeWords, bytesOfTaken, unitWords, countsWords}
 use Rattle.deorasaeng.specs.Interface.{filled, startWords, over, QueueCall}
 use Rattle.deorasaeng.proofs.deorasaeng_power_on_ports.Reads as power-on
 use Rattle.deorasaeng.proofs.deorasaeng_power_on.Reads as power-on-four
@@ -48,12 +49,13 @@ use Rattle.deorasaeng.proofs.deorasaeng_message.Reads as message
 use Rattle.deorasaeng.proofs.deorasaeng_start.Reads as start
 use Rattle.deorasaeng.proofs.deorasaeng_quiet.Reads as quiet
 use Rattle.deorasaeng.proofs.deorasaeng_unit.Reads as unit
+use Rattle.deorasaeng.proofs.deorasaeng_counts.Reads as counts
 use Rattle.deorasaeng.proofs.deorasaeng_take_queue as queue-contract
 use Rattle.demand_1.specs.Demand1.{Exact, messageNumbers, restOf}
 use Rattle.demand_2.specs.Demand2.{SameTo}
-use Rattle.demand_3.specs.Demand3.{Answer, ToFrame, ToTake, ToMessage, ToStart, ToQuiet, ToUnit, Demand3}
+use Rattle.demand_3.specs.Demand3.{Answer, ToFrame, ToTake, ToMessage, ToStart, ToQuiet, ToUnit, ToCounts, Demand3}
 use Rattle.demand_3.specs.Demand3 as demand-3
-use Rattle.c_demands.specs.Exported.{Powered, PoweredFour, Arrived, Handed, Started, Quieted, ToldUnit, TookQueue}
+use Rattle.c_demands.specs.Exported.{Powered, PoweredFour, Arrived, Handed, Started, Quieted, ToldUnit, ToldCounts, TookQueue}
 use Rattle.c_demands.specs.Exported.{Took as TookOut}
 
 -- ---- 1. the exported calls
@@ -65,6 +67,7 @@ pub data Exported : Type 0 where
   CStart : (answer : List ℕ) → Exported
   CQuiet : Exported
   CUnit : (answer : List ℕ) → Exported
+  CCounts : (port : ℕ) (answer : List ℕ) → Exported
   CTakeQueue : (port : ℕ) (answer bytes : List ℕ) → Exported
 
 -- what it gave back: the number, and the lent words and bytes as they were left; none where none are lent
@@ -87,6 +90,7 @@ pub data Made : List ℕ → Exported → Gave → List ℕ → Type 0 where
   start-made : {w answer w′ told : List ℕ} {r : ℕ} → Started w answer r w′ told → Made w (CStart answer) (gave r told []) w′
   quiet-made : {w w′ : List ℕ} {r : ℕ} → Quieted w r w′ → Made w CQuiet (gave r [] []) w′
   unit-made : {w answer told : List ℕ} {r : ℕ} → ToldUnit w answer r told → Made w (CUnit answer) (gave r told []) w
+  counts-made : {w answer told : List ℕ} {port r : ℕ} → ToldCounts w port answer r told → Made w (CCounts port answer) (gave r told []) w
   queue-made : {w answer bytes w′ told written : List ℕ} {port r : ℕ} → TookQueue w port answer bytes r w′ told written
       → Made w (CTakeQueue port answer bytes) (gave r told written) w′
 
@@ -101,6 +105,7 @@ pub record EveryCall : Type 0 where
   pub starts : {w answer w′ told : List ℕ} {r : ℕ} → Started w answer r w′ told → Made w (CStart answer) (gave r told []) w′
   pub quiets : {w w′ : List ℕ} {r : ℕ} → Quieted w r w′ → Made w CQuiet (gave r [] []) w′
   pub units : {w answer told : List ℕ} {r : ℕ} → ToldUnit w answer r told → Made w (CUnit answer) (gave r told []) w
+  pub counts : {w answer told : List ℕ} {port r : ℕ} → ToldCounts w port answer r told → Made w (CCounts port answer) (gave r told []) w
   pub queues : {w answer bytes w′ told written : List ℕ} {port r : ℕ} → TookQueue w port answer bytes r w′ told written
       → Made w (CTakeQueue port answer bytes) (gave r told written) w′
 
@@ -113,6 +118,7 @@ lends (CMessage port requester payload reply answer) = eqb (length answer) 5
 lends (CStart answer) = eqb (length answer) 2
 lends CQuiet = true
 lends (CUnit answer) = eqb (length answer) 5
+lends (CCounts port answer) = eqb (length answer) 10
 lends (CTakeQueue port answer bytes) = eqb (length answer) 3 && eqb (length bytes) 8
 
 -- the bridge's call that it is then
@@ -123,6 +129,7 @@ callOf (CMessage port requester payload reply answer) = Message port requester p
 callOf (CStart answer) = Start
 callOf CQuiet = Quiet
 callOf (CUnit answer) = ReadUnit
+callOf (CCounts port answer) = ReadCounts port
 callOf (CTakeQueue port answer bytes) = TakeOut port
 
 -- a message's words: PGN, length, and which entry was wrong
@@ -143,6 +150,8 @@ pub data Tells : Exported → Answer → Gave → Type 0 where
   of-quiet : {g : Gave} (number : ℕ) → g ≡ gave number [] [] → Tells CQuiet (ToQuiet number) g
   of-unit : {answer : List ℕ} {g : Gave} (own : Unit) → g ≡ gave 0 (unitWords own) [] → Tells (CUnit answer) (ToUnit (Told own)) g
   of-refused-unit : {answer : List ℕ} {g : Gave} (number : ℕ) → (number ≡ 0 → ⊥) → g ≡ gave number answer [] → Tells (CUnit answer) (ToUnit (UnitAnswer.Refused number)) g
+  of-counts : {port : ℕ} {answer : List ℕ} {g : Gave} (r : CountsAnswer) → g ≡ gave (r .refusal) (filled (r .refusal) (countsWords (r .tally)) answer) []
+      → Tells (CCounts port answer) (ToCounts r) g
   of-queue : {port : ℕ} {answer bytes : List ℕ} {g : Gave} (taken : Taken) → g ≡ gave 0 (takeWords taken) (bytesOfTaken taken bytes)
       → Tells (CTakeQueue port answer bytes) (ToTake (Took taken)) g
 
@@ -157,6 +166,7 @@ refusedLent ports (CMessage port requester payload reply answer) = gave (portles
 refusedLent ports (CStart answer) = gave 2 answer []
 refusedLent ports CQuiet = gave 2 [] []
 refusedLent ports (CUnit answer) = gave 2 answer []
+refusedLent ports (CCounts port answer) = gave (portless ports port) answer []
 refusedLent ports (CTakeQueue port answer bytes) = gave 2 answer bytes
 
 -- the exported call c on the record w is the bridge's call
@@ -215,6 +225,7 @@ numbers w (CStart answer) =
     ∷ []
 numbers w CQuiet = check (notLong (portsOf w) (length w)) 2 ∷ check (not (isClaiming (restOf w .own .claim))) 18 ∷ []
 numbers w (CUnit answer) = check (notLong (portsOf w) (length w) || not (eqb (length answer) 5)) 2 ∷ []
+numbers w (CCounts port answer) = check (noPort (portsOf w) port) 1 ∷ check (notLong (portsOf w) (length w) || not (eqb (length answer) 10)) 2 ∷ []
 numbers w (CTakeQueue port answer bytes) = check (not (eqb (length answer) 3) || not (eqb (length bytes) 8)) 2 ∷ []
 
 -- ---- 5. the claim
@@ -239,6 +250,7 @@ pub record CDemands : Type 0 where
       × ((κs : Lfts 2) (w a : RefT (List ℕ)) → start.Pre κs (w, (a, tt)))
       × ((κs : Lfts 1) (w : RefT (List ℕ)) → quiet.Pre κs (w, tt))
       × ((κs : Lfts 2) (w a : RefT (List ℕ)) → unit.Pre κs (w, (a, tt)))
+      × ((κs : Lfts 2) (w a : RefT (List ℕ)) (port : ℕ) → counts.Pre κs (w, (port, (a, tt))))
   -- "Bad input is refused by a number of document 01; a refusal changes no list, queue or table"
   pub exact : {w w′ : List ℕ} {c : Exported} {g : Gave} → Made w c g w′ → Exact (numbers w c) (g .number) × ((g .number ≡ 0 → ⊥) → w′ ≡ w)
   -- what is said of the bridge's calls, demands 1 and 2 and the claims in any order too, is said of the exported ones: this is what they are

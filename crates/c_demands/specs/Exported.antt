@@ -20,6 +20,7 @@ use Rattle.deorasaeng.proofs.deorasaeng_message.Reads as message
 use Rattle.deorasaeng.proofs.deorasaeng_start.Reads as start
 use Rattle.deorasaeng.proofs.deorasaeng_quiet.Reads as quiet
 use Rattle.deorasaeng.proofs.deorasaeng_unit.Reads as unit
+use Rattle.deorasaeng.proofs.deorasaeng_counts.Reads as counts
 
 -- deorasaeng_power_on_ports
 pub data Powered : (words : List ℕ) (name preferred count r : ℕ) (after : List ℕ) → Type 0 where
@@ -69,6 +70,12 @@ pub data ToldUnit : (words answer : List ℕ) (r : ℕ) (told : List ℕ) → Ty
   toldUnit : (κs : Lfts 2) (w w′ a a′ : RefT (List ℕ)) (r : ℕ)
       → (unit.Pre κs (w, (a, tt)) → unit.Post κs (w, (a, tt)) r (w′, (a′, tt)))
       → ToldUnit (w .now) (a .now) r (a′ .now)
+
+-- deorasaeng_counts: so it is here
+pub data ToldCounts : (words : List ℕ) (port : ℕ) (answer : List ℕ) (r : ℕ) (told : List ℕ) → Type 0 where
+  toldCounts : (κs : Lfts 2) (w w′ a a′ : RefT (List ℕ)) (port r : ℕ)
+      → (counts.Pre κs (w, (port, (a, tt))) → counts.Post κs (w, (port, (a, tt))) r (w′, (port, (a′, tt))))
+      → ToldCounts (w .now) port (a .now) r (a′ .now)
 
 -- deorasaeng_take_queue on the queue of a port that there is, where it lies in the record: that block was lent and came back, and no other word was. Its contract
 -- is `QueueCall`, the clause of the code (`queue-clause` of CDemands.antt).

@@ -19,6 +19,7 @@ use Rattle.bridge.specs.declared.TakeAnswer.{TakeAnswer}
 use Rattle.message_answers.specs.declared.MessageAnswer.{MessageAnswer}
 use Rattle.bridge.specs.declared.StartAnswer.{StartAnswer}
 use Rattle.bridge.specs.declared.UnitAnswer.{UnitAnswer}
+use Rattle.bridge.specs.declared.CountsAnswer.{CountsAnswer}
 use Rattle.unit.specs.declared.Unit.{Unit}
 use Rattle.unit.specs.Count.{isCount, countOf, portsOf, pairCount}
 use Rattle.unit.specs.Model.{Rest, Seen, Model, modelOf, recordLength}
@@ -28,14 +29,14 @@ use Rattle.refusals.specs.Refusals.{frameRefusal, takeRefusal, startRefusal, qu
 use Rattle.message_answers.specs.Messages.{Replied, acknowledged, performedBy}
 use Rattle.bridge.specs.Calls.{silentReply, messaged}
 use Rattle.refusals.specs.Refusals.{messageChecks, messageRefusal}
-use Rattle.bridge.specs.Calls.{refusal, framePassed, frameRefused, frameAnswer, takeAnswer, takeNumber, startRefused, startAnswer, unitAnswer, readNumber, Framing, TakingOut, Messaging, Starting, Quieting, Reading}
+use Rattle.bridge.specs.Calls.{refusal, framePassed, frameRefused, frameAnswer, takeAnswer, takeNumber, startRefused, startAnswer, unitAnswer, readNumber, countsRefused, countsAnswer, Framing, TakingOut, Messaging, Starting, Quieting, Reading, Counting}
 use Rattle.message_answers.specs.Messages.{messageAnswer}
 use Rattle.unit.specs.PowerOn.{PoweringOn}
-use Rattle.demand_1.specs.Demand1.{powerOnNumbers, frameNumbers, takeNumbers, startNumbers, quietNumbers, unitNumbers, messageNumbers, Exact, Unchanged, ByPowerOn, Writes, Tells, restOf, Demand1}
+use Rattle.demand_1.specs.Demand1.{powerOnNumbers, frameNumbers, takeNumbers, startNumbers, quietNumbers, unitNumbers, countsNumbers, messageNumbers, Exact, Unchanged, ByPowerOn, Writes, Tells, restOf, Demand1}
 use Rattle.delivery.specs.Row.{pull, given}
 use Rattle.queue.specs.Queue.{priority, takenOf}
 use Rattle.unit.specs.Ports.{mask}
-use Rattle.unit.specs.Model.{rowAt}
+use Rattle.unit.specs.Model.{queueOn, rowAt}
 use Rattle.forwarding.specs.Forwarding.{losesOwn}
 use Rattle.claims.specs.Claims.{started}
 use Rattle.bridge.specs.Calls.{frameOf}
@@ -57,7 +58,7 @@ use Rattle.message_answers.specs.Messages.{changedBy, replied}
 use Rattle.unit.proofs.Count.{count-four}
 use Rattle.unit.proofs.Own.{own-ports}
 use Rattle.refusals.proofs.Checks.{message-goes}
-use Rattle.made.proofs.Made.{powering, framing, taking, messaging, starting, quieting, reading}
+use Rattle.made.proofs.Made.{powering, framing, taking, messaging, starting, quieting, reading, counting}
 use Rattle.demand_1.proofs.Numbers.{exact, message-number}
 use Rattle.demand_1.proofs.Told.{Telling, messaged-telling}
 
@@ -163,6 +164,27 @@ unit-exact {words = words} {r = r} R = rw (number (notLong (portsOf words) (leng
     number true a = ap readNumber a
     number false a = ap readNumber a
 
+-- ---- the counts of a port are read
+counts-exact : {words : List ℕ} {port : ℕ} {r : CountsAnswer} → Counting (portsOf words) words port r
+    → Exact (countsNumbers (portsOf words) (length words) port) (r .refusal) × ((r .refusal ≡ 0 → ⊥) → r ≡ countsRefused (r .refusal))
+unfolding countsAnswer takeRefusal
+counts-exact {words = words} {port = port} {r = r} C = go (eqb n 0) refl (C .answer)
+  where
+    n : ℕ
+    n = takeRefusal (portsOf words) (length words) port
+
+    numbers : r .refusal ≡ n → Exact (countsNumbers (portsOf words) (length words) port) (r .refusal)
+    numbers e = rw e (exact (countsNumbers (portsOf words) (length words) port) refl)
+
+    go : (t : Bool) → eqb n 0 ≡ t → r ≡ cond t (record { refusal = 0; tally = queueOn (modelOf (portsOf words) words) (port - 1) .tally }) (countsRefused n)
+        → Exact (countsNumbers (portsOf words) (length words) port) (r .refusal) × ((r .refusal ≡ 0 → ⊥) → r ≡ countsRefused (r .refusal))
+    go true e a =
+        let z : r .refusal ≡ 0 = ap (λ (x : CountsAnswer). x .refusal) a in
+        (numbers (z ∙ sym (eqb-true n 0 e)), λ h. absurd (h z))
+    go false e a =
+        let z : r .refusal ≡ n = ap (λ (x : CountsAnswer). x .refusal) a in
+        (numbers z, λ _. a ∙ ap countsRefused (sym z))
+
 -- ---- a message
 -- what is written goes by the number
 pub record Fits (payload : List ℕ) (requester : ℕ) (o : Replied) (seen : Seen) : Type 0 where
@@ -246,7 +268,7 @@ message-exact {words = words} {payload = payload} {lent = lent} {port = port} {r
 -- ---- the whole
 pub demand-1 : Demand1
 demand-1 = record {
-  defined = ((λ κs w name preferred count. tt), (λ κs w b port id. tt), (λ κs w port. tt), (λ κs w p b port requester. tt), (λ κs w. tt), (λ κs w. tt), (λ κs w. tt));
+  defined = ((λ κs w name preferred count. tt), (λ κs w b port id. tt), (λ κs w port. tt), (λ κs w p b port requester. tt), (λ κs w. tt), (λ κs w. tt), (λ κs w. tt), (λ κs w port. tt));
   power-on = λ h. power-on-exact (powering h);
   frame = λ h. frame-exact (framing h);
   take = λ h. take-exact (taking h);
@@ -254,4 +276,5 @@ demand-1 = record {
   start = λ h. start-exact (starting h);
   quiet = λ h. quiet-exact (quieting h);
   unit = λ h. unit-exact (reading h);
+  counts = λ h. counts-exact (counting h);
 }

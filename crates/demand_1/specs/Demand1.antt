@@ -21,6 +21,7 @@ use Rattle.bridge.specs.declared.TakeAnswer.{TakeAnswer}
 use Rattle.message_answers.specs.declared.MessageAnswer.{MessageAnswer}
 use Rattle.bridge.specs.declared.StartAnswer.{StartAnswer}
 use Rattle.bridge.specs.declared.UnitAnswer.{UnitAnswer}
+use Rattle.bridge.specs.declared.CountsAnswer.{CountsAnswer}
 use Rattle.unit.specs.Count.{isCount, countOf, portsOf}
 use Rattle.unit.specs.Model.{Rest, pairAt, modelOf}
 use Rattle.checks.specs.Ports.{isPort, noPort}
@@ -29,7 +30,7 @@ use Rattle.unit.specs.Own.{isUnstarted, isClaiming}
 use Rattle.unit.specs.Own.{isClaimed}
 use Rattle.list_commands.specs.declared.Absent.{Absent}
 use Rattle.list_commands.specs.Commands.{anyNamed}
-use Rattle.bridge.specs.Calls.{frameRefused, takeNumber, readNumber, startRefused}
+use Rattle.bridge.specs.Calls.{frameRefused, takeNumber, readNumber, startRefused, countsRefused}
 use Rattle.unit.proofs.Unit.power_on_ports.Reads as power-on
 use Rattle.bridge.proofs.frame.Reads as frame
 use Rattle.bridge.proofs.take.Reads as take
@@ -37,6 +38,7 @@ use Rattle.bridge.proofs.message.Reads as message
 use Rattle.bridge.proofs.start.Reads as start
 use Rattle.bridge.proofs.quiet.Reads as quiet
 use Rattle.bridge.proofs.unit.Reads as unit
+use Rattle.bridge.proofs.counts.Reads as counts
 use Rattle.made.specs.Made as made
 
 -- ---- the table "Numbers given back": the numbers of each call with their conditions, in the order in which they are given; `ports` are the unit's, by the
@@ -67,6 +69,9 @@ quietNumbers ports lent rest = check (notLong ports lent) 2 ∷ check (not (isCl
 
 abbrev pub unitNumbers : ℕ → ℕ → List Check
 unitNumbers ports lent = check (notLong ports lent) 2 ∷ []
+
+abbrev pub countsNumbers : ℕ → ℕ → ℕ → List Check
+countsNumbers ports lent port = check (noPort ports port) 1 ∷ check (notLong ports lent) 2 ∷ []
 
 -- what a payload says, bad or not: its function, From and To, its entries
 abbrev pub function : List ℕ → ℕ
@@ -127,7 +132,7 @@ Unchanged r words after = (r ≡ 0 → ⊥) → after ≡ words
 -- refusal changes nothing is not about it": 2 changes not a word, 27 leaves a fresh unit of four ports
 pub record ByPowerOn (words after : List ℕ) (name preferred r : ℕ) : Type 0 where
   pub kept : r ≡ 2 → after ≡ words
-  pub four : r ≡ 27 → (length after ≡ 1181) × (portsOf after ≡ 4) × (modelOf 4 after ≡ fresh 4 name preferred)
+  pub four : r ≡ 27 → (length after ≡ 1221) × (portsOf after ≡ 4) × (modelOf 4 after ≡ fresh 4 name preferred)
 
 -- "and writes the acknowledgment or nothing": eight bytes for the numbers that write one, nothing for the others, and the answer says which
 pub record Writes (lent back payload : List ℕ) (requester : ℕ) (r : MessageAnswer) : Type 0 where
@@ -186,6 +191,7 @@ pub record Demand1 : Type 0 where
       × ((κs : Lfts 1) (w : RefT (List ℕ)) → start.Pre κs (w, tt))
       × ((κs : Lfts 1) (w : RefT (List ℕ)) → quiet.Pre κs (w, tt))
       × ((κs : Lfts 1) (w : RefT (List ℕ)) → unit.Pre κs (w, tt))
+      × ((κs : Lfts 1) (w : RefT (List ℕ)) (port : ℕ) → counts.Pre κs (w, (port, tt)))
   pub power-on : {words after : List ℕ} {name preferred count r : ℕ} → made.Powered words name preferred count r after
       → Exact (powerOnNumbers count (length words)) r × ByPowerOn words after name preferred r
   -- "A refused frame has no ports, no event, is not consumed and compares 0"
@@ -201,3 +207,5 @@ pub record Demand1 : Type 0 where
       → Exact (startNumbers (portsOf words) (length words) (restOf words)) (r .refusal) × Unchanged (r .refusal) words after × ((r .refusal ≡ 0 → ⊥) → r ≡ startRefused (r .refusal))
   pub quiet : {words after : List ℕ} {r : ℕ} → made.Quieted words r after → Exact (quietNumbers (portsOf words) (length words) (restOf words)) r × Unchanged r words after
   pub unit : {words : List ℕ} {r : UnitAnswer} → made.Told words r → Exact (unitNumbers (portsOf words) (length words)) (readNumber r)
+  pub counts : {words : List ℕ} {port : ℕ} {r : CountsAnswer} → made.Counted words port r
+      → Exact (countsNumbers (portsOf words) (length words) port) (r .refusal) × ((r .refusal ≡ 0 → ⊥) → r ≡ countsRefused (r .refusal))

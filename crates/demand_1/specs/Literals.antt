@@ -48,9 +48,9 @@ pub record Literals : Type 0 where
   -- "a list of at most 32 PGNs", "one queue of at most 32 frames"; the published length of the record, with four ports and with 2 to 8
   pub list : listSize ≡ 32
   pub queue : size ≡ 32
-  pub record-words : (lent : ℕ) → notLong 4 lent ≡ not (eqb lent 1181)
+  pub record-words : (lent : ℕ) → notLong 4 lent ≡ not (eqb lent 1221)
   pub lengths : recordLength 2 ∷ recordLength 3 ∷ recordLength 4 ∷ recordLength 5 ∷ recordLength 6 ∷ recordLength 7 ∷ recordLength 8 ∷ []
-      ≡ 711 ∷ 912 ∷ 1181 ∷ 1518 ∷ 1923 ∷ 2396 ∷ 2937 ∷ []
+      ≡ 731 ∷ 942 ∷ 1221 ∷ 1568 ∷ 1983 ∷ 2466 ∷ 3017 ∷ []
   -- "Bits 28 to 26 are the priority, 25 the extended data page, 24 the data page, 23 to 16 PF, 15 to 8 PS, 7 to 0 the source address"
   pub priority : (id : ℕ) → priorityOf id ≡ id / 2 ^ 26 % 8
   pub extended : (id : ℕ) → extendedDataPageOf id ≡ id / 2 ^ 25 % 2

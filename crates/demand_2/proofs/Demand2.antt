@@ -11,15 +11,16 @@ use lib.ListN.{length, take, drop, getD}
 use lib.Seq.{take-at}
 use lib.Dec.{eqb}
 use Rattle.filter.specs.Filter.{clear}
-use Rattle.delivery.specs.Unit.{joinAll, rowNext}
-use Rattle.queue.specs.Queue.{size, priority}
+use Rattle.delivery.specs.Unit.{joinAll}
+use Rattle.queue.specs.Queue.{size, priority, Queued, queueNext, idle}
+use Rattle.queue.proofs.Rows.{row-sent}
 use Rattle.network_message.specs.Decoding.{functionOf, pairOf, fromOf, toOf}
 use Rattle.replies.specs.Replies.{listReply}
 use Rattle.bridge.specs.declared.FrameAnswer.{FrameAnswer}
 use Rattle.message_answers.specs.declared.MessageAnswer.{MessageAnswer}
 use Rattle.unit.specs.Ports.{bitAt}
 use Rattle.unit.specs.Count.{portsOf}
-use Rattle.unit.specs.Model.{Model, Seen, rowAt, pairAt, modelOf}
+use Rattle.unit.specs.Model.{queueOn, Model, Seen, rowAt, pairAt, modelOf}
 use Rattle.bridge.specs.Calls.{frameOf}
 use Rattle.forwarding.specs.Forwarding.{silent}
 use Rattle.refusals.specs.Refusals.{frameRefusal, messageRefusal}
@@ -31,7 +32,7 @@ use Rattle.message_answers.specs.Messages.{messageAnswer}
 use Rattle.refusals.proofs.Checks.{frame-goes, message-goes}
 use Rattle.unit.proofs.Ports.{each-at, each-none}
 use Rattle.unit.proofs.Count.{ports-bounds}
-use Rattle.record.proofs.Regions.{rows-long}
+use Rattle.record.proofs.Regions.{queues-long}
 use Rattle.list_commands.proofs.PairLoop.{pairs-long}
 use Rattle.bridge.proofs.Laws.{not-offered-back, not-sent-back, not-accepted-back, lost-at}
 use Rattle.list_commands.specs.Commands.{IsPair}
@@ -70,7 +71,8 @@ module _ {words bytes after : List ℕ} {port id : ℕ} {r : FrameAnswer} (F : F
         where
           row-then : port - 1 < portsOf words → rowAt (performed (portsOf words) (length words) m (FrameIn port id bytes)) (port - 1) ≡ joinAll size (rowAt m (port - 1)) (framesSent (frameDone (m .rest) port (frameOf id bytes) .sent))
           row-then q =
-              each-at (λ p row. rowNext priority size (asks (FrameIn port id bytes)) p row (sends (portsOf words) (m .rest) (FrameIn port id bytes) p)) (portsOf words) (m .rows) (port - 1) [] q (omega (arith, rows-long (portsOf words) words))
+              ap (λ (x : Queued). x .row) (each-at (λ p x. queueNext (asks (FrameIn port id bytes)) p x (sends (portsOf words) (m .rest) (FrameIn port id bytes) p)) (portsOf words) (m .queues) (port - 1) idle q (omega (arith, queues-long (portsOf words) words)))
+              ∙ row-sent (queueOn m (port - 1)) (sends (portsOf words) (m .rest) (FrameIn port id bytes) (port - 1))
               ∙ rw (not-sent-back (portsOf words) (m .rest) port (frameOf id bytes))
 
       go : (t : Bool) → eqb (frameRefusal (portsOf words) (length words) port id (length bytes)) 0 ≡ t → NotBack words port id bytes r after
@@ -114,7 +116,7 @@ module _ {words payload lent after back : List ℕ} {port requester : ℕ} {r : 
         long = M .call .long;
         own = ap (λ (w : Model). w .rest .own) (unit-in after (M .call .count) ∙ s);
         table = ap (λ (w : Model). w .rest .table) (unit-in after (M .call .count) ∙ s);
-        rows = ap (λ (w : Model). w .rows) (unit-in after (M .call .count) ∙ s);
+        queues = ap (λ (w : Model). w .queues) (unit-in after (M .call .count) ∙ s);
       }
 
       changed : modelOf (portsOf words) after ≡ performed (portsOf words) (length words) (unitIn words) (Message port requester payload (length lent)) → OnlyNamed words port payload after
@@ -127,7 +129,7 @@ module _ {words payload lent after back : List ℕ} {port requester : ℕ} {r : 
         long = M .call .long;
         own = ap (λ (w : Model). w .rest .own) (unit-in after (M .call .count) ∙ s);
         table = ap (λ (w : Model). w .rest .table) (unit-in after (M .call .count) ∙ s);
-        rows = ap (λ (w : Model). w .rows) (unit-in after (M .call .count) ∙ s) ∙ each-none (portsOf words) (unitIn words .rows);
+        queues = ap (λ (w : Model). w .queues) (unit-in after (M .call .count) ∙ s) ∙ each-none (portsOf words) (unitIn words .queues);
       }
 
       go : (t : Bool) → eqb (outcome .number) 0 ≡ t → OnlyNamed words port payload after

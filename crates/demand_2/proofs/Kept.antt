@@ -36,7 +36,7 @@ use Rattle.filter_commands.specs.Pairs.{changeOf}
 use Rattle.message_answers.specs.Messages.{performedBy}
 use Rattle.bridge.specs.Calls.{silentReply, messaged}
 use Rattle.refusals.specs.Refusals.{messageRefusal}
-use Rattle.bridge.specs.Calls.{Call, FrameIn, TakeOut, Message, Start, Quiet, ReadUnit, refusal, restAfter, performed, next}
+use Rattle.bridge.specs.Calls.{Call, FrameIn, TakeOut, Message, Start, Quiet, ReadUnit, ReadCounts, refusal, restAfter, performed, next}
 use Rattle.unit.specs.PowerOn.{fresh}
 use Rattle.unit.proofs.Count.{row-below}
 use Rattle.unit.proofs.Own.{own-ports}
@@ -182,6 +182,7 @@ module _ (ports lent : ℕ) where
   rest-all rest Start A = rw (started-pairs rest) A
   rest-all rest Quiet A = A
   rest-all rest ReadUnit A = A
+  rest-all rest (ReadCounts port) A = A
 
   next-all : (m : Model) (k : Call) → All ports (m .rest .pairs) → All ports (next ports lent m k .rest .pairs)
   unfolding next performed

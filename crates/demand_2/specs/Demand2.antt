@@ -100,7 +100,7 @@ pub record OnlyNamed (words : List ℕ) (port : ℕ) (payload after : List ℕ) 
   -- nor does it change anything else
   pub own : restOf after .own ≡ restOf words .own
   pub table : restOf after .table ≡ restOf words .table
-  pub rows : unitIn after .rows ≡ unitIn words .rows
+  pub queues : unitIn after .queues ≡ unitIn words .queues
 
 -- ---- "For a tool on port p of 2 to 4, with the unit's claim state and address given, reply and refusal are the same whatever the lists and address tables
 -- hold beyond p's own pairs and the addresses recorded on p." With another number of ports p is of 2 to that number.

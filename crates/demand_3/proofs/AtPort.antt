@@ -11,24 +11,24 @@ use lib.ListN.{length, getD, replicate, length-replicate}
 use Rattle.delivery.specs.Row.{pull, given}
 use Rattle.delivery.specs.Product.{Lawful, Fresh}
 use Rattle.queue.specs.declared.Frame.{Frame}
-use Rattle.queue.specs.Queue.{priority, takenOf}
+use Rattle.queue.specs.Queue.{priority, takenOf, Queued, idle}
 use Rattle.bridge.specs.declared.TakeAnswer.the-variants.{Took}
 use Rattle.unit.specs.Model.{Rest, Model, rowAt}
 use Rattle.unit.specs.PowerOn.{fresh}
 use Rattle.checks.specs.Ports.{isPort}
 use Rattle.refusals.specs.Refusals.{takeRefusal}
-use Rattle.bridge.specs.Calls.{Call, FrameIn, TakeOut, Message, Start, Quiet, ReadUnit, refusal, takeAnswer}
+use Rattle.bridge.specs.Calls.{Call, FrameIn, TakeOut, Message, Start, Quiet, ReadUnit, ReadCounts, refusal, takeAnswer}
 use Rattle.bridge.specs.Calls.{asks as asksOf}
 use Rattle.refusals.proofs.Checks.{take-goes}
 use Rattle.demand_3.specs.Demand3.{ToTake, words, answer, goes, asks, bridge}
-use Rattle.demand_3.proofs.Moves.{rest-moves, rows-stay, row-moves}
+use Rattle.demand_3.proofs.Moves.{rest-moves, queues-stay, row-moves}
 
 module _ (ports : ℕ) where
   clash : {A : Type 0} (f : A) → none ≡ some f → ⊥
   clash f e = let z : _≡_ {A = ℕ} 0 1 = cc in omega arith
 
   -- ---- a take that is not refused
-  take-goes-at : (q : ℕ) → q < ports → takeRefusal ports (words ports) (suc q) ≡ 0
+  pub take-goes-at : (q : ℕ) → q < ports → takeRefusal ports (words ports) (suc q) ≡ 0
   unfolding takeRefusal isPort
   take-goes-at q h = rw (le-leb 1 (suc q) (omega arith), le-leb (suc q) ports (omega arith), eq-eqb (words ports) (words ports) refl)
 
@@ -52,6 +52,7 @@ module _ (ports : ℕ) where
   asks-take rest Start q e = absurd (none-asks (goes ports rest Start) q e)
   asks-take rest Quiet q e = absurd (none-asks (goes ports rest Quiet) q e)
   asks-take rest ReadUnit q e = absurd (none-asks (goes ports rest ReadUnit) q e)
+  asks-take rest (ReadCounts port) q e = absurd (none-asks (goes ports rest (ReadCounts port)) q e)
 
   -- and it asks
   take-asks : (rest : Rest) (q : ℕ) → q < ports → asks ports rest (TakeOut (suc q)) ≡ some q
@@ -70,11 +71,11 @@ module _ (ports : ℕ) where
   -- ---- the whole
   -- what the book keeps besides: a row for each port
   abbrev pub Fine : Model → Type 0
-  Fine m = length (m .rows) ≡ ports
+  Fine m = length (m .queues) ≡ ports
 
   pub lawful : Lawful (bridge ports) Fine
   lawful = record {
-    stays-fine = (rows-stay ports);
+    stays-fine = (queues-stay ports);
     rest-moves = (rest-moves ports);
     row-moves = λ m k q h four. (row-moves ports) m k q h four;
     asks-take = asks-take;
@@ -83,10 +84,10 @@ module _ (ports : ℕ) where
     nothing-told = nothing-told;
   }
 
-  empty : (n q : ℕ) → getD (replicate {A = List Frame} n []) q [] ≡ []
-  empty zero q = refl
-  empty (suc n) zero = refl
-  empty (suc n) (suc q) = empty n q
+  pub idle-at : (n q : ℕ) → getD (replicate n idle) q idle ≡ idle
+  idle-at zero q = refl
+  idle-at (suc n) zero = refl
+  idle-at (suc n) (suc q) = idle-at n q
 
   pub powered-on : (name preferred : ℕ) → Fresh (bridge ports) Fine (fresh ports name preferred)
-  powered-on name preferred = record { fine = length-replicate ports []; empty = λ q h. empty ports q }
+  powered-on name preferred = record { fine = length-replicate ports idle; empty = λ q h. ap (λ (x : Queued). x .row) (idle-at ports q) }

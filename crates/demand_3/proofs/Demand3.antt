@@ -21,7 +21,7 @@ use Rattle.unit.proofs.Own.{own-ports}
 use Rattle.refusals.proofs.Checks.{none, long-in}
 use Rattle.made.specs.Made.{Powered}
 use Rattle.made.proofs.Made.{powering}
-use Rattle.demand_3.specs.Demand3.{Made, frame-made, take-made, message-made, start-made, quiet-made, unit-made, Answer, words, next, answer, bridge, modelAfter, Demand3, EveryList}
+use Rattle.demand_3.specs.Demand3.{Made, frame-made, take-made, message-made, start-made, quiet-made, unit-made, counts-made, Answer, words, next, answer, bridge, modelAfter, Demand3, EveryList}
 use Rattle.demand_3.proofs.OneCall.{Good, simulates}
 use Rattle.demand_3.proofs.Named.{number-is, rule-3}
 use Rattle.demand_3.proofs.Reasons.{by-reason}
@@ -82,7 +82,7 @@ powered-good h = good-then (powering h)
 
 from-power-on : (w u : List ℕ) (name preferred count r : ℕ) → PoweringOn count w u name preferred r → EveryList w u name preferred count r
 from-power-on w u name preferred count r p = record {
-  calls = record { frames = frame-made; takes = take-made; messages = message-made; starts = start-made; quiets = quiet-made; tells = unit-made };
+  calls = record { frames = frame-made; takes = take-made; messages = message-made; starts = start-made; quiets = quiet-made; tells = unit-made; counts = counts-made };
   every = λ z ks xs v run.
       let ports = countOf count in
       let made = p .state z in

@@ -1,5 +1,5 @@
 -- The book of the bridge moves as the statement's functions say, port by port. Assumes nothing.
-use mathlib.Core.Path.{_≡_, refl, _∙_}
+use mathlib.Core.Path.{_≡_, refl, ap, _∙_}
 use mathlib.Core.Bool.{Bool, true, false, cond}
 use mathlib.Core.List.{[], _++_}
 use mathlib.Core.Option.{none}
@@ -7,9 +7,10 @@ use Prim.Native.Nat.{ℕ, _<_}
 use native.Mathlib.Omega.{arith}
 use lib.ListN.{length}
 use Rattle.delivery.specs.Unit.{rowNext}
-use Rattle.queue.specs.Queue.{size, priority}
-use Rattle.unit.specs.Model.{Rest, Model, rowAt}
-use Rattle.bridge.specs.Calls.{Call, FrameIn, TakeOut, Message, Start, Quiet, ReadUnit, restAfter, performed}
+use Rattle.queue.specs.Queue.{size, priority, Queued, queueNext, idle}
+use Rattle.queue.proofs.Rows.{row-next}
+use Rattle.unit.specs.Model.{Rest, Model, queueOn, rowAt}
+use Rattle.bridge.specs.Calls.{Call, FrameIn, TakeOut, Message, Start, Quiet, ReadUnit, ReadCounts, restAfter, performed}
 use Rattle.bridge.specs.Calls.{next as nextOf, asks as asksOf, sends as sendsOf}
 use Rattle.unit.proofs.Ports.{each-at, length-each}
 use Rattle.demand_3.specs.Demand3.{words, next, goes, restNext, asks, forwarded, forwards, announced, announces, sends}
@@ -24,6 +25,7 @@ module _ (ports : ℕ) where
   sends-is rest Start q = refl
   sends-is rest Quiet q = refl
   sends-is rest ReadUnit q = refl
+  sends-is rest (ReadCounts port) q = refl
 
   module _ (m : Model) (k : Call) where
     pub rest-moves : (next ports) m k .rest ≡ restNext ports (m .rest) k
@@ -34,22 +36,27 @@ module _ (ports : ℕ) where
         go true = refl
         go false = refl
 
-    pub rows-stay : length (m .rows) ≡ ports → length (next ports m k .rows) ≡ ports
+    pub queues-stay : length (m .queues) ≡ ports → length (next ports m k .queues) ≡ ports
     unfolding nextOf performed
-    rows-stay four = go (goes ports (m .rest) k)
+    queues-stay four = go (goes ports (m .rest) k)
       where
-        go : (b : Bool) → length (cond b (performed ports (words ports) m k) m .rows) ≡ ports
-        go true = length-each (λ q row. rowNext priority size (asksOf k) q row (sendsOf ports (m .rest) k q)) ports (m .rows) ∙ four
+        go : (b : Bool) → length (cond b (performed ports (words ports) m k) m .queues) ≡ ports
+        go true = length-each (λ q x. queueNext (asksOf k) q x (sendsOf ports (m .rest) k q)) ports (m .queues) ∙ four
         go false = four
 
-    pub row-moves : (q : ℕ) → q < ports → length (m .rows) ≡ ports
-        → rowAt (next ports m k) q ≡ rowNext priority size (asks ports (m .rest) k) q (rowAt m q) (sends ports (m .rest) k q)
+    -- a port's queue, what is counted there too
+    pub queue-moves : (q : ℕ) → q < ports → length (m .queues) ≡ ports
+        → queueOn (next ports m k) q ≡ queueNext (asks ports (m .rest) k) q (queueOn m q) (sends ports (m .rest) k q)
     unfolding nextOf performed asks forwards announces
-    row-moves q h four = go (goes ports (m .rest) k)
+    queue-moves q h four = go (goes ports (m .rest) k)
       where
-        go : (b : Bool) → rowAt (cond b (performed ports (words ports) m k) m) q
-            ≡ rowNext priority size (cond b (asksOf k) none) q (rowAt m q) (cond b (forwarded ports (m .rest) k q) [] ++ cond b (announced ports (m .rest) k) [])
+        go : (b : Bool) → queueOn (cond b (performed ports (words ports) m k) m) q
+            ≡ queueNext (cond b (asksOf k) none) q (queueOn m q) (cond b (forwarded ports (m .rest) k q) [] ++ cond b (announced ports (m .rest) k) [])
         go true =
             rw (← (sends-is (m .rest) k q))
-            (each-at (λ q row. rowNext priority size (asksOf k) q row (sendsOf ports (m .rest) k q)) ports (m .rows) q [] h (omega arith))
+            (each-at (λ q x. queueNext (asksOf k) q x (sendsOf ports (m .rest) k q)) ports (m .queues) q idle h (omega arith))
         go false = refl
+
+    pub row-moves : (q : ℕ) → q < ports → length (m .queues) ≡ ports
+        → rowAt (next ports m k) q ≡ rowNext priority size (asks ports (m .rest) k) q (rowAt m q) (sends ports (m .rest) k q)
+    row-moves q h four = ap (λ (x : Queued). x .row) (queue-moves q h four) ∙ row-next (asks ports (m .rest) k) q (queueOn m q) (sends ports (m .rest) k q)

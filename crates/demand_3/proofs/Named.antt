@@ -17,6 +17,7 @@ use Rattle.queue.specs.declared.Frame.{Frame}
 use Rattle.queue.specs.Queue.{size}
 use Rattle.unit.specs.declared.Sent.{Sent}
 use Rattle.bridge.specs.declared.FrameAnswer.{FrameAnswer}
+use Rattle.bridge.specs.declared.CountsAnswer.{CountsAnswer}
 use Rattle.bridge.specs.declared.StartAnswer.{StartAnswer}
 use Rattle.unit.specs.Ports.{mask, bitAt}
 use Rattle.unit.specs.Model.{Model, rowAt}
@@ -25,7 +26,7 @@ use Rattle.bridge.specs.Calls.{frameOf, offered}
 use Rattle.forwarding.specs.Forwarding.{sentIf, accepts, loses}
 use Rattle.unit.specs.Own.{framesSent}
 use Rattle.claims.specs.Claims.{started}
-use Rattle.bridge.specs.Calls.{Call, FrameIn, TakeOut, Message, Start, Quiet, ReadUnit, refusal, frameDone, framePassed, frameAnswer, takeAnswer, startAnswer, unitAnswer}
+use Rattle.bridge.specs.Calls.{Call, FrameIn, TakeOut, Message, Start, Quiet, ReadUnit, ReadCounts, refusal, frameDone, framePassed, frameAnswer, takeAnswer, startAnswer, unitAnswer, countsAnswer}
 use Rattle.forwarding.specs.Forwarding.{losesOwn}
 use Rattle.unit.proofs.Ports.{mask-none, mask-small, mask-bit}
 use Rattle.demand_3.specs.Demand3.{words, answer, Answer, ToTake, ToUnit, goes, forwarded, forwards, announced, announces, numberIn, acceptedPorts, lostPorts, ownLostPorts, Rule3}
@@ -40,13 +41,14 @@ module _ (ports : ℕ) where
       go false e = r
 
   pub number-is : (m : Model) (k : Call) → numberIn (answer ports m k) ≡ refusal ports (words ports) (m .rest) k
-  unfolding answer refusal frameAnswer takeAnswer startAnswer unitAnswer framePassed
+  unfolding answer refusal frameAnswer takeAnswer startAnswer unitAnswer countsAnswer framePassed
   number-is m (FrameIn port id bytes) = chosen (λ (r : FrameAnswer). r .refusal) (frameRefusal ports (words ports) port id (length bytes)) _ _ refl refl
   number-is m (TakeOut port) = chosen (λ r. numberIn (ToTake r)) (takeRefusal ports (words ports) port) _ _ refl refl
   number-is m (Message port requester payload lentReply) = refl
   number-is m Start = chosen (λ (r : StartAnswer). r .refusal) (startRefusal ports (words ports) (m .rest .own)) _ _ refl refl
   number-is m Quiet = refl
   number-is m ReadUnit = chosen (λ r. numberIn (ToUnit r)) (lengthRefusal ports (words ports)) _ _ refl refl
+  number-is m (ReadCounts port) = chosen (λ (r : CountsAnswer). r .refusal) (takeRefusal ports (words ports) port) _ _ refl refl
 
   -- ---- rule 3
   clash : true ≡ false → ⊥
@@ -151,3 +153,4 @@ module _ (ports : ℕ) where
     rule-3 Start = start-ports (eqb (startRefusal ports (words ports) (m .rest .own)) 0) refl
     rule-3 Quiet = no-ports Quiet _ refl refl refl refl refl
     rule-3 ReadUnit = no-ports ReadUnit _ refl refl refl refl refl
+    rule-3 (ReadCounts port) = no-ports (ReadCounts port) _ refl refl refl refl refl

@@ -12,8 +12,8 @@ use Rattle.bridge.specs.Calls.{messaged}
 use Rattle.bridge.specs.Calls.{Call}
 use Rattle.message_answers.specs.Messages.{messageAnswer}
 use Rattle.message_answers.specs.declared.MessageAnswer.{MessageAnswer}
-use Rattle.made.proofs.Made.{framing, taking, messaging, starting, quieting, reading}
-use Rattle.demand_3.specs.Demand3.{Answer, ToFrame, ToTake, ToMessage, ToStart, ToQuiet, ToUnit, Made, frame-made, take-made, message-made, start-made, quiet-made, unit-made, words, next, answer}
+use Rattle.made.proofs.Made.{framing, taking, messaging, starting, quieting, reading, counting}
+use Rattle.demand_3.specs.Demand3.{Answer, ToFrame, ToTake, ToMessage, ToStart, ToQuiet, ToUnit, ToCounts, Made, frame-made, take-made, message-made, start-made, quiet-made, unit-made, counts-made, words, next, answer}
 
 module _ (ports : ℕ) where
   -- what every call keeps: the number of ports, and the record's length
@@ -43,6 +43,8 @@ module _ (ports : ℕ) where
       let l = rw (g .1) at (quieting h) in record { good = (l .call .long ∙ g .0, l .call .count ∙ g .1); said = ap ToQuiet (rw (g .0) at (l .answer)); moved = rw (g .0) at (l .call .state) }
   one-call g (unit-made h) =
       let l = rw (g .1) at (reading h) in record { good = g; said = ap ToUnit (rw (g .0) at (l .answer)); moved = rw (g .0) at (l .call .state) }
+  one-call g (counts-made h) =
+      let l = rw (g .1) at (counting h) in record { good = g; said = ap ToCounts (rw (g .0) at (l .answer)); moved = rw (g .0) at (l .call .state) }
 
   pub simulates : Simulates Made Good (modelOf ports) (next ports) (answer ports)
   simulates = record { step = one-call }

@@ -14,7 +14,7 @@ use Rattle.filter.proofs.Reasons.{reason-below}
 use Rattle.unit.specs.Ports.{mask, bitAt, digits, digitAt}
 use Rattle.unit.specs.Model.{Model, rowAt}
 use Rattle.refusals.specs.Refusals.{frameRefusal, takeRefusal, startRefusal, lengthRefusal}
-use Rattle.bridge.specs.Calls.{frameOf, offered, Call, FrameIn, TakeOut, Message, Start, Quiet, ReadUnit, framePassed, frameAnswer}
+use Rattle.bridge.specs.Calls.{frameOf, offered, Call, FrameIn, TakeOut, Message, Start, Quiet, ReadUnit, ReadCounts, framePassed, frameAnswer}
 use Rattle.unit.proofs.Ports.{mask-small, mask-bit, digit-at, digit-past}
 use Rattle.demand_3.specs.Demand3.{words, answer, Answer, acceptedPorts, lostPorts, reasonsIn, crossing, ByReason}
 use Rattle.demand_3.proofs.Named.{no-port}
@@ -66,3 +66,4 @@ module _ (ports : ℕ) (m : Model) (q : ℕ) where
   by-reason Start = none-named q refl refl refl
   by-reason Quiet = none-named q refl refl refl
   by-reason ReadUnit = none-named q refl refl refl
+  by-reason (ReadCounts port) = none-named q refl refl refl

@@ -25,7 +25,7 @@ use Rattle.unit.specs.Own.{isOwn, consumes, requestAnswer, framesSent}
 use Rattle.unit.specs.PowerOn.{fresh}
 use Rattle.forwarding.specs.Forwarding.{sentIf}
 use Rattle.claims.specs.Claims.{frameOf, Acted, isClaim, isRequestToUnit, contested, claimActed, frameActed, heldUnder, started}
-use Rattle.bridge.specs.Calls.{Call, FrameIn, TakeOut, Message, Start, Quiet, ReadUnit, offered, frameDone, restAfter}
+use Rattle.bridge.specs.Calls.{Call, FrameIn, TakeOut, Message, Start, Quiet, ReadUnit, ReadCounts, offered, frameDone, restAfter}
 use Rattle.demand_3.specs.Demand3.{words, next, goes, restNext, forwarded, forwards, announced, announces, sends, AsHandedIn, handed, ofUnit, bytesIn, modelAfter}
 use Rattle.demand_3.proofs.Moves.{rest-moves}
 
@@ -98,6 +98,7 @@ module _ (ports : ℕ) where
     kept-name Start = start-ours .keeps
     kept-name Quiet = refl
     kept-name ReadUnit = refl
+    kept-name (ReadCounts port) = refl
 
     -- the frame that was handed in
     as-bytes : (bytes : List ℕ) → ((i : ℕ) → getD bytes i 0 < 256) → bytesOf (length bytes) (packed bytes) ≡ bytes
@@ -118,6 +119,7 @@ module _ (ports : ℕ) where
     forwarded-so own Start q f small m = none-sent Start f m
     forwarded-so own Quiet q f small m = none-sent Quiet f m
     forwarded-so own ReadUnit q f small m = none-sent ReadUnit f m
+    forwarded-so own (ReadCounts port) q f small m = none-sent (ReadCounts port) f m
 
     announced-so : (k : Call) (f : Frame) → List·Memᴰ f (announced ports rest k) → AsHandedIn (restAfter ports (words ports) rest k .own) k f
     unfolding restAfter
@@ -127,6 +129,7 @@ module _ (ports : ℕ) where
     announced-so Start f m = start-ours .frame Start f m
     announced-so Quiet f m = none-sent Quiet f m
     announced-so ReadUnit f m = none-sent ReadUnit f m
+    announced-so (ReadCounts port) f m = none-sent (ReadCounts port) f m
 
     sent-so : (k : Call) (q : ℕ) (f : Frame) → ((i : ℕ) → getD (bytesIn k) i 0 < 256) → List·Memᴰ f (sends ports rest k q) → AsHandedIn (restNext ports rest k .own) k f
     unfolding forwards announces restNext

@@ -28,6 +28,7 @@ use Rattle.bridge.specs.declared.TakeAnswer.the-variants.{Took}
 use Rattle.message_answers.specs.declared.MessageAnswer.{MessageAnswer}
 use Rattle.bridge.specs.declared.StartAnswer.{StartAnswer}
 use Rattle.bridge.specs.declared.UnitAnswer.{UnitAnswer}
+use Rattle.bridge.specs.declared.CountsAnswer.{CountsAnswer}
 use Rattle.unit.specs.declared.Unit.{Unit}
 use Rattle.unit.specs.Count.{countOf}
 use Rattle.unit.specs.Ports.{bitAt, digitAt}
@@ -38,14 +39,14 @@ use Rattle.forwarding.specs.Forwarding.{sentIf}
 use Rattle.bridge.specs.Calls.{messaged}
 use Rattle.unit.specs.Own.{framesSent}
 use Rattle.claims.specs.Claims.{started}
-use Rattle.bridge.specs.Calls.{Call, FrameIn, TakeOut, Message, Start, Quiet, ReadUnit, refusal, restAfter, frameDone, frameAnswer, takeAnswer, takeNumber, startAnswer, unitAnswer, readNumber}
+use Rattle.bridge.specs.Calls.{Call, FrameIn, TakeOut, Message, Start, Quiet, ReadUnit, ReadCounts, refusal, restAfter, frameDone, frameAnswer, takeAnswer, takeNumber, startAnswer, unitAnswer, readNumber, countsAnswer}
 use Rattle.message_answers.specs.Messages.{messageAnswer}
 use Rattle.unit.specs.PowerOn.{fresh}
 use Rattle.bridge.specs.Calls.{next as nextOf, asks as asksOf}
 use Rattle.made.specs.Made as made
 
 -- ---- 1. the calls
--- `Call` of the bridge is a call by its arguments: FrameIn, TakeOut, Message, Start, Quiet, ReadUnit. This is what it was answered; of a message also the reply,
+-- `Call` of the bridge is a call by its arguments: FrameIn, TakeOut, Message, Start, Quiet, ReadUnit, ReadCounts. This is what it was answered; of a message also the reply,
 -- the bytes that were written to the buffer. (That those behind it are untouched is in the contract of `message`.)
 pub data Answer : Type 0 where
   ToFrame : FrameAnswer → Answer
@@ -54,6 +55,7 @@ pub data Answer : Type 0 where
   ToStart : StartAnswer → Answer
   ToQuiet : ℕ → Answer
   ToUnit : UnitAnswer → Answer
+  ToCounts : CountsAnswer → Answer
 
 -- A call was made on the record w by the real function, of which the contract alone is known (Made.antt), and left the record as w′.
 pub data Made : List ℕ → Call → Answer → List ℕ → Type 0 where
@@ -64,6 +66,7 @@ pub data Made : List ℕ → Call → Answer → List ℕ → Type 0 where
   start-made : {w w′ : List ℕ} {r : StartAnswer} → made.Started w r w′ → Made w Start (ToStart r) w′
   quiet-made : {w w′ : List ℕ} {r : ℕ} → made.Quieted w r w′ → Made w Quiet (ToQuiet r) w′
   unit-made : {w : List ℕ} {r : UnitAnswer} → made.Told w r → Made w ReadUnit (ToUnit r) w
+  counts-made : {w : List ℕ} {port : ℕ} {r : CountsAnswer} → made.Counted w port r → Made w (ReadCounts port) (ToCounts r) w
 
 -- No call is missing: whatever the unit's functions were called with is such a call.
 pub record EveryCall : Type 0 where
@@ -74,6 +77,7 @@ pub record EveryCall : Type 0 where
   pub starts : {w w′ : List ℕ} {r : StartAnswer} → made.Started w r w′ → Made w Start (ToStart r) w′
   pub quiets : {w w′ : List ℕ} {r : ℕ} → made.Quieted w r w′ → Made w Quiet (ToQuiet r) w′
   pub tells : {w : List ℕ} {r : UnitAnswer} → made.Told w r → Made w ReadUnit (ToUnit r) w
+  pub counts : {w : List ℕ} {port : ℕ} {r : CountsAnswer} → made.Counted w port r → Made w (ReadCounts port) (ToCounts r) w
 
 -- ---- 2. the book
 -- All of it is over the number of ports, chosen at power-on.
@@ -96,6 +100,7 @@ module _ (ports : ℕ) where
   answer m Start = ToStart (startAnswer ports words m)
   answer m Quiet = ToQuiet (quietRefusal ports words (m .rest .own))
   answer m ReadUnit = ToUnit (unitAnswer ports words m)
+  answer m (ReadCounts port) = ToCounts (countsAnswer ports words m port)
 
   -- ---- 3. what a call sends and asks
   -- What the book keeps besides the rows has all the say; a refused call asks nothing, sends nothing and changes nothing.
@@ -117,6 +122,7 @@ module _ (ports : ℕ) where
   forwarded rest Start q = []
   forwarded rest Quiet q = []
   forwarded rest ReadUnit q = []
+  forwarded rest (ReadCounts port) q = []
 
   unfoldable pub forwards : Rest → Call → ℕ → List Frame
   forwards rest k q = cond (goes rest k) (forwarded rest k q) []
@@ -129,6 +135,7 @@ module _ (ports : ℕ) where
   announced rest Start = framesSent (started rest .sent)
   announced rest Quiet = []
   announced rest ReadUnit = []
+  announced rest (ReadCounts port) = []
 
   unfoldable pub announces : Rest → Call → List Frame
   announces rest k = cond (goes rest k) (announced rest k) []
@@ -162,6 +169,7 @@ numberIn (ToMessage r reply) = r .refusal
 numberIn (ToStart r) = r .refusal
 numberIn (ToQuiet number) = number
 numberIn (ToUnit r) = readNumber r
+numberIn (ToCounts r) = r .refusal
 
 -- The ports that an answer names, as bits: bit q for port q.
 abbrev pub acceptedPorts : Answer → ℕ
@@ -171,6 +179,7 @@ acceptedPorts (ToMessage r reply) = 0
 acceptedPorts (ToStart r) = 0
 acceptedPorts (ToQuiet number) = 0
 acceptedPorts (ToUnit r) = 0
+acceptedPorts (ToCounts r) = 0
 
 abbrev pub lostPorts : Answer → ℕ
 lostPorts (ToFrame r) = r .lost
@@ -179,6 +188,7 @@ lostPorts (ToMessage r reply) = 0
 lostPorts (ToStart r) = 0
 lostPorts (ToQuiet number) = 0
 lostPorts (ToUnit r) = 0
+lostPorts (ToCounts r) = 0
 
 abbrev pub ownLostPorts : Answer → ℕ
 ownLostPorts (ToFrame r) = r .unsent
@@ -187,6 +197,7 @@ ownLostPorts (ToMessage r reply) = 0
 ownLostPorts (ToStart r) = r .unsent
 ownLostPorts (ToQuiet number) = 0
 ownLostPorts (ToUnit r) = 0
+ownLostPorts (ToCounts r) = 0
 
 -- The reasons that an answer tells, a digit to the base 16 for each port: digit q for port q.
 abbrev pub reasonsIn : Answer → ℕ
@@ -196,6 +207,7 @@ reasonsIn (ToMessage r reply) = 0
 reasonsIn (ToStart r) = 0
 reasonsIn (ToQuiet number) = 0
 reasonsIn (ToUnit r) = 0
+reasonsIn (ToCounts r) = 0
 
 -- A frame crosses with the reasons 1 permanent, 2 cleared, 3 listed in pass and 4 not listed in block; not with 5 and 6, nor where no pair is asked, 0.
 abbrev pub crossing : ℕ → Bool
@@ -238,6 +250,7 @@ bytesIn (Message port requester payload lentReply) = []
 bytesIn Start = []
 bytesIn Quiet = []
 bytesIn ReadUnit = []
+bytesIn (ReadCounts port) = []
 
 module _ (ports name preferred : ℕ) where
   -- 01: "Power-on, with any NAME and preferred address, makes it fresh." "The book is fed the calls' arguments alone, no answer and nothing of the

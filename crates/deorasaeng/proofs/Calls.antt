@@ -16,14 +16,15 @@ use Rattle.bridge.specs.declared.TakeAnswer.the-variants.{Refused, Took}
 use Rattle.message_answers.specs.declared.MessageAnswer.{MessageAnswer}
 use Rattle.bridge.specs.declared.StartAnswer.{StartAnswer}
 use Rattle.bridge.specs.declared.UnitAnswer.{UnitAnswer}
+use Rattle.bridge.specs.declared.CountsAnswer.{CountsAnswer}
 use Rattle.bridge.specs.declared.UnitAnswer.the-variants.{Told}
 use Rattle.unit.specs.declared.Unit.{Unit}
 use Rattle.unit.specs.Model.{Model, modelOf}
 use Rattle.refusals.specs.Refusals.{frameRefusal, takeRefusal, startRefusal, lengthRefusal}
-use Rattle.bridge.specs.Calls.{Call, next, refusal, framePassed, frameAnswer, takeAnswer, gave, startAnswer, unitAnswer, Calling, Framing, TakingOut, Messaging, Starting, Reading}
-use Rattle.deorasaeng.specs.Interface.{lentRefusal, Served, messageLength, startLength, startWords, takeNumber, FrameCall, TakeCall, MessageCall, StartCall, UnitCall, QueueCall, queueNumber}
-use Rattle.flat_answers.specs.Answers.{frameLength, takeLength, bytesLength, unitLength, frameWords, takeWords, bytesOfTaken, unitWords, Telling, TellingUnit}
-use Rattle.deorasaeng.proofs.Numbers.{not-0, frame-lent, frame-number, take-lent, take-lent-bytes, take-number, silent, replied-as, start-lent, start-number, unit-lent, unit-number, queue-lent, queue-lent-bytes, queue-number}
+use Rattle.bridge.specs.Calls.{Call, next, refusal, framePassed, frameAnswer, takeAnswer, gave, startAnswer, unitAnswer, countsAnswer, Calling, Framing, TakingOut, Messaging, Starting, Reading, Counting}
+use Rattle.deorasaeng.specs.Interface.{lentRefusal, Served, messageLength, startLength, startWords, takeNumber, FrameCall, TakeCall, MessageCall, StartCall, UnitCall, CountsCall, QueueCall, queueNumber}
+use Rattle.flat_answers.specs.Answers.{frameLength, takeLength, bytesLength, unitLength, countsLength, frameWords, takeWords, bytesOfTaken, unitWords, countsWords, Telling, TellingUnit}
+use Rattle.deorasaeng.proofs.Numbers.{not-0, frame-lent, frame-number, take-lent, take-lent-bytes, take-number, silent, replied-as, start-lent, start-number, unit-lent, unit-number, counts-lent, counts-number, queue-lent, queue-lent-bytes, queue-number}
 
 -- ---- the record
 -- refused before the record is touched
@@ -72,6 +73,14 @@ start-refusal ports lent m =
     elim (ℕ-discrete (startRefusal ports lent (m .rest .own)) 0) [
       | yes z ↦ rw (eq-eqb (startRefusal ports lent (m .rest .own)) 0 z) (sym z)
       | no h ↦ rw (ne-eqb (startRefusal ports lent (m .rest .own)) 0 h)
+    ]
+
+pub counts-refusal : (ports lent : ℕ) (m : Model) (port : ℕ) → countsAnswer ports lent m port .refusal ≡ takeRefusal ports lent port
+unfolding countsAnswer
+counts-refusal ports lent m port =
+    elim (ℕ-discrete (takeRefusal ports lent port) 0) [
+      | yes z ↦ rw (eq-eqb (takeRefusal ports lent port) 0 z) (sym z)
+      | no h ↦ rw (ne-eqb (takeRefusal ports lent port) 0 h)
     ]
 
 -- ---- deorasaeng_frame
@@ -215,6 +224,30 @@ module _ {ports : ℕ} {words answer : List ℕ} where
     unit-told {own} {r = r} is G =
         let D = unit-done ports (length words) (modelOf ports words) own (sym is ∙ R .answer) in
         unit-called (G .number ∙ sym (D .0)) (rw (eq-eqb r 0 (G .number), ← (D .1)) (G .tells))
+
+-- ---- deorasaeng_counts
+module _ {ports : ℕ} {words : List ℕ} {port : ℕ} {answer : List ℕ} where
+  pub counts-wrong : {r : ℕ} → r ≡ lentRefusal ports port → (length answer ≡ countsLength → ⊥) → CountsCall ports words port answer answer r
+  counts-wrong {r} e h =
+      let n : r ≡ 0 → ⊥ = λ z. not-0 ports port (sym e ∙ z) in
+      record { number = e ∙ counts-lent ports (length words) (length answer) port h; served = untouched n; tells = rw (ne-eqb r 0 n) }
+
+  module _ {a : CountsAnswer} (C : Counting ports words port a) (e : length answer ≡ countsLength) where
+    counts-called : {told : List ℕ} {r : ℕ} → r ≡ a .refusal → told ≡ cond (eqb r 0) (countsWords (a .tally)) answer → CountsCall ports words port answer told r
+    unfolding refusal
+    counts-called {r = r} z t =
+        let n : r ≡ takeRefusal ports (length words) port = z ∙ rw (C .answer) (counts-refusal ports (length words) (modelOf ports words) port) in
+        record {
+          number = n ∙ sym (counts-number ports (length words) (length answer) port e);
+          served = served n (C .call);
+          tells = rw (← (C .answer)) t;
+        }
+
+    pub counts-refused : (a .refusal ≡ 0 → ⊥) → CountsCall ports words port answer answer (a .refusal)
+    counts-refused h = counts-called refl (rw (ne-eqb (a .refusal) 0 h))
+
+    pub counts-done : {told : List ℕ} → a .refusal ≡ 0 → told ≡ countsWords (a .tally) → CountsCall ports words port answer told 0
+    counts-done z t = counts-called (sym z) t
 
 -- ---- deorasaeng_take_queue
 module _ {before answer bytes : List ℕ} where

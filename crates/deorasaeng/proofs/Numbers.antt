@@ -14,8 +14,8 @@ use Rattle.checks.specs.Ports.{noPort}
 use Rattle.refusals.specs.Refusals.{frameRefusal, takeRefusal, startRefusal, lengthRefusal, messageRefusal}
 use Rattle.unit.specs.PowerOn.{notLong}
 use Rattle.bridge.specs.Calls.{silentReply, messaged}
-use Rattle.deorasaeng.specs.Interface.{notOf, lentRefusal, messageLength, startLength, frameNumber, takeNumber, messageNumber, repliedTo, startNumber, unitNumber, queueNumber}
-use Rattle.flat_answers.specs.Answers.{frameLength, takeLength, bytesLength, unitLength}
+use Rattle.deorasaeng.specs.Interface.{notOf, lentRefusal, messageLength, startLength, frameNumber, takeNumber, messageNumber, repliedTo, startNumber, unitNumber, countsNumber, queueNumber}
+use Rattle.flat_answers.specs.Answers.{frameLength, takeLength, bytesLength, unitLength, countsLength}
 
 wrong : {published lent : ℕ} → (lent ≡ published → ⊥) → notOf published lent ≡ true
 wrong {published} {lent} h = rw (ne-eqb lent published h)
@@ -63,6 +63,14 @@ module _ (ports lent lentAnswer port : ℕ) where
   pub take-number : (lentBytes : ℕ) → lentAnswer ≡ takeLength → lentBytes ≡ bytesLength → takeNumber ports lent lentAnswer lentBytes port ≡ takeRefusal ports lent port
   unfolding takeNumber takeRefusal
   take-number lentBytes e e′ = rw (or-false (notLong ports lent || notOf takeLength lentAnswer) (right e′), or-false (notLong ports lent) (right e))
+
+  pub counts-lent : (lentAnswer ≡ countsLength → ⊥) → lentRefusal ports port ≡ countsNumber ports lent lentAnswer port
+  unfolding lentRefusal countsNumber
+  counts-lent h = rw (or-true (notLong ports lent) (wrong h))
+
+  pub counts-number : lentAnswer ≡ countsLength → countsNumber ports lent lentAnswer port ≡ takeRefusal ports lent port
+  unfolding countsNumber takeRefusal
+  counts-number e = rw (or-false (notLong ports lent) (right e))
 
   module _ (lentReply : ℕ) (rest : Rest) (requester : ℕ) where
     message-lent : (size : ℕ) → (lentAnswer ≡ messageLength → ⊥) → messageNumber ports lent lentReply lentAnswer rest port requester size ≡ lentRefusal ports port

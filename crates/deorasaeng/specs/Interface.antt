@@ -19,14 +19,14 @@ use Rattle.unit.specs.declared.Unit.{Unit}
 use Rattle.unit.specs.Count.{portsOf}
 use Rattle.unit.specs.Model.{Rest, Seen, modelOf}
 use Rattle.checks.specs.Ports.{noPort}
-use Rattle.flat_answers.specs.Answers.{frameLength, takeLength, bytesLength, unitLength, frameWords, takeWords, bytesOfTaken, unitWords}
+use Rattle.flat_answers.specs.Answers.{frameLength, takeLength, bytesLength, unitLength, countsLength, frameWords, takeWords, bytesOfTaken, unitWords, countsWords}
 use Rattle.unit.specs.PowerOn.{notLong}
 use Rattle.unit.specs.Own.{startChecks, claimWord}
 use Rattle.unit.specs.Own.{isClaimed}
 use Rattle.refusals.specs.Refusals.{lateChecks}
 use Rattle.message_answers.specs.Messages.{performedBy, Replied, messageAnswer}
 use Rattle.bridge.specs.Calls.{silentReply, messaged, Messaging}
-use Rattle.bridge.specs.Calls.{Call, FrameIn, TakeOut, Message, Start, ReadUnit, next, queueAt, frameAnswer, takeAnswer, gave, startAnswer}
+use Rattle.bridge.specs.Calls.{Call, FrameIn, TakeOut, Message, Start, ReadUnit, ReadCounts, next, queueAt, frameAnswer, takeAnswer, gave, startAnswer, countsAnswer}
 
 -- ---- what the functions share
 -- 2: lent storage not of its published length
@@ -142,6 +142,15 @@ pub record UnitCall (ports : ℕ) (words answer told : List ℕ) (r : ℕ) : Typ
   pub number : r ≡ unitNumber ports (length words) (length answer)
   pub served : Served ports words words ReadUnit r
   pub tells : told ≡ filled r (unitWords (modelOf ports words .rest .own)) answer
+
+-- ---- deorasaeng_counts: so it is here
+unfoldable pub countsNumber : ℕ → ℕ → ℕ → ℕ → ℕ
+countsNumber ports lent lentAnswer port = first (check (noPort ports port) 1 ∷ check (notLong ports lent || notOf countsLength lentAnswer) 2 ∷ [])
+
+pub record CountsCall (ports : ℕ) (words : List ℕ) (port : ℕ) (answer told : List ℕ) (r : ℕ) : Type 0 where
+  pub number : r ≡ countsNumber ports (length words) (length answer) port
+  pub served : Served ports words words (ReadCounts port) r
+  pub tells : told ≡ filled r (countsWords (countsAnswer ports (length words) (modelOf ports words) port .tally)) answer
 
 -- ---- deorasaeng_take_queue: `before` and `after` are the words of one port's queue
 unfoldable pub queueNumber : ℕ → ℕ → ℕ

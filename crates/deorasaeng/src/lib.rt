@@ -8,10 +8,10 @@ ghost use mathlib.Core.Path.{_≡_};
 ghost use Rattle.unit.specs.Count.{portsOf};
 ghost use Rattle.unit.specs.PowerOn.{PoweringOn};
 ghost use Rattle.bridge.specs.Calls.{Quieting};
-ghost use Rattle.deorasaeng.specs.Interface.{lentRefusal, FrameCall, TakeCall, MessageCall, StartCall, UnitCall, QueueCall};
+ghost use Rattle.deorasaeng.specs.Interface.{lentRefusal, FrameCall, TakeCall, MessageCall, StartCall, UnitCall, CountsCall, QueueCall};
 
 // The version of the interface, which the header names: it rises with every function, number or word that is added.
-pub const VERSION: u64 = 5;
+pub const VERSION: u64 = 6;
 
 // The published lengths of the answers.
 pub const FRAME_WORDS: usize = 8;
@@ -23,6 +23,8 @@ pub const MESSAGE_WORDS: usize = 5;
 pub const START_WORDS: usize = 2;
 
 pub const UNIT_WORDS: usize = 5;
+
+pub const COUNTS_WORDS: usize = 10;
 
 // The number of a call that names a port and lends storage of a wrong length: 1 stands before 2.
 fn lent_refusal(words: &[u64], port: u32) -> u32
@@ -165,6 +167,23 @@ pub extern "C" fn deorasaeng_unit(words: &[u64], answer: &mut [u64]) -> u32
         UnitAnswer::Refused(number) => number,
         UnitAnswer::Told(unit) => flat_answers::tell_unit(answer, unit),
     }
+}
+
+// The counts of a port are read: the frames that wait, by their priority, and those accepted and taken since power-on.
+#[no_mangle]
+pub extern "C" fn deorasaeng_counts(words: &[u64], port: u32, answer: &mut [u64]) -> u32
+    ensures { λ r. ⌜ CountsCall (portsOf (now (words .entry))) (now (words .entry)) port (now (answer .entry)) (now (answer .exit)) r ⌝ }
+{
+    if answer.len() != COUNTS_WORDS {
+        return lent_refusal(words, port);
+    }
+    let counted = bridge::counts(words, port);
+    let refused = counted.refusal;
+    if refused != 0 {
+        return refused;
+    }
+    flat_answers::tell_counts(answer, counted.tally);
+    0
 }
 
 // A queue after a take that was told, and the number that the take gives.

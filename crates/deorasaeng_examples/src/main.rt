@@ -78,6 +78,28 @@ fn unit(record: &[u64]) {
     text(b"\n");
 }
 
+// A refusal leaves the answer, which had 9 in every word.
+fn counts(record: &[u64], word: &[u8], port: u32) {
+    let mut answer = [9u64; deorasaeng::COUNTS_WORDS];
+    head(
+        word,
+        deorasaeng::deorasaeng_counts(record, port, &mut answer),
+    );
+    words(&answer);
+    text(b"\n");
+}
+
+// So with an answer that is a word short.
+fn short_counts(record: &[u64], word: &[u8], port: u32) {
+    let mut answer = [9u64; deorasaeng::COUNTS_WORDS - 1];
+    head(
+        word,
+        deorasaeng::deorasaeng_counts(record, port, &mut answer),
+    );
+    words(&answer);
+    text(b"\n");
+}
+
 fn frame(record: &mut [u64], word: &[u8], port: u32, id: u32, data: &[u8]) {
     let mut answer = [0u64; deorasaeng::FRAME_WORDS];
     head(
@@ -208,14 +230,16 @@ fn ranks_join(record: &mut [u64]) {
     frame(record, b"P11, first 6", 2, 0x18FEF126, b"\x01");
     frame(record, b"P11, second 6", 2, 0x18FEF226, b"\x02\x02");
     frame(record, b"P11, 3", 2, 0x0CFEF326, b"\x03\x03\x03");
+    counts(record, b"P11, counts of 3", 3);
 }
 
-// Three takes, and nothing waits.
+// Three takes, and nothing waits: the fourth isn't counted.
 fn ranks_leave(record: &mut [u64]) {
     take(record, b"P11, first take", 3);
     take(record, b"P11, second take", 3);
     take(record, b"P11, third take", 3);
     take(record, b"P11, fourth take", 3);
+    counts(record, b"P11, counts of 3", 3);
 }
 
 // A frame from port 2.
@@ -239,6 +263,15 @@ fn full(record: &mut [u64]) {
     frame(record, b"12, one more", 2, 0x18FEF126, b"\x01");
     take(record, b"12, a take", 3);
     frame(record, b"12, one more", 2, 0x18FEF126, b"\x01");
+}
+
+// What is counted then: a lost frame isn't. A port that is not there, and an answer of a wrong length.
+fn full_counts(record: &[u64]) {
+    counts(record, b"12, counts of 3", 3);
+    counts(record, b"12, counts of 1", 1);
+    counts(record, b"counts of 5", 5);
+    short_counts(record, b"counts of 3, 9 words", 3);
+    short_counts(record, b"counts of 5, 9 words", 5);
 }
 
 // The preferred address is held under a lower NAME before Start.
@@ -275,13 +308,14 @@ fn wrong_counts(record: &mut [u64]) {
 
 // A unit of eight ports: a frame from the last at the other seven, and a port that is not there.
 fn eight_ports() {
-    let mut space = [0u64; 2937];
+    let mut space = [0u64; 3017];
     let record: &mut [u64] = &mut space;
     power_on_ports(record, b"power-on, 8 ports", 8);
     unit(record);
     frame(record, b"from port 8", 8, 0x18FEF126, b"\x01");
     take(record, b"take 7", 7);
     take(record, b"take 8", 8);
+    counts(record, b"counts of 7", 7);
     frame(record, b"port 9", 9, 0x18FEF126, b"\x01");
 }
 
@@ -310,6 +344,7 @@ fn main() {
     examples(record);
     power_on(record, 0x90);
     full(record);
+    full_counts(record);
     is_lost(record);
     is_taken_over(record);
     wrong_counts(record);

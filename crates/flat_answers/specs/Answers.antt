@@ -4,11 +4,12 @@ use Prim.Native.Nat.{ℕ, _-_}
 use mathlib.Core.Bool.{cond}
 use mathlib.Core.Path.{_≡_}
 use mathlib.Core.List.{List, [], _∷_, _++_}
-use lib.ListN.{take, replicate}
+use lib.ListN.{take, replicate, getD}
 use Rattle.storage.specs.Bytes.{bytesOf}
 use Rattle.queue.specs.declared.Frame.{Frame}
 use Rattle.queue.specs.declared.Taken.{Taken}
 use Rattle.queue.specs.declared.Taken.the-variants.{Given, Nothing}
+use Rattle.queue.specs.declared.Tally.{Tally}
 use Rattle.address_claims.specs.Events.{eventNumber, oldName}
 use Rattle.bridge.specs.declared.FrameAnswer.{FrameAnswer}
 use Rattle.unit.specs.declared.Unit.{Unit}
@@ -61,3 +62,16 @@ unitWords own = claimWord (own .claim) ∷ own .address ∷ own .preferred ∷ o
 pub record TellingUnit (told : List ℕ) (own : Unit) (r : ℕ) : Type 0 where
   pub number : r ≡ 0
   pub tells : told ≡ unitWords own
+
+-- ---- what is counted at a port
+abbrev pub countsLength : ℕ
+countsLength = 10
+
+-- frames waiting at a priority
+abbrev pub waitingAt : Tally → ℕ → ℕ
+waitingAt t rank = getD (t .waiting) rank 0
+
+-- frames waiting at priority 0 to 7, accepted, taken
+abbrev pub countsWords : Tally → List ℕ
+countsWords t =
+    waitingAt t 0 ∷ waitingAt t 1 ∷ waitingAt t 2 ∷ waitingAt t 3 ∷ waitingAt t 4 ∷ waitingAt t 5 ∷ waitingAt t 6 ∷ waitingAt t 7 ∷ t .accepted ∷ t .taken ∷ []

@@ -2,12 +2,13 @@
 use bridge::FrameAnswer;
 use queue::Frame;
 use queue::Taken;
+use queue::Tally;
 use unit::Unit;
 ghost use mathlib.Core.Path.{_≡_};
 ghost use mathlib.Core.Bool.{cond};
 ghost use lib.ListN.{length};
 ghost use Rattle.storage.specs.Bytes.{bytesOf};
-ghost use Rattle.flat_answers.specs.Answers.{frameLength, takeLength, bytesLength, unitLength, frameWords, bytesOfFrame, Telling, TellingUnit};
+ghost use Rattle.flat_answers.specs.Answers.{frameLength, takeLength, bytesLength, unitLength, countsLength, frameWords, countsWords, bytesOfFrame, Telling, TellingUnit};
 
 // The bytes that a take writes.
 pub const FRAME_BYTES: usize = 8;
@@ -100,4 +101,21 @@ pub fn tell_unit(answer: &mut [u64], unit: Unit) -> u32
     answer[3] = unit.name;
     answer[4] = unit.ports as u64;
     0
+}
+
+// What is counted at a port.
+pub fn tell_counts(answer: &mut [u64], tally: Tally)
+    requires { ⌜ length (now answer) ≡ countsLength ⌝ }
+    ensures { λ _. ⌜ now (answer .exit) ≡ countsWords tally ⌝ }
+{
+    answer[0] = tally.waiting[0];
+    answer[1] = tally.waiting[1];
+    answer[2] = tally.waiting[2];
+    answer[3] = tally.waiting[3];
+    answer[4] = tally.waiting[4];
+    answer[5] = tally.waiting[5];
+    answer[6] = tally.waiting[6];
+    answer[7] = tally.waiting[7];
+    answer[8] = tally.accepted;
+    answer[9] = tally.taken;
 }

@@ -7,33 +7,32 @@ use native.Mathlib.Nat.{add-zero, pow-succ', pow-le-pow-right}
 use native.Mathlib.Numerals.{add-one}
 use native.Mathlib.Omega.{arith}
 use lib.ListN.{length}
-use Rattle.delivery.specs.Unit.{joinAll}
 use Rattle.filter.specs.declared.Asked.{Asked}
 use Rattle.filter.specs.Filter.{reasonNumber}
 use Rattle.filter.proofs.Reasons.{reason-below}
 use Rattle.pgn_list.specs.PgnList.{listSize}
 use Rattle.queue.specs.declared.Frame.{Frame}
-use Rattle.queue.specs.Queue.{size}
+use Rattle.queue.specs.Queue.{Queued, sentAll, idle}
 use Rattle.unit.specs.declared.Sent.the-variants.{One}
 use Rattle.forwarding.specs.declared.Share.{Share}
 use Rattle.unit.specs.Ports.{each, mask, digits, total}
-use Rattle.unit.specs.Model.{Rest, modelOf, rowAt, withRow, withRows, recordLength}
+use Rattle.unit.specs.Model.{Rest, modelOf, queueOn, rowAt, withQueue, withQueues, recordLength}
 use Rattle.forwarding.specs.Forwarding.{sentIf, accepts, loses, losesOwn}
 use Rattle.forwarding.specs.Steps.{changedTo, share, forwardedTo, sharesTo, Sending, Forwarding, announcedTo, unsentTo, OwnJoining, Announcing}
 use Rattle.unit.proofs.Ports.{each-later, each-step, mask-step, digits-step, digits-small, total-step, mask-small, choice-small, each-none, mask-none}
-use Rattle.record.proofs.Regions.{rows-long}
+use Rattle.record.proofs.Regions.{queues-long}
 use Rattle.unit.specs.declared.Sent.{Sent}
 
 -- ---- any loop over the ports
--- where it stands: each of the first n rows is changed by itself, and the bit is the next port's
-pub record Along (ports : ℕ) (start : List ℕ) (change : ℕ → List Frame → List Frame) (words : List ℕ) (bit n : ℕ) : Type 0 where
+-- where it stands: each of the first n queues is changed by itself, and the bit is the next port's
+pub record Along (ports : ℕ) (start : List ℕ) (change : ℕ → Queued → Queued) (words : List ℕ) (bit n : ℕ) : Type 0 where
   pub few : ports ≤ 8
   pub whole : length words ≡ recordLength ports
   pub within : n ≤ ports
   pub weight : bit ≡ 2 ^ n
   pub state : modelOf ports words ≡ changedTo n (modelOf ports start) change
 
-module _ {ports : ℕ} {start : List ℕ} {change : ℕ → List Frame → List Frame} where
+module _ {ports : ℕ} {start : List ℕ} {change : ℕ → Queued → Queued} where
   along-start : ports ≤ 8 → length start ≡ recordLength ports → Along ports start change start 1 0
   unfolding each
   along-start few h = record { few = few; whole = h; within = omega arith; weight = refl; state = refl }
@@ -42,17 +41,20 @@ module _ {ports : ℕ} {start : List ℕ} {change : ℕ → List Frame → List 
     rest-still : modelOf ports words .rest ≡ modelOf ports start .rest
     rest-still = rw (A .state)
 
-    -- port n's row is still the one at the start
-    row-still : rowAt (modelOf ports words) n ≡ rowAt (modelOf ports start) n
-    row-still = rw (A .state) (each-later change n (modelOf ports start .rows) n [] (omega arith))
+    -- port n's queue is still the one at the start
+    queue-still : queueOn (modelOf ports words) n ≡ queueOn (modelOf ports start) n
+    queue-still = rw (A .state) (each-later change n (modelOf ports start .queues) n idle (omega arith))
 
-    along-more : {after : List ℕ} → n < ports → length after ≡ recordLength ports → modelOf ports after ≡ withRow (modelOf ports words) n (change n (rowAt (modelOf ports words) n)) → Along ports start change after (2 * bit) (n + 1)
+    row-still : rowAt (modelOf ports words) n ≡ rowAt (modelOf ports start) n
+    row-still = ap (λ (x : Queued). x .row) queue-still
+
+    along-more : {after : List ℕ} → n < ports → length after ≡ recordLength ports → modelOf ports after ≡ withQueue (modelOf ports words) n (change n (queueOn (modelOf ports words) n)) → Along ports start change after (2 * bit) (n + 1)
     along-more more h e = record {
       few = A .few;
       whole = h;
       within = omega arith;
       weight = rw (A .weight, add-one n, pow-succ' 2 n);
-      state = (rw (A .state) at e) ∙ ap (withRows (modelOf ports start)) (each-step change n (modelOf ports start .rows) [] (omega (arith, rows-long ports start)));
+      state = (rw (A .state) at e) ∙ ap (withQueues (modelOf ports start)) (each-step change n (modelOf ports start .queues) idle (omega (arith, queues-long ports start)));
     }
 
     pub bit-small : n < ports → bit ≤ 128
@@ -66,12 +68,12 @@ module _ {ports : ℕ} {start : List ℕ} {change : ℕ → List Frame → List 
 
 -- ---- a forwarded frame, by any question
 pub record Going (ports : ℕ) (start : List ℕ) (question : ℕ → Asked) (f : Frame) (words : List ℕ) (accepted lost reasons compared bit weight n : ℕ) : Type 0 where
-  pub along : Along ports start (λ q row. joinAll size row (sentIf (question q) f)) words bit n
+  pub along : Along ports start (λ q x. sentAll x (sentIf (question q) f)) words bit n
   pub place : weight ≡ 16 ^ n
   pub answer : record { accepted = accepted; lost = lost; reasons = reasons; compared = compared } ≡ sharesTo n (modelOf ports start) question
   pub small : compared ≤ listSize * n
 
--- forwarding changes rows alone, so what is asked of the rest is answered as it was at the start
+-- forwarding changes queues alone, so what is asked of the rest is answered as it was at the start
 pub asked-still : {ports : ℕ} (question : Rest → ℕ → Asked) {start words after : List ℕ} {f : Frame} {accepted lost reasons compared bit weight n : ℕ} {r : Share} → Going ports start (question (modelOf ports start .rest)) f words accepted lost reasons compared bit weight n
     → Sending ports words after (question (modelOf ports words .rest) n) n bit weight f r → Sending ports words after (question (modelOf ports start .rest) n) n bit weight f r
 asked-still question G S = rw (rest-still (G .along)) at S
@@ -139,7 +141,7 @@ module _ {ports : ℕ} {start : List ℕ} {question : ℕ → Asked} {f : Frame}
 
 -- ---- the unit's own frame
 pub record Telling (ports : ℕ) (start : List ℕ) (f : Frame) (words : List ℕ) (lost bit n : ℕ) : Type 0 where
-  pub along : Along ports start (λ q row. joinAll size row (f ∷ [])) words bit n
+  pub along : Along ports start (λ q x. sentAll x (f ∷ [])) words bit n
   pub answer : lost ≡ unsentTo n (modelOf ports start) (One f)
 
 module _ {ports : ℕ} {start : List ℕ} {f : Frame} where
@@ -173,5 +175,5 @@ pub told-nothing : {ports : ℕ} {words : List ℕ} {s : Sent} → s ≡ Sent.No
 unfolding announcedTo unsentTo
 told-nothing {ports} {words} e = record {
   answer = rw (e, mask-none ports);
-  state = rw (e, each-none ports (modelOf ports words .rows));
+  state = rw (e, each-none ports (modelOf ports words .queues));
 }

@@ -11,15 +11,16 @@ use lib.Seq.{set-getD}
 use Rattle.filter.specs.declared.Asked.{Asked}
 use Rattle.filter.specs.Filter.{crosses, reasonNumber, blockSize as filterLength}
 use Rattle.queue.specs.declared.Frame.{Frame}
+use Rattle.queue.specs.Queue.{idle}
 use Rattle.unit.specs.Count.{pairCount}
-use Rattle.unit.specs.Model.{Model, modelOf, rowAt, withRow, pairsFrom, pairAt}
+use Rattle.unit.specs.Model.{Model, modelOf, queueOn, rowAt, withQueue, pairsFrom, pairAt}
 use Rattle.unit.proofs.Count.{pair-below}
 use Rattle.forwarding.specs.Forwarding.{verdict}
 use Rattle.record.specs.Steps.{PairAsking, RowJoining}
 use Rattle.forwarding.specs.Steps.{Sending, Standing, OwnJoining}
 
-row-same : (m : Model) (q : ℕ) → m ≡ withRow m q (rowAt m q)
-row-same m q = rw (set-getD (m .rows) q [])
+queue-same : (m : Model) (q : ℕ) → m ≡ withQueue m q (queueOn m q)
+queue-same m q = rw (set-getD (m .queues) q idle)
 
 -- a reason at its place fits a word
 pub told-small : (weight d : ℕ) → weight ≤ 2 ^ 32 → d < 16 → weight * d ≤ 2 ^ 36
@@ -38,7 +39,7 @@ module _ {ports : ℕ} {before : List ℕ} {p q bit weight : ℕ} (pgn : ℕ) {f
   unfolding verdict
   send-self e = record {
     answer = rw (eq-eqb p q e, mul-zero weight);
-    state = rw (eq-eqb p q e) (row-same (modelOf ports before) q);
+    state = rw (eq-eqb p q e) (queue-same (modelOf ports before) q);
     small = omega arith;
   }
 
@@ -46,7 +47,7 @@ module _ {ports : ℕ} {before : List ℕ} {p q bit weight : ℕ} (pgn : ℕ) {f
     pub send-stopped : crosses (v .reason) ≡ false → Sending ports before before (verdict ports (modelOf ports before .rest .pairs) p pgn q) q bit weight f (record { accepted = 0; lost = 0; reasons = weight * told; compared = v .compared })
     send-stopped e = record {
       answer = rw (verdict-is ne P, e, T);
-      state = rw (verdict-is ne P, e) (row-same (modelOf ports before) q);
+      state = rw (verdict-is ne P, e) (queue-same (modelOf ports before) q);
       small = P .small;
     }
 

@@ -5,23 +5,22 @@ use mathlib.Core.Bool.{cond}
 use mathlib.Core.Logic.{_⊎_}
 use mathlib.Core.Path.{_≡_}
 use mathlib.Core.List.{List, [], _∷_}
-use Rattle.delivery.specs.Unit.{joinAll}
 use Rattle.filter.specs.declared.Asked.{Asked}
 use Rattle.filter.specs.Filter.{reasonNumber, blockSize as filterLength}
 use Rattle.pgn_list.specs.PgnList.{listSize}
 use Rattle.queue.specs.declared.Frame.{Frame}
-use Rattle.queue.specs.Queue.{size}
+use Rattle.queue.specs.Queue.{Queued, sentAll}
 use Rattle.unit.specs.declared.Sent.{Sent}
 use Rattle.unit.specs.Ports.{each, mask, digits, total}
-use Rattle.unit.specs.Model.{Model, rowAt, withRow, withRows, pairsFrom, pairAt, modelOf}
+use Rattle.unit.specs.Model.{Model, queueOn, rowAt, withQueue, withQueues, pairsFrom, pairAt, modelOf}
 use Rattle.unit.specs.Count.{pairCount}
 use Rattle.unit.specs.Own.{framesSent}
 use Rattle.forwarding.specs.declared.Share.{Share}
 use Rattle.forwarding.specs.Forwarding.{verdict, sentIf, accepts, loses, losesOwn}
 
--- ---- any change of the rows at the first n ports, each by itself
-abbrev pub changedTo : ℕ → Model → (ℕ → List Frame → List Frame) → Model
-changedTo n m change = withRows m (each change n (m .rows))
+-- ---- any change of the queues at the first n ports, each by itself
+abbrev pub changedTo : ℕ → Model → (ℕ → Queued → Queued) → Model
+changedTo n m change = withQueues m (each change n (m .queues))
 
 -- ---- a frame, by any question that is asked of a port: where port q answered v, and where the first n ports answered `question`
 abbrev pub share : ℕ → ℕ → Asked → List Frame → Share
@@ -34,7 +33,7 @@ share bit weight v row = record {
 
 pub record Sending (ports : ℕ) (before after : List ℕ) (v : Asked) (q bit weight : ℕ) (f : Frame) (r : Share) : Type 0 where
   pub answer : r ≡ share bit weight v (rowAt (modelOf ports before) q)
-  pub state : modelOf ports after ≡ withRow (modelOf ports before) q (joinAll size (rowAt (modelOf ports before) q) (sentIf v f))
+  pub state : modelOf ports after ≡ withQueue (modelOf ports before) q (sentAll (queueOn (modelOf ports before) q) (sentIf v f))
   pub small : r .compared ≤ listSize
 
 -- from any other port, by the pair whose filter begins at a word, whatever the number of ports
@@ -49,7 +48,7 @@ Standing ports p at n =
     ((n ≤ p) × (at ≡ pairsFrom ports + filterLength * ((ports - 1) * p + n))) ⊎ ((p < n) × (at + filterLength ≡ pairsFrom ports + filterLength * ((ports - 1) * p + n)))
 
 unfoldable pub forwardedTo : ℕ → Model → (ℕ → Asked) → Frame → Model
-forwardedTo n m question f = changedTo n m (λ q row. joinAll size row (sentIf (question q) f))
+forwardedTo n m question f = changedTo n m (λ q x. sentAll x (sentIf (question q) f))
 
 unfoldable pub sharesTo : ℕ → Model → (ℕ → Asked) → Share
 sharesTo n m question = record {
@@ -65,7 +64,7 @@ pub record Forwarding (ports : ℕ) (before after : List ℕ) (question : ℕ �
 
 -- ---- the unit's own frame, at the first n ports
 unfoldable pub announcedTo : ℕ → Model → Sent → Model
-announcedTo n m s = changedTo n m (λ q row. joinAll size row (framesSent s))
+announcedTo n m s = changedTo n m (λ q x. sentAll x (framesSent s))
 
 unfoldable pub unsentTo : ℕ → Model → Sent → ℕ
 unsentTo n m s = mask (λ q. losesOwn s (rowAt m q)) n
@@ -73,7 +72,7 @@ unsentTo n m s = mask (λ q. losesOwn s (rowAt m q)) n
 -- at port q
 pub record OwnJoining (ports : ℕ) (before after : List ℕ) (q bit : ℕ) (f : Frame) (r : ℕ) : Type 0 where
   pub answer : r ≡ cond (losesOwn (Sent.One f) (rowAt (modelOf ports before) q)) bit 0
-  pub state : modelOf ports after ≡ withRow (modelOf ports before) q (joinAll size (rowAt (modelOf ports before) q) (f ∷ []))
+  pub state : modelOf ports after ≡ withQueue (modelOf ports before) q (sentAll (queueOn (modelOf ports before) q) (f ∷ []))
 
 pub record Announcing (ports : ℕ) (before after : List ℕ) (s : Sent) (r : ℕ) : Type 0 where
   pub answer : r ≡ unsentTo ports (modelOf ports before) s

@@ -8,11 +8,11 @@ use mathlib.Core.List.{List}
 use lib.ListN.{length}
 use lib.Dec.{eqb}
 use Rattle.identifier.specs.Identifier.{pgnOf}
-use Rattle.delivery.specs.Row.{room, join}
+use Rattle.delivery.specs.Row.{room}
 use Rattle.filter.specs.declared.Asked.{Asked}
 use Rattle.pgn_list.specs.PgnList.{listSize}
 use Rattle.queue.specs.declared.Frame.{Frame}
-use Rattle.queue.specs.Queue.{size}
+use Rattle.queue.specs.Queue.{size, joined}
 use Rattle.address_claims.specs.declared.Event.{Event}
 use Rattle.unit.specs.declared.Sent.{Sent}
 use Rattle.frame_parts.specs.declared.Arrival.{Arrival}
@@ -21,7 +21,7 @@ use Rattle.frame_parts.specs.declared.JoinAnswer.{JoinAnswer}
 use Rattle.frame_parts.specs.declared.ActAnswer.{ActAnswer}
 use Rattle.frame_parts.specs.declared.AnnounceAnswer.{AnnounceAnswer}
 use Rattle.unit.specs.Count.{portsOf}
-use Rattle.unit.specs.Model.{Rest, Model, rowAt, withRest, withRow, modelOf}
+use Rattle.unit.specs.Model.{Rest, Model, queueOn, rowAt, withRest, withQueue, modelOf}
 use Rattle.unit.specs.Own.{consumes}
 use Rattle.checks.specs.Ports.{noPort}
 use Rattle.refusals.specs.Refusals.{frameRefusal, lengthRefusal}
@@ -78,7 +78,7 @@ joinAnswer ports lent m from to f = record {
 }
 
 unfoldable pub joinedModel : Model → ℕ → ℕ → Frame → Model
-joinedModel m from to f = cond (eqb from to) m (withRow m (to - 1) (join size (rowAt m (to - 1)) f))
+joinedModel m from to f = cond (eqb from to) m (withQueue m (to - 1) (joined (queueOn m (to - 1)) f))
 
 pub record PartJoining (ports : ℕ) (before after : List ℕ) (from to : ℕ) (f : Frame) (r : JoinAnswer) : Type 0 where
   pub answer : r ≡ joinAnswer ports (length before) (modelOf ports before) from to f

@@ -6,7 +6,7 @@
    bytes may be handed in as NULL, 0; any other may not.
 
    Platform: x86-64 Linux, the System V calling convention, any linker for ELF. Needed are memcpy and memset and nothing else: no heap, no call of the operating
-   system, no data outside the record. SSE registers and the red zone are used. Some 16 KB of code and constants, 9,448 bytes of record for four ports, at most 1.1 KB
+   system, no data outside the record. SSE registers and the red zone are used. Some 16 KB of code and constants, 9,768 bytes of record for four ports, at most 1.2 KB
    of stack. For other platforms there is no proved library today; the project's reference/, in safe Rust, is an unproved stand-in.
    docs/INTEGRATION.md has the loop of a box, interrupts, locking and stack.
 
@@ -27,7 +27,7 @@ extern "C" {
 
 /* The version of this interface. A version may add functions, numbers, and words at the end of an answer, whose published length then grows: a call that lends
    the old length is refused with 2. So callers are compiled again with the header of the library that they link. */
-#define DEORASAENG_VERSION 5
+#define DEORASAENG_VERSION 6
 
 /* What a function gives back: 0 for done, else why the call is refused. */
 enum deorasaeng_number {
@@ -64,8 +64,8 @@ enum deorasaeng_number {
 
 /* Published lengths: of the record of a unit with four ports, of one port's queue in it and of one pair's list, in words; of a reply buffer at least, and of a
    frame's bytes, in bytes. */
-#define DEORASAENG_RECORD_WORDS 1181
-#define DEORASAENG_QUEUE_WORDS 65
+#define DEORASAENG_RECORD_WORDS 1221
+#define DEORASAENG_QUEUE_WORDS 75
 #define DEORASAENG_PAIR_WORDS 34
 #define DEORASAENG_REPLY_BYTES 1785
 #define DEORASAENG_FRAME_BYTES 8
@@ -76,12 +76,12 @@ enum deorasaeng_number {
 
 /* The length of the record of a unit with another number of ports, in words, and of one with any number: a constant where `ports` is one. For a number that is not 2 to
    8 it is four's, which is what power-on is to be lent then. */
-#define DEORASAENG_RECORD_WORDS_2 711
-#define DEORASAENG_RECORD_WORDS_3 912
-#define DEORASAENG_RECORD_WORDS_5 1518
-#define DEORASAENG_RECORD_WORDS_6 1923
-#define DEORASAENG_RECORD_WORDS_7 2396
-#define DEORASAENG_RECORD_WORDS_8 2937
+#define DEORASAENG_RECORD_WORDS_2 731
+#define DEORASAENG_RECORD_WORDS_3 942
+#define DEORASAENG_RECORD_WORDS_5 1568
+#define DEORASAENG_RECORD_WORDS_6 1983
+#define DEORASAENG_RECORD_WORDS_7 2466
+#define DEORASAENG_RECORD_WORDS_8 3017
 #define DEORASAENG_RECORD_WORDS_FOR(ports)                                                  \
     ((ports) == 2 ? DEORASAENG_RECORD_WORDS_2 : (ports) == 3 ? DEORASAENG_RECORD_WORDS_3 :  \
      (ports) == 5 ? DEORASAENG_RECORD_WORDS_5 : (ports) == 6 ? DEORASAENG_RECORD_WORDS_6 :  \
@@ -93,6 +93,7 @@ enum deorasaeng_number {
 #define DEORASAENG_MESSAGE_ANSWER 5
 #define DEORASAENG_START_ANSWER 2
 #define DEORASAENG_UNIT_ANSWER 5
+#define DEORASAENG_COUNTS_ANSWER 10
 
 /* The words of a frame's answer. */
 enum deorasaeng_frame_word {
@@ -152,6 +153,13 @@ enum deorasaeng_unit_word {
     DEORASAENG_UNIT_PORTS = 4      /* its number of ports */
 };
 
+/* The words of a port's counts; the frames that wait at priority p stand at DEORASAENG_COUNTS_WAITING + p. Accepted less taken is how many wait. */
+enum deorasaeng_counts_word {
+    DEORASAENG_COUNTS_WAITING = 0,  /* frames waiting at priority 0, the highest rank; the next seven words are priority 1 to 7 */
+    DEORASAENG_COUNTS_ACCEPTED = 8, /* frames accepted since power-on, the unit's own among them: the remainder by 2^64 */
+    DEORASAENG_COUNTS_TAKEN = 9     /* frames taken since power-on: the remainder by 2^64 */
+};
+
 /* Claim states. In Claiming and Claimed the unit has an address, the preferred one. */
 enum deorasaeng_state {
     DEORASAENG_STATE_UNSTARTED = 0,
@@ -174,7 +182,8 @@ enum deorasaeng_event {
     DEORASAENG_BEATEN = 7
 };
 
-/* Power-on of a unit with four ports: every pair cleared, every queue and the address table empty, the unit Unstarted. Whatever the record held. Number 2. */
+/* Power-on of a unit with four ports: every pair cleared, every queue and the address table empty, every count 0, the unit Unstarted. Whatever the record held.
+   Number 2. */
 uint32_t deorasaeng_power_on(uint64_t *record, size_t record_len, uint64_t name, uint32_t preferred);
 
 /* The same with 2 to 8 ports, on a record of DEORASAENG_RECORD_WORDS_FOR(ports) words. Another number of ports is refused with 27, and the record is then that of a
@@ -205,8 +214,11 @@ uint32_t deorasaeng_quiet(uint64_t *record, size_t record_len);
 /* What the unit is: its claim state, address, preferred address, NAME and number of ports. Changes nothing. Number 2. */
 uint32_t deorasaeng_unit(const uint64_t *record, size_t record_len, uint64_t *answer, size_t answer_len);
 
+/* How full a port's queue is: how many frames wait at each priority, how many were accepted and taken. Changes nothing. Numbers 1 and 2. */
+uint32_t deorasaeng_counts(const uint64_t *record, size_t record_len, uint32_t port, uint64_t *answer, size_t answer_len);
+
 /* The take on one port's queue by itself, for a transmit routine that is to touch nothing else: `queue` is record + DEORASAENG_QUEUE_AT(port), or a copy of those
-   words. Answer and bytes as deorasaeng_take's. Number 2. It copies the queue (1.1 KB of stack); deorasaeng_take works in place. */
+   words, the port's counts among them. Answer and bytes as deorasaeng_take's. Number 2. It copies the queue (1.2 KB of stack); deorasaeng_take works in place. */
 uint32_t deorasaeng_take_queue(uint64_t queue[DEORASAENG_QUEUE_WORDS], uint64_t *answer, size_t answer_len, uint8_t *bytes,
                                size_t bytes_len);
 

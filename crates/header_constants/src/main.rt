@@ -10,6 +10,7 @@ use libc::STDIN_FILENO;
 use libc::STDOUT_FILENO;
 use queue::Frame;
 use queue::Taken;
+use queue::Tally;
 use unit::Claim;
 use unit::Unit;
 
@@ -247,8 +248,8 @@ fn record_lengths(head: &[u8], names: &[u8], from: Passed) -> Passed {
     p
 }
 
-// QUEUE_WORDS, PAIR_WORDS, REPLY_BYTES, QUEUES_AT, FRAME_BYTES, and the lengths of the answers to a frame, a take, a message, Start and of the unit.
-const LENGTHS: [u64; 10] = [
+// QUEUE_WORDS, PAIR_WORDS, REPLY_BYTES, QUEUES_AT, FRAME_BYTES, and the lengths of the answers to a frame, a take, a message, Start, of the unit and of the counts.
+const LENGTHS: [u64; 11] = [
     queue::BLOCK_LENGTH as u64,
     filter::BLOCK_SIZE as u64,
     refusals::LONGEST_MESSAGE as u64,
@@ -259,6 +260,7 @@ const LENGTHS: [u64; 10] = [
     deorasaeng::MESSAGE_WORDS as u64,
     deorasaeng::START_WORDS as u64,
     deorasaeng::UNIT_WORDS as u64,
+    deorasaeng::COUNTS_WORDS as u64,
 ];
 
 // The claim states, and the address of a unit that has none.
@@ -365,12 +367,33 @@ fn unit_answer() -> [u64; deorasaeng::UNIT_WORDS] {
 // UNIT_STATE, UNIT_ADDRESS, UNIT_PREFERRED, UNIT_NAME, UNIT_PORTS.
 const UNIT_VALUES: [u64; 5] = [3, 4, 5, 6, 7];
 
+// Counts of 1 to 8 waiting, 9 accepted and 10 taken.
+fn counts_answer() -> [u64; deorasaeng::COUNTS_WORDS] {
+    let mut answer = [0u64; deorasaeng::COUNTS_WORDS];
+    let told = Tally {
+        waiting: [1, 2, 3, 4, 5, 6, 7, 8],
+        accepted: 9,
+        taken: 10,
+    };
+    flat_answers::tell_counts(&mut answer, told);
+    answer
+}
+
+// COUNTS_WAITING, COUNTS_ACCEPTED, COUNTS_TAKEN.
+const COUNTS_VALUES: [u64; 3] = [1, 9, 10];
+
+// What is read of the unit and of a port.
+fn read_answers(head: &[u8], names: &[u8], from: Passed) -> Passed {
+    let p = places(head, names, from, &unit_answer(), &UNIT_VALUES);
+    places(head, names, p, &counts_answer(), &COUNTS_VALUES)
+}
+
 fn answers(head: &[u8], names: &[u8], from: Passed, words: &mut [u64]) -> Passed {
     let mut p = places(head, names, from, &frame_answer(), &FRAME_VALUES);
     p = places(head, names, p, &take_answer(), &TAKE_VALUES);
     p = places(head, names, p, &message_answer(words), &MESSAGE_VALUES);
     p = places(head, names, p, &claim(words), &START_VALUES);
-    places(head, names, p, &unit_answer(), &UNIT_VALUES)
+    read_answers(head, names, p)
 }
 
 fn compare_all(head: &[u8], names: &[u8]) -> u64 {

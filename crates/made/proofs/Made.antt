@@ -6,10 +6,11 @@ use Rattle.bridge.specs.declared.TakeAnswer.{TakeAnswer}
 use Rattle.message_answers.specs.declared.MessageAnswer.{MessageAnswer}
 use Rattle.bridge.specs.declared.StartAnswer.{StartAnswer}
 use Rattle.bridge.specs.declared.UnitAnswer.{UnitAnswer}
+use Rattle.bridge.specs.declared.CountsAnswer.{CountsAnswer}
 use Rattle.unit.specs.Count.{portsOf}
 use Rattle.unit.specs.PowerOn.{PoweringOn}
-use Rattle.bridge.specs.Calls.{Framing, TakingOut, Messaging, Starting, Quieting, Reading}
-use Rattle.made.specs.Made.{Powered, powered, Arrived, arrived, Took, took, Handed, handed, Started, started, Quieted, quieted, Told, told}
+use Rattle.bridge.specs.Calls.{Framing, TakingOut, Messaging, Starting, Quieting, Reading, Counting}
+use Rattle.made.specs.Made.{Powered, powered, Arrived, arrived, Took, took, Handed, handed, Started, started, Quieted, quieted, Told, told, Counted, counted}
 
 pub powering : {words after : List ℕ} {name preferred count r : ℕ} → Powered words name preferred count r after → PoweringOn count words after name preferred r
 powering (powered κs w w′ name preferred count r c) = c tt
@@ -31,3 +32,6 @@ quieting (quieted κs w w′ r c) = c tt
 
 pub reading : {words : List ℕ} {r : UnitAnswer} → Told words r → Reading (portsOf words) words r
 reading (told κs w w′ r c) = c tt
+
+pub counting : {words : List ℕ} {port : ℕ} {r : CountsAnswer} → Counted words port r → Counting (portsOf words) words port r
+counting (counted κs w w′ port r c) = c tt

@@ -11,6 +11,7 @@ use Rattle.bridge.specs.declared.TakeAnswer.{TakeAnswer}
 use Rattle.message_answers.specs.declared.MessageAnswer.{MessageAnswer}
 use Rattle.bridge.specs.declared.StartAnswer.{StartAnswer}
 use Rattle.bridge.specs.declared.UnitAnswer.{UnitAnswer}
+use Rattle.bridge.specs.declared.CountsAnswer.{CountsAnswer}
 use Rattle.unit.proofs.Unit.power_on_ports.Reads as power-on
 use Rattle.bridge.proofs.frame.Reads as frame
 use Rattle.bridge.proofs.take.Reads as take
@@ -18,6 +19,7 @@ use Rattle.bridge.proofs.message.Reads as message
 use Rattle.bridge.proofs.start.Reads as start
 use Rattle.bridge.proofs.quiet.Reads as quiet
 use Rattle.bridge.proofs.unit.Reads as unit
+use Rattle.bridge.proofs.counts.Reads as counts
 
 -- power-on, with a NAME, a preferred address and a count of ports
 pub data Powered : (words : List ℕ) (name preferred count r : ℕ) (after : List ℕ) → Type 0 where
@@ -61,3 +63,9 @@ pub data Told : (words : List ℕ) (r : UnitAnswer) → Type 0 where
   told : (κs : Lfts 1) (w w′ : RefT (List ℕ)) (r : UnitAnswer)
       → (unit.Pre κs (w, tt) → unit.Post κs (w, tt) r (w′, tt))
       → Told (w .now) r
+
+-- so with the counts of a port
+pub data Counted : (words : List ℕ) (port : ℕ) (r : CountsAnswer) → Type 0 where
+  counted : (κs : Lfts 1) (w w′ : RefT (List ℕ)) (port : ℕ) (r : CountsAnswer)
+      → (counts.Pre κs (w, (port, tt)) → counts.Post κs (w, (port, tt)) r (w′, (port, tt)))
+      → Counted (w .now) port r

@@ -18,9 +18,10 @@ use Rattle.bridge.specs.declared.TakeAnswer.{TakeAnswer}
 use Rattle.message_answers.specs.declared.MessageAnswer.{MessageAnswer}
 use Rattle.bridge.specs.declared.StartAnswer.{StartAnswer}
 use Rattle.bridge.specs.declared.UnitAnswer.{UnitAnswer}
+use Rattle.bridge.specs.declared.CountsAnswer.{CountsAnswer}
 use Rattle.unit.specs.Count.{portsOf}
 use Rattle.unit.specs.PowerOn.{PoweringOn}
-use Rattle.bridge.specs.Calls.{Framing, TakingOut, Messaging, Starting, Quieting, Reading}
+use Rattle.bridge.specs.Calls.{Framing, TakingOut, Messaging, Starting, Quieting, Reading, Counting}
 use Rattle.unit.proofs.Unit.power_on_ports.Statement as power-on
 use Rattle.unit.proofs.Unit.power_on_ports.Met as power-on-met
 use Rattle.unit.proofs.Unit.power_on_ports.Reads as power-on-reads
@@ -49,6 +50,10 @@ use Rattle.bridge.proofs.unit.Statement as unit
 use Rattle.bridge.proofs.unit.Met as unit-met
 use Rattle.bridge.proofs.unit.Reads as unit-reads
 use Rattle.bridge.proofs.unit as unit-contract
+use Rattle.bridge.proofs.counts.Statement as counts
+use Rattle.bridge.proofs.counts.Met as counts-met
+use Rattle.bridge.proofs.counts.Reads as counts-reads
+use Rattle.bridge.proofs.counts as counts-contract
 
 -- ---- the code meets its contracts
 pub record Meets (M : Type 1) : Type 2 where
@@ -59,6 +64,7 @@ pub record Meets (M : Type 1) : Type 2 where
   pub starts : start.statement M
   pub quiets : quiet.statement M
   pub tells : unit.statement M
+  pub counted : counts.statement M
 
 pub meets : (M : Type 1) → Meets M
 meets M = record {
@@ -69,6 +75,7 @@ meets M = record {
   starts = start-met.met;
   quiets = quiet-met.met;
   tells = unit-met.met;
+  counted = counts-met.met;
 }
 
 -- ---- what is cited is the contract
@@ -99,6 +106,9 @@ module _ (w u : RefT (List ℕ)) where
 
   pub unit-is : (κs : Lfts 1) (r : UnitAnswer) → _≡_ {A = Type 0} (unit-reads.Post κs (w, tt) r (u, tt)) (Reading (portsOf (w .now)) (w .now) r)
   unit-is κs r = refl
+
+  pub counts-is : (κs : Lfts 1) (port : ℕ) (r : CountsAnswer) → _≡_ {A = Type 0} (counts-reads.Post κs (w, (port, tt)) r (u, (port, tt))) (Counting (portsOf (w .now)) (w .now) port r)
+  counts-is κs port r = refl
 
 -- and so is the clause inside each theorem of `Meets`
 module _ {M : Type 1} (𝓤 : URA M) (H : Heap 𝓤) (A : Atoms 𝓤) (mem : Memory → SProp 𝓤) (run : Routine → Fun 𝓤) (w u : RefT (List ℕ)) where
@@ -132,3 +142,7 @@ module _ {M : Type 1} (𝓤 : URA M) (H : Heap 𝓤) (A : Atoms 𝓤) (mem : Mem
   pub unit-clause : (κs : Lfts 1) (r : UnitAnswer)
       → unit-contract.ensures-1 𝓤 H κs A mem run w (record { entry = w; exit = u }) r ≡ N.connectives 𝓤 .⌜_⌝ (Reading (portsOf (w .now)) (w .now) r)
   unit-clause κs r = refl
+
+  pub counts-clause : (κs : Lfts 1) (port : ℕ) (r : CountsAnswer)
+      → counts-contract.ensures-1 𝓤 H κs A mem run w port (record { entry = w; exit = u }) (record { entry = port; exit = port }) r ≡ N.connectives 𝓤 .⌜_⌝ (Counting (portsOf (w .now)) (w .now) port r)
+  counts-clause κs port r = refl

@@ -40,7 +40,7 @@ accepted = (refl, refl)
 abbrev head : ℕ → ℕ
 head p = p * 2 ^ 26 + 8 * 2 ^ 32
 
-two : rowOf (2 ∷ head 6 ∷ 1 ∷ head 3 ∷ 3 ∷ 7 ∷ 7 ∷ []) ≡ of 6 1 ∷ of 3 3 ∷ []
+two : rowOf (2 ∷ 0 ∷ 0 ∷ 0 ∷ 1 ∷ 0 ∷ 0 ∷ 1 ∷ 0 ∷ 2 ∷ 0 ∷ head 6 ∷ 1 ∷ head 3 ∷ 3 ∷ 7 ∷ 7 ∷ []) ≡ of 6 1 ∷ of 3 3 ∷ []
 unfolding rowOf framesOf framesIn
 two = refl
 

@@ -6,7 +6,8 @@ use mathlib.Core.Option.{some}
 use lib.ListN.{take, drop, getD}
 use Rattle.delivery.specs.Row.{Pulled, pull}
 use Rattle.queue.specs.declared.Frame.{Frame}
-use Rattle.queue.specs.Queue.{frame, priority}
+use Rattle.queue.specs.declared.Tally.{Tally}
+use Rattle.queue.specs.Queue.{frame, rowOf, tallyOf, priority}
 
 -- a frame of zeros: what is read past a list's end
 abbrev pub blank : Frame
@@ -24,3 +25,8 @@ pulledAt i row = record { frame = getD row i blank; others = removeAt i row }
 pub record First (frames : List Frame) (n i : ℕ) : Type 0 where
   pub inside : i < n
   pub pulled : pull priority (take n frames) ≡ some (pulledAt i (take n frames))
+
+-- what is counted became t, and the row is as it was
+pub record Counting (before after : List ℕ) (t : Tally) : Type 0 where
+  pub row : rowOf after ≡ rowOf before
+  pub tally : tallyOf after ≡ t

@@ -14,22 +14,22 @@ use Rattle.filter.specs.declared.Asked.{Asked}
 use Rattle.filter.specs.Filter.{Filter, filterOf, clear, Asking}
 use Rattle.queue.specs.declared.Frame.{Frame}
 use Rattle.queue.specs.declared.Taken.{Taken}
-use Rattle.queue.specs.Queue.{rowOf, Joining, Taking}
+use Rattle.queue.specs.Queue.{rowOf, Queued, queueOf, idle, Joining, Taking}
 use Rattle.addresses.specs.declared.Place.{Place}
 use Rattle.address_claims.specs.declared.Event.{Event}
 use Rattle.addresses.specs.Table.{tableOf}
 use Rattle.unit.specs.Count.{pairCount}
-use Rattle.unit.specs.Model.{modelOf, tableFrom, rowsFrom, pairsFrom, recordLength, pairAt, rowAt, withRow, withRest, withPairs, withTable}
+use Rattle.unit.specs.Model.{modelOf, tableFrom, rowsFrom, pairsFrom, recordLength, pairAt, queueOn, rowAt, withQueue, withRest, withPairs, withTable}
 use Rattle.filter_commands.specs.Steps.{BlockChanging}
 use Rattle.record.specs.Steps.{PairChanging, PairAsking, RowJoining, RowTaking, TableChanging, TableClaiming}
 use Rattle.filter.specs.Filter.{blockSize as filterLength}
 use Rattle.addresses.specs.Table.{tableLength}
 use Rattle.queue.specs.Queue.{blockLength as queueLength}
 
--- there is a row for each port
-pub rows-long : (ports : ℕ) (words : List ℕ) → length (modelOf ports words .rows) ≡ ports
+-- there is a queue for each port
+pub queues-long : (ports : ℕ) (words : List ℕ) → length (modelOf ports words .queues) ≡ ports
 unfolding modelOf
-rows-long ports words = length-blocks rowOf queueLength rowsFrom ports words
+queues-long ports words = length-blocks queueOf queueLength rowsFrom ports words
 
 -- a word outside a part that was lent is as it was
 word-apart : (a k : ℕ) (words ys : List ℕ) → length ys ≡ k → a + k ≤ length words → (n : ℕ) → (n < a) ⊎ (a + k ≤ n) → getD (back a k words ys) n 0 ≡ getD words n 0
@@ -43,28 +43,32 @@ word-apart a k words ys long fits n h =
 
 -- ---- the queue of port q
 module _ (words : List ℕ) (q : ℕ) (inside : rowsFrom + queueLength * q + queueLength ≤ length words) (ports : ℕ) (port : q < ports) where
-  row-of : rowAt (modelOf ports words) q ≡ rowOf (take queueLength (drop (rowsFrom + queueLength * q) words))
+  pub queue-of : queueOn (modelOf ports words) q ≡ queueOf (take queueLength (drop (rowsFrom + queueLength * q) words))
   unfolding modelOf blockAt
-  row-of = blocks-at rowOf queueLength rowsFrom ports words q [] port
+  queue-of = blocks-at queueOf queueLength rowsFrom ports words q idle port
+
+  row-of : rowAt (modelOf ports words) q ≡ rowOf (take queueLength (drop (rowsFrom + queueLength * q) words))
+  unfolding queueOf
+  row-of = ap (λ (x : Queued). x .row) queue-of
 
   module _ (ys : List ℕ) (long : length ys ≡ queueLength) where
-    row-back : modelOf ports (back (rowsFrom + queueLength * q) queueLength words ys) ≡ withRow (modelOf ports words) q (rowOf ys)
+    queue-back : modelOf ports (back (rowsFrom + queueLength * q) queueLength words ys) ≡ withQueue (modelOf ports words) q (queueOf ys)
     unfolding modelOf
-    row-back =
+    queue-back =
         rw (
           part-before (rowsFrom + queueLength * q) queueLength words ys long (omega arith) 0 5 (omega arith),
           blocks-apart (rowsFrom + queueLength * q) queueLength words ys long (omega arith) filterOf filterLength (pairsFrom ports) (pairCount ports) (inr (omega arith)),
-          blocks-set rowsFrom queueLength words ys q long (omega arith) rowOf ports port,
+          blocks-set rowsFrom queueLength words ys q long (omega arith) queueOf ports port,
           part-apart (rowsFrom + queueLength * q) queueLength words ys long (omega arith) tableFrom tableLength (inl (omega arith)),
         )
 
     pub row-joined : (f : Frame) (r : Bool) → Joining (take queueLength (drop (rowsFrom + queueLength * q) words)) ys f r → RowJoining ports words (back (rowsFrom + queueLength * q) queueLength words ys) q f r
-    row-joined f r J = record { answer = rw row-of (J .answer); state = rw (row-back, row-of, J .row) }
+    row-joined f r J = record { answer = rw row-of (J .answer); state = rw (queue-back, queue-of, J .state) }
 
     pub row-taken : (r : Taken) → Taking (take queueLength (drop (rowsFrom + queueLength * q) words)) ys r → RowTaking ports words (back (rowsFrom + queueLength * q) queueLength words ys) q r
     row-taken r T = record {
       answer = rw row-of (T .answer);
-      state = rw (row-back, row-of, T .row);
+      state = rw (queue-back, queue-of, T .state);
       ahead = part-before (rowsFrom + queueLength * q) queueLength words ys long (omega arith) 0 (rowsFrom + queueLength * q) (omega arith);
       behind = part-after (rowsFrom + queueLength * q) queueLength words ys long (omega arith) (rowsFrom + queueLength * q + queueLength) (omega arith);
     }
@@ -77,7 +81,7 @@ pair-lent ports words ys i full pair long =
     rw (
       part-before (pairsFrom ports + filterLength * i) filterLength words ys long (omega arith) 0 5 (omega arith),
       blocks-set (pairsFrom ports) filterLength words ys i long (omega arith) filterOf (pairCount ports) pair,
-      blocks-apart (pairsFrom ports + filterLength * i) filterLength words ys long (omega arith) rowOf queueLength rowsFrom ports (inl (omega arith)),
+      blocks-apart (pairsFrom ports + filterLength * i) filterLength words ys long (omega arith) queueOf queueLength rowsFrom ports (inl (omega arith)),
       part-apart (pairsFrom ports + filterLength * i) filterLength words ys long (omega arith) tableFrom tableLength (inl (omega arith)),
     )
 
@@ -112,7 +116,7 @@ module _ (words ys : List ℕ) (inside : rowsFrom ≤ length words) (long : leng
       rw (
         part-before tableFrom tableLength words ys long (omega arith) 0 5 (omega arith),
         blocks-apart tableFrom tableLength words ys long (omega arith) filterOf filterLength (pairsFrom ports) (pairCount ports) (inr (omega arith)),
-        blocks-apart tableFrom tableLength words ys long (omega arith) rowOf queueLength rowsFrom ports (inr (omega arith)),
+        blocks-apart tableFrom tableLength words ys long (omega arith) queueOf queueLength rowsFrom ports (inr (omega arith)),
         part-in tableFrom tableLength words ys long (omega arith),
       )
 

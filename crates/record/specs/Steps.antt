@@ -6,16 +6,16 @@ use mathlib.Core.Logic.{_⊎_}
 use mathlib.Core.Path.{_≡_}
 use mathlib.Core.List.{List}
 use lib.ListN.{take, drop, getD, set}
-use Rattle.delivery.specs.Row.{room, join, pull, given, kept}
+use Rattle.delivery.specs.Row.{room, pull, given}
 use Rattle.filter.specs.declared.Asked.{Asked}
 use Rattle.filter.specs.Filter.{Filter, clear, asked, blockSize as filterLength}
 use Rattle.pgn_list.specs.PgnList.{listSize}
 use Rattle.queue.specs.declared.Frame.{Frame}
 use Rattle.queue.specs.declared.Taken.{Taken}
-use Rattle.queue.specs.Queue.{size, priority, takenOf, blockLength as queueLength}
+use Rattle.queue.specs.Queue.{size, priority, takenOf, joined, taking, blockLength as queueLength}
 use Rattle.addresses.specs.declared.Place.{Place}
 use Rattle.address_claims.specs.declared.Event.{Event}
-use Rattle.unit.specs.Model.{rowAt, pairAt, withRest, withPairs, withTable, withRow, pairsFrom, rowsFrom, modelOf}
+use Rattle.unit.specs.Model.{queueOn, rowAt, pairAt, withRest, withPairs, withTable, withQueue, pairsFrom, rowsFrom, modelOf}
 
 -- the address table was changed, and what came of a claim there
 pub record TableChanging (ports : ℕ) (before after : List ℕ) (change : List Place → List Place) : Type 0 where
@@ -39,11 +39,11 @@ pub record PairChanging (ports : ℕ) (before after : List ℕ) (i : ℕ) (chang
 -- a frame was sent to port q
 pub record RowJoining (ports : ℕ) (before after : List ℕ) (q : ℕ) (f : Frame) (r : Bool) : Type 0 where
   pub answer : r ≡ room size (rowAt (modelOf ports before) q)
-  pub state : modelOf ports after ≡ withRow (modelOf ports before) q (join size (rowAt (modelOf ports before) q) f)
+  pub state : modelOf ports after ≡ withQueue (modelOf ports before) q (joined (queueOn (modelOf ports before) q) f)
 
 -- a take was made on port q
 pub record RowTaking (ports : ℕ) (before after : List ℕ) (q : ℕ) (r : Taken) : Type 0 where
   pub answer : r ≡ takenOf (given (pull priority (rowAt (modelOf ports before) q)))
-  pub state : modelOf ports after ≡ withRow (modelOf ports before) q (kept (pull priority (rowAt (modelOf ports before) q)))
+  pub state : modelOf ports after ≡ withQueue (modelOf ports before) q (taking (queueOn (modelOf ports before) q))
   pub ahead : take (rowsFrom + queueLength * q) after ≡ take (rowsFrom + queueLength * q) before
   pub behind : drop (rowsFrom + queueLength * q + queueLength) after ≡ drop (rowsFrom + queueLength * q + queueLength) before

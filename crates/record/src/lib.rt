@@ -6,6 +6,7 @@ use filter_commands::pairs::Change;
 use filter_commands::pairs::Question;
 use queue::Frame;
 use queue::Taken;
+use queue::Tally;
 use unit::Unit;
 ghost use mathlib.Core.Path.{_≡_};
 ghost use Prim.Native.Nat.{ℕ, _+_, _-_, _*_, _≤_, _<_};
@@ -18,7 +19,7 @@ ghost use Rattle.queue.specs.Queue.{blockLength as queueLength};
 ghost use Rattle.replies.specs.Replies.{listReply, addressReply, Writing};
 ghost use Rattle.filter_commands.specs.Pairs.{holdsOf, changeOf};
 ghost use Rattle.unit.specs.Count.{pairCount};
-ghost use Rattle.unit.specs.Model.{modelOf, recordLength, rowsFrom, pairsFrom, pairAt};
+ghost use Rattle.unit.specs.Model.{modelOf, queueOn, recordLength, rowsFrom, pairsFrom, pairAt};
 ghost use Rattle.record.specs.Steps.{PairChanging, PairAsking, RowJoining, RowTaking, TableChanging, TableClaiming};
 
 // The place of a port's first pair among the pairs.
@@ -125,6 +126,16 @@ pub fn take_row(words: &mut [u64], q: usize) -> Taken
     let a = Unit::QUEUES_AT + queue::BLOCK_LENGTH * q;
     let e = a + queue::BLOCK_LENGTH;
     queue::take(&mut words[a..e])
+}
+
+// What is counted at a port.
+pub fn counts_at(words: &[u64], q: usize) -> Tally
+    requires { ⌜ rowsFrom + queueLength * q + queueLength ≤ length (now words) ⌝ }
+    ensures { λ r. ⌜ ((ports : ℕ) → q < ports → r ≡ queueOn (modelOf ports (now (words .entry))) q .tally) ⌝ }
+{
+    let a = Unit::QUEUES_AT + queue::BLOCK_LENGTH * q;
+    let e = a + queue::BLOCK_LENGTH;
+    queue::counts(&words[a..e])
 }
 
 // Who holds an address.

@@ -1,6 +1,7 @@
 // One line of a script: its call on the unit, counted, and the answer as a line.
 use address_claims::Event;
 use bridge::Absent;
+use bridge::CountsAnswer;
 use bridge::FrameAnswer;
 use bridge::MessageAnswer;
 use bridge::StartAnswer;
@@ -8,12 +9,14 @@ use bridge::TakeAnswer;
 use bridge::UnitAnswer;
 use queue::Frame;
 use queue::Taken;
+use queue::Tally;
 use script::Call;
 use script::Wrong;
 use script_output::print;
 use script_output::reasons;
 use script_output::tally;
 use script_output::words;
+use std::num::wrapping_add_u64;
 use unit::Claim;
 use unit::NO_ADDRESS;
 use unit::Unit;
@@ -21,7 +24,7 @@ ghost use Prim.Native.Nat.{_≤_};
 ghost use lib.ListN.{length};
 
 // How many words the record of the largest unit takes, one of eight ports.
-pub const MOST_WORDS: usize = 2937;
+pub const MOST_WORDS: usize = Unit::QUEUES_AT + queue::BLOCK_LENGTH * 8 + filter::BLOCK_SIZE * 56;
 
 // A line that is no call, or a call without a unit: its number and why.
 fn no_call(counts: &mut [u64], why: Wrong, out: &mut [u8]) -> usize
@@ -310,6 +313,63 @@ fn take(words: &mut [u64], counts: &mut [u64], port: u32, out: &mut [u8]) -> usi
     }
 }
 
+// The frames that wait, by their priority.
+fn by_priority(out: &mut [u8], at: usize, waiting: &[u64]) -> usize
+    requires { ⌜ at ≤ length (now out) ⌝ }
+    ensures { λ r. ⌜ r ≤ length (now (out .entry)) ⌝ }
+{
+    let mut next = at;
+    let mut i = 0;
+    while i < waiting.len() {
+        next = print::next_number(out, next, waiting[i]);
+        i += 1;
+    }
+    next
+}
+
+// All that wait.
+fn all(waiting: &[u64]) -> u64 {
+    let mut total: u64 = 0;
+    let mut i = 0;
+    while i < waiting.len() {
+        total = wrapping_add_u64(total, waiting[i]);
+        i += 1;
+    }
+    total
+}
+
+// Both, and the frames accepted and taken since power-on.
+fn counted(out: &mut [u8], t: Tally) -> usize
+    ensures { λ r. ⌜ r ≤ length (now (out .entry)) ⌝ }
+{
+    let waiting = t.waiting;
+    let at = print::byte(out, 0, b'C');
+    let at = by_priority(out, at, &waiting);
+    let at = print::count(out, at, b"  waiting ", all(&waiting));
+    let at = print::count(out, at, b", accepted ", t.accepted);
+    print::count(out, at, b", taken ", t.taken)
+}
+
+// A port's counts, or the number that refused the call.
+fn counts_answer(out: &mut [u8], a: CountsAnswer) -> usize
+    ensures { λ r. ⌜ r ≤ length (now (out .entry)) ⌝ }
+{
+    if a.refusal != 0 {
+        return refused(out, b'C', a.refusal);
+    }
+    let t = a.tally;
+    counted(out, t)
+}
+
+// A port's counts are read.
+fn read_counts(words: &[u64], counts: &mut [u64], port: u32, out: &mut [u8]) -> usize
+    ensures { λ r. ⌜ r ≤ length (now (out .entry)) ⌝ }
+{
+    let a = bridge::counts(words, port);
+    tally::call(counts, tally::COUNTS, a.refusal);
+    counts_answer(out, a)
+}
+
 // The number, the PGN, the length and the bytes that were written.
 fn written(out: &mut [u8], a: MessageAnswer, reply: &[u8]) -> usize
     ensures { λ r. ⌜ r ≤ length (now (out .entry)) ⌝ }
@@ -422,6 +482,7 @@ fn make(words: &mut [u64], counts: &mut [u64], line: &[u8], call: Call, out: &mu
         Call::Frame { port, id } => frame(words, counts, line, port, id, out),
         Call::Take { port } => take(words, counts, port, out),
         Call::Message { port, requester } => message(words, counts, line, port, requester, out),
+        Call::ReadCounts { port } => read_counts(words, counts, port, out),
         _ => make_of_unit(words, counts, call, out),
     }
 }

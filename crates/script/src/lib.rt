@@ -27,6 +27,9 @@ pub enum Call {
         port: u32,
         requester: u32,
     },
+    ReadCounts {
+        port: u32,
+    },
 }
 
 // What a word after the letter stands for; `End` where a call has no more.
@@ -307,7 +310,7 @@ pub fn what_is_wrong(line: &[u8]) -> Wrong {
         b'P' => fields(line, Field::Name, Field::Preferred, Field::Ports),
         b'S' | b'Q' | b'U' => fields(line, Field::End, Field::End, Field::End),
         b'F' => fields(line, Field::Port, Field::Identifier, Field::Bytes),
-        b'T' => fields(line, Field::Port, Field::End, Field::End),
+        b'T' | b'C' => fields(line, Field::Port, Field::End, Field::End),
         b'M' => fields(line, Field::Port, Field::Requester, Field::Payload),
         _ => Wrong::NoLetter,
     }
@@ -375,6 +378,13 @@ fn take(line: &[u8]) -> Call {
     }
 }
 
+// C PORT
+fn counts(line: &[u8]) -> Call {
+    Call::ReadCounts {
+        port: decimal_at(line, 1),
+    }
+}
+
 // The call that a line is, if nothing is wrong with it.
 pub fn read_call(line: &[u8]) -> Call {
     if line.len() == 0 {
@@ -388,6 +398,7 @@ pub fn read_call(line: &[u8]) -> Call {
         b'F' => frame(line),
         b'T' => take(line),
         b'M' => message(line),
+        b'C' => counts(line),
         _ => Call::Start,
     }
 }

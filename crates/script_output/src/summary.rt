@@ -153,11 +153,12 @@ fn beginnings(counts: &mut [u64], out: &mut [u8]) {
     claims(counts, out);
 }
 
-// Frames, what became of them at each port, and takes.
+// Frames, what became of them at each port, takes, and how often a port's counts were read.
 fn traffic(counts: &mut [u64], out: &mut [u8]) {
     frames(counts, out);
     ports(counts, out);
     takes(counts, out);
+    done(counts, out, b"counts ", b": told ", tally::COUNTS);
 }
 
 // The summary.

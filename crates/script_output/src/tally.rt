@@ -19,8 +19,10 @@ pub const MESSAGE: usize = 5 * NUMBERS;
 
 pub const UNIT: usize = 6 * NUMBERS;
 
-// A word for each port: frames that it accepted, that it lost, and the unit's own that it lost.
-pub const ACCEPTED: usize = 7 * NUMBERS;
+pub const COUNTS: usize = 7 * NUMBERS;
+
+// A word for each port: forwarded frames that it accepted, that it lost, and the unit's own that it lost.
+pub const ACCEPTED: usize = 8 * NUMBERS;
 
 pub const LOST: usize = ACCEPTED + 8;
 

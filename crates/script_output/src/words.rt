@@ -161,7 +161,7 @@ fn other(out: &mut [u8], at: usize, w: Wrong) -> usize
         at,
         b"|\
           longer than 4,096 bytes|\
-          the first word is none of P S Q F T M U|\
+          the first word is none of P S Q F T M U C|\
           more words than the call has|\
           no unit yet: a power-on, P, comes first",
         other_place(w),

@@ -13,7 +13,7 @@ use Rattle.storage.proofs.Parts.{back, part-in, part-apart}
 use Rattle.storage.proofs.Blocks.{blocks-apart, blocks-filled, part-filled}
 use Rattle.filter.specs.Filter.{filterOf, meant, clear}
 use Rattle.filter.specs.Filter.{blockSize as filterLength}
-use Rattle.queue.specs.Queue.{rowOf}
+use Rattle.queue.specs.Queue.{rowOf, tallyOf, queueOf, idle}
 use Rattle.queue.specs.Queue.{blockLength as queueLength}
 use Rattle.addresses.specs.declared.Place.the-variants.{Free}
 use Rattle.addresses.specs.Table.{places, placeFrom, placeOf, tableOf, tableLength}
@@ -99,7 +99,7 @@ own-stored words u w full a p l m e ports =
       part-in 0 5 words ys refl (omega arith),
       unit-of-five u a p l m,
       blocks-apart 0 5 words ys refl (omega arith) filterOf filterLength (pairsFrom ports) (pairCount ports) (inr (omega arith)),
-      blocks-apart 0 5 words ys refl (omega arith) rowOf queueLength rowsFrom ports (inr (omega arith)),
+      blocks-apart 0 5 words ys refl (omega arith) queueOf queueLength rowsFrom ports (inr (omega arith)),
       part-apart 0 5 words ys refl (omega arith) tableFrom tableLength (inr (omega arith)),
     )
 
@@ -108,9 +108,9 @@ no-filter : filterOf (replicate filterLength 0) ≡ clear
 unfolding filterOf meant
 no-filter = refl
 
-no-row : rowOf (replicate queueLength 0) ≡ []
-unfolding rowOf
-no-row = refl
+no-queue : queueOf (replicate queueLength 0) ≡ idle
+unfolding queueOf rowOf tallyOf
+no-queue = refl
 
 no-place : placeOf (replicate 2 0) ≡ Free
 unfolding placeOf placeFrom
@@ -122,18 +122,18 @@ no-table n e = rw (blocks-filled n 0 placeOf 2 0 254 (omega arith), no-place)
 
 pub wiped : (n ports : ℕ) (u : Unit) → n ≡ recordLength ports → withRest (modelOf ports (replicate n 0)) (withOwn (modelOf ports (replicate n 0) .rest) u) ≡ record {
   rest = record { own = u; pairs = replicate (pairCount ports) clear; table = replicate places Free };
-  rows = replicate ports [];
+  queues = replicate ports idle;
   seen = record {};
 }
 unfolding modelOf
 wiped n ports u e =
     rw (
       blocks-filled n 0 filterOf filterLength (pairsFrom ports) (pairCount ports) (omega arith),
-      blocks-filled n 0 rowOf queueLength rowsFrom ports (omega arith),
+      blocks-filled n 0 queueOf queueLength rowsFrom ports (omega arith),
       part-filled n 0 tableFrom tableLength (omega arith),
       no-table tableLength refl,
       no-filter,
-      no-row,
+      no-queue,
     )
 
 module _ {words : List ℕ} {count name preferred : ℕ} where

@@ -1,5 +1,5 @@
 -- The model of a unit, which is the book of document 01: the pairs, the address table, the unit itself, and for each port a row of frames in order of
--- joining. And what a record of words means as a model. All is over the number of ports; ports are counted from 0 here.
+-- joining, with what is counted there. And what a record of words means as a model. All is over the number of ports; ports are counted from 0 here.
 -- Assumes nothing.
 use Prim.Native.Nat.{ℕ, zero, suc, _+_, _-_, _*_, _%_, _^_}
 use mathlib.Core.Bool.{cond}
@@ -10,7 +10,7 @@ use Rattle.storage.specs.Blocks.{blocksOf}
 use Rattle.filter.specs.Filter.{Filter, filterOf}
 use Rattle.filter.specs.Filter.{blockSize as filterLength}
 use Rattle.queue.specs.declared.Frame.{Frame}
-use Rattle.queue.specs.Queue.{rowOf}
+use Rattle.queue.specs.Queue.{Queued, queueOf, idle}
 use Rattle.queue.specs.Queue.{blockLength as queueLength}
 use Rattle.addresses.specs.declared.Place.{Place}
 use Rattle.addresses.specs.Table.{tableLength, tableOf}
@@ -31,12 +31,15 @@ pub record Seen : Type 0 where
 
 pub record Model : Type 0 where
   pub rest : Rest
-  pub rows : List (List Frame)
+  pub queues : List Queued
   pub seen : Seen
 
--- port q's row
+-- port q's queue, and its row
+abbrev pub queueOn : Model → ℕ → Queued
+queueOn m q = getD (m .queues) q idle
+
 abbrev pub rowAt : Model → ℕ → List Frame
-rowAt m q = getD (m .rows) q []
+rowAt m q = queueOn m q .row
 
 -- the place of pair p to q, which are not equal, among the pairs: in order of p, then of q
 abbrev pub pairAt : ℕ → ℕ → ℕ → ℕ
@@ -53,13 +56,13 @@ abbrev pub withTable : Rest → List Place → Rest
 withTable rest table = record { own = rest .own; pairs = rest .pairs; table = table }
 
 abbrev pub withRest : Model → Rest → Model
-withRest m rest = record { rest = rest; rows = m .rows; seen = m .seen }
+withRest m rest = record { rest = rest; queues = m .queues; seen = m .seen }
 
-abbrev pub withRows : Model → List (List Frame) → Model
-withRows m rows = record { rest = m .rest; rows = rows; seen = m .seen }
+abbrev pub withQueues : Model → List Queued → Model
+withQueues m queues = record { rest = m .rest; queues = queues; seen = m .seen }
 
-abbrev pub withRow : Model → ℕ → List Frame → Model
-withRow m q row = withRows m (set (m .rows) q row)
+abbrev pub withQueue : Model → ℕ → Queued → Model
+withQueue m q x = withQueues m (set (m .queues) q x)
 
 -- ---- the record
 -- the unit's own words: claim state, address, preferred address, NAME, number of ports
@@ -101,6 +104,6 @@ modelOf ports words = record {
     pairs = blocksOf (pairsFrom ports) filterLength (pairCount ports) filterOf words;
     table = tableOf (take tableLength (drop tableFrom words));
   };
-  rows = blocksOf rowsFrom queueLength ports rowOf words;
+  queues = blocksOf rowsFrom queueLength ports queueOf words;
   seen = record {};
 }

@@ -7,6 +7,7 @@ use mathlib.Core.Path.{_≡_}
 use lib.Dec.{eqb}
 use lib.ListN.{length, replicate}
 use Rattle.filter.specs.Filter.{clear}
+use Rattle.queue.specs.Queue.{idle}
 use Rattle.addresses.specs.declared.Place.the-variants.{Free}
 use Rattle.addresses.specs.Table.{places}
 use Rattle.checks.specs.Checks.{check, first}
@@ -22,11 +23,11 @@ notLong ports lent = not (eqb lent (recordLength ports))
 unfoldable pub powerOnRefusal : ℕ → ℕ → ℕ
 powerOnRefusal count lent = first (check (notLong (countOf count) lent) 2 ∷ check (not (isCount count)) 27 ∷ [])
 
--- power-on: every pair cleared, every queue empty, the table empty, the unit Unstarted
+-- power-on: every pair cleared, every queue empty and nothing counted, the table empty, the unit Unstarted
 abbrev pub fresh : ℕ → ℕ → ℕ → Model
 fresh ports name preferred = record {
   rest = record { own = freshUnit name preferred ports; pairs = replicate (pairCount ports) clear; table = replicate places Free };
-  rows = replicate ports [];
+  queues = replicate ports idle;
   seen = record {};
 }
 

@@ -19,7 +19,7 @@ use Rattle.bridge.specs.declared.UnitAnswer.the-variants.{Told}
 use Rattle.unit.specs.Count.{countOf, portsOf}
 use Rattle.unit.specs.Model.{Model, modelOf, recordLength}
 use Rattle.unit.specs.PowerOn.{PoweringOn}
-use Rattle.demand_3.specs.Demand3.{Answer, ToFrame, ToTake, ToMessage, ToStart, ToQuiet, ToUnit, next, answer}
+use Rattle.demand_3.specs.Demand3.{Answer, ToFrame, ToTake, ToMessage, ToStart, ToQuiet, ToUnit, ToCounts, next, answer}
 use Rattle.unit.proofs.Own.{own-ports}
 use Rattle.demand_3.proofs.Demand3.{power-on-goes}
 use Rattle.witness.specs.Encoding.{callWords, answerWords, callOf, code, codes}
@@ -37,6 +37,7 @@ code-long (ToStart r) = refl
 code-long (ToQuiet number) = refl
 code-long (ToUnit (UnitAnswer.Refused number)) = refl
 code-long (ToUnit (Told own)) = refl
+code-long (ToCounts r) = refl
 
 codes-long : (xs : List Answer) → length (codes xs) ≡ answerWords * length xs
 codes-long [] = refl

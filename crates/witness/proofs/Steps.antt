@@ -1,38 +1,29 @@
 -- One call, written down: an answer's words, the bytes that a call names, and the book's move by the contract of the call. Assumes nothing.
 use mathlib.Core.Path.{_≡_, refl, sym, ap, _∙_}
-use mathlib.Core.List.{List, [], _∷_}
+use mathlib.Core.List.{List, [], _∷_, append-nil}
 use Prim.Native.Nat.{ℕ, _+_, _-_, _≤_, min}
 use native.Mathlib.Decide.{decLt}
+use native.Mathlib.Nat.{zero-add}
 use native.Mathlib.Omega.{arith}
-use lib.ListN.{length, set, take, drop, drop-of-length-le}
-use lib.Seq.{take-all, take-add, drop-at, length-take-le}
+use lib.ListN.{length, take, drop, drop-of-length-le}
+use lib.Seq.{sets, sets-eq, drop-length, take-all, take-add, drop-at, length-take-le}
 use Rattle.bridge.specs.declared.FrameAnswer.{FrameAnswer}
 use Rattle.bridge.specs.declared.TakeAnswer.{TakeAnswer}
 use Rattle.message_answers.specs.declared.MessageAnswer.{MessageAnswer}
 use Rattle.bridge.specs.declared.StartAnswer.{StartAnswer}
 use Rattle.bridge.specs.declared.UnitAnswer.{UnitAnswer}
+use Rattle.bridge.specs.declared.CountsAnswer.{CountsAnswer}
 use Rattle.unit.specs.Own.{claimWord}
 use Rattle.unit.specs.Count.{portsOf}
 use Rattle.unit.specs.Model.{recordLength}
-use Rattle.bridge.specs.Calls.{FrameIn, TakeOut, Message, Start, Quiet, ReadUnit, Framing, TakingOut, Messaging, Starting, Quieting, Reading}
-use Rattle.demand_3.specs.Demand3.{ToFrame, ToTake, ToUnit, answer}
-use Rattle.witness.specs.Encoding.{answerWords, partOf, code}
+use Rattle.bridge.specs.Calls.{FrameIn, TakeOut, Message, Start, Quiet, ReadUnit, ReadCounts, Framing, TakingOut, Messaging, Starting, Quieting, Reading, Counting}
+use Rattle.demand_3.specs.Demand3.{ToFrame, ToTake, ToUnit, ToCounts, answer}
+use Rattle.witness.specs.Encoding.{partOf, padded, code}
 use Rattle.witness.specs.Replay.{Stepping}
 
--- nine words stored
-pub nine : (xs : List ℕ) (a b c d e f g h i : ℕ) → length xs ≡ answerWords
-    → set (set (set (set (set (set (set (set (set xs 0 a) 1 b) 2 c) 3 d) 4 e) 5 f) 6 g) 7 h) 8 i ≡ a ∷ b ∷ c ∷ d ∷ e ∷ f ∷ g ∷ h ∷ i ∷ []
-nine [] a b c d e f g h i l = absurd (omega arith)
-nine (_ ∷ []) a b c d e f g h i l = absurd (omega arith)
-nine (_ ∷ _ ∷ []) a b c d e f g h i l = absurd (omega arith)
-nine (_ ∷ _ ∷ _ ∷ []) a b c d e f g h i l = absurd (omega arith)
-nine (_ ∷ _ ∷ _ ∷ _ ∷ []) a b c d e f g h i l = absurd (omega arith)
-nine (_ ∷ _ ∷ _ ∷ _ ∷ _ ∷ []) a b c d e f g h i l = absurd (omega arith)
-nine (_ ∷ _ ∷ _ ∷ _ ∷ _ ∷ _ ∷ []) a b c d e f g h i l = absurd (omega arith)
-nine (_ ∷ _ ∷ _ ∷ _ ∷ _ ∷ _ ∷ _ ∷ []) a b c d e f g h i l = absurd (omega arith)
-nine (_ ∷ _ ∷ _ ∷ _ ∷ _ ∷ _ ∷ _ ∷ _ ∷ []) a b c d e f g h i l = absurd (omega arith)
-nine (_ ∷ _ ∷ _ ∷ _ ∷ _ ∷ _ ∷ _ ∷ _ ∷ _ ∷ []) a b c d e f g h i l = refl
-nine (_ ∷ _ ∷ _ ∷ _ ∷ _ ∷ _ ∷ _ ∷ _ ∷ _ ∷ _ ∷ xs) a b c d e f g h i l = absurd (omega arith)
+-- as many words as there is room for, stored from the first on, are the words
+pub stored : (words room : List ℕ) → length room ≡ length words → sets room 0 words ≡ words
+stored words room e = sets-eq words room 0 (omega arith) ∙ rw (zero-add (length words), ← e, drop-length room) (append-nil words)
 
 -- ---- the bytes that a call names
 part-in : (bytes : List ℕ) (a e : ℕ) → a ≤ e → e ≤ length bytes → take (e - a) (drop a bytes) ≡ drop a (take e bytes)
@@ -72,27 +63,27 @@ module _ {w w′ out : List ℕ} (long : length w ≡ recordLength (portsOf w)) 
   take-step l o = record { state = rw long at (l .call .state); answer = o ∙ ap (λ r. code (ToTake r)) (rw long at (l .answer)); ports = l .call .count }
 
   pub message-step : {port requester : ℕ} {payload lent back : List ℕ} {r : MessageAnswer} → Messaging (portsOf w) w w′ port requester payload lent back r
-      → out ≡ r .refusal ∷ r .pgn ∷ r .length ∷ r .told .entry ∷ r .told .to ∷ r .told .pgn ∷ 0 ∷ 0 ∷ 0 ∷ [] → Stepping w w′ (Message port requester payload (length lent)) out
+      → out ≡ padded (r .refusal ∷ r .pgn ∷ r .length ∷ r .told .entry ∷ r .told .to ∷ r .told .pgn ∷ []) → Stepping w w′ (Message port requester payload (length lent)) out
   unfolding answer code
   message-step {r} l o = record {
     state = rw long at (l .call .state);
-    answer = o ∙ ap (λ (r : MessageAnswer). r .refusal ∷ r .pgn ∷ r .length ∷ r .told .entry ∷ r .told .to ∷ r .told .pgn ∷ 0 ∷ 0 ∷ 0 ∷ []) (rw long at (l .answer));
+    answer = o ∙ ap (λ (r : MessageAnswer). padded (r .refusal ∷ r .pgn ∷ r .length ∷ r .told .entry ∷ r .told .to ∷ r .told .pgn ∷ [])) (rw long at (l .answer));
     ports = l .call .count;
   }
 
-  pub start-step : {r : StartAnswer} → Starting (portsOf w) w w′ r → out ≡ r .refusal ∷ r .unsent ∷ claimWord (r .claim) ∷ 0 ∷ 0 ∷ 0 ∷ 0 ∷ 0 ∷ 0 ∷ [] → Stepping w w′ Start out
+  pub start-step : {r : StartAnswer} → Starting (portsOf w) w w′ r → out ≡ padded (r .refusal ∷ r .unsent ∷ claimWord (r .claim) ∷ []) → Stepping w w′ Start out
   unfolding answer code
   start-step l o = record {
     state = rw long at (l .call .state);
-    answer = o ∙ ap (λ (r : StartAnswer). r .refusal ∷ r .unsent ∷ claimWord (r .claim) ∷ 0 ∷ 0 ∷ 0 ∷ 0 ∷ 0 ∷ 0 ∷ []) (rw long at (l .answer));
+    answer = o ∙ ap (λ (r : StartAnswer). padded (r .refusal ∷ r .unsent ∷ claimWord (r .claim) ∷ [])) (rw long at (l .answer));
     ports = l .call .count;
   }
 
-  pub quiet-step : {r : ℕ} → Quieting (portsOf w) w w′ r → out ≡ r ∷ 0 ∷ 0 ∷ 0 ∷ 0 ∷ 0 ∷ 0 ∷ 0 ∷ 0 ∷ [] → Stepping w w′ Quiet out
+  pub quiet-step : {r : ℕ} → Quieting (portsOf w) w w′ r → out ≡ padded (r ∷ []) → Stepping w w′ Quiet out
   unfolding answer code
   quiet-step l o = record {
     state = rw long at (l .call .state);
-    answer = o ∙ ap (λ r. r ∷ 0 ∷ 0 ∷ 0 ∷ 0 ∷ 0 ∷ 0 ∷ 0 ∷ 0 ∷ []) (rw long at (l .answer));
+    answer = o ∙ ap (λ r. padded (r ∷ [])) (rw long at (l .answer));
     ports = l .call .count;
   }
 
@@ -100,3 +91,7 @@ module _ {w w′ out : List ℕ} (long : length w ≡ recordLength (portsOf w)) 
 pub unit-step : {w out : List ℕ} {r : UnitAnswer} → length w ≡ recordLength (portsOf w) → Reading (portsOf w) w r → out ≡ code (ToUnit r) → Stepping w w ReadUnit out
 unfolding answer
 unit-step long l o = record { state = rw long at (l .call .state); answer = o ∙ ap (λ r. code (ToUnit r)) (rw long at (l .answer)); ports = l .call .count }
+
+pub counts-step : {w out : List ℕ} {port : ℕ} {r : CountsAnswer} → length w ≡ recordLength (portsOf w) → Counting (portsOf w) w port r → out ≡ code (ToCounts r) → Stepping w w (ReadCounts port) out
+unfolding answer
+counts-step long l o = record { state = rw long at (l .call .state); answer = o ∙ ap (λ r. code (ToCounts r)) (rw long at (l .answer)); ports = l .call .count }

@@ -1,5 +1,6 @@
 // A second witness of demand 3, by running code: `replay` makes any list of calls on one record, from power-on on, and writes down the answers. Its
 // contract says of the whole list what demand 3 says: the answers are the book's.
+use bridge::CountsAnswer;
 use bridge::FrameAnswer;
 use bridge::TakeAnswer;
 use bridge::UnitAnswer;
@@ -12,20 +13,20 @@ ghost use Prim.Native.Nat.{_*_, _≤_, min};
 ghost use lib.ListN.{length};
 ghost use Rattle.unit.specs.Count.{portsOf};
 ghost use Rattle.unit.specs.Model.{recordLength};
-ghost use Rattle.bridge.specs.Calls.{FrameIn, TakeOut, Message, Start, Quiet, ReadUnit};
-ghost use Rattle.demand_3.specs.Demand3.{ToFrame, ToTake, ToUnit};
-ghost use Rattle.witness.specs.Encoding.{callWords, answerWords, callFrom, callOf, code};
+ghost use Rattle.bridge.specs.Calls.{FrameIn, TakeOut, Message, Start, Quiet, ReadUnit, ReadCounts};
+ghost use Rattle.demand_3.specs.Demand3.{ToFrame, ToTake, ToUnit, ToCounts};
+ghost use Rattle.witness.specs.Encoding.{callWords, answerWords, callFrom, callOf, padded, code};
 ghost use Rattle.witness.specs.Replay.{Stepping, Running, Replaying};
 
 // The words of a call, and of an answer.
 pub const CALL_WORDS: usize = 5;
 
-pub const ANSWER_WORDS: usize = 9;
+pub const ANSWER_WORDS: usize = 12;
 
-// An answer's nine words.
+// An answer's first nine words; 0 stands behind them.
 fn put(out: &mut [u64], a: u64, b: u64, c: u64, d: u64, e: u64, f: u64, g: u64, h: u64, i: u64)
     requires { ⌜ length (now out) ≡ answerWords ⌝ }
-    ensures { λ _. ⌜ now (out .exit) ≡ a ∷ b ∷ c ∷ d ∷ e ∷ f ∷ g ∷ h ∷ i ∷ [] ⌝ }
+    ensures { λ _. ⌜ now (out .exit) ≡ padded (a ∷ b ∷ c ∷ d ∷ e ∷ f ∷ g ∷ h ∷ i ∷ []) ⌝ }
 {
     out[0] = a;
     out[1] = b;
@@ -36,6 +37,9 @@ fn put(out: &mut [u64], a: u64, b: u64, c: u64, d: u64, e: u64, f: u64, g: u64, 
     out[6] = g;
     out[7] = h;
     out[8] = i;
+    out[9] = 0;
+    out[10] = 0;
+    out[11] = 0;
 }
 
 // A truth value as a number.
@@ -108,6 +112,26 @@ fn write_unit(r: UnitAnswer, out: &mut [u64])
             );
         }
     }
+}
+
+// What was told to be counted at a port.
+fn write_counts(r: CountsAnswer, out: &mut [u64])
+    requires { ⌜ length (now out) ≡ answerWords ⌝ }
+    ensures { λ _. ⌜ now (out .exit) ≡ code (ToCounts r) ⌝ }
+{
+    let tally = r.tally;
+    out[0] = r.refusal as u64;
+    out[1] = tally.waiting[0];
+    out[2] = tally.waiting[1];
+    out[3] = tally.waiting[2];
+    out[4] = tally.waiting[3];
+    out[5] = tally.waiting[4];
+    out[6] = tally.waiting[5];
+    out[7] = tally.waiting[6];
+    out[8] = tally.waiting[7];
+    out[9] = tally.accepted;
+    out[10] = tally.taken;
+    out[11] = 0;
 }
 
 // The calls, each with its answer written down.
@@ -189,6 +213,14 @@ fn read_unit(words: &[u64], out: &mut [u64])
     write_unit(r, out);
 }
 
+fn read_counts(words: &[u64], port: u32, out: &mut [u64])
+    requires { ⌜ (length (now words) ≡ recordLength (portsOf (now words))) × (length (now out) ≡ answerWords) ⌝ }
+    ensures { λ _. ⌜ Stepping (now (words .entry)) (now (words .entry)) (ReadCounts port) (now (out .exit)) ⌝ }
+{
+    let r = bridge::counts(words, port);
+    write_counts(r, out);
+}
+
 // One call, by its kind.
 fn perform(
     words: &mut [u64],
@@ -220,6 +252,10 @@ fn perform(
     }
     if kind == 5 {
         read_unit(words, out);
+        return;
+    }
+    if kind == 6 {
+        read_counts(words, port, out);
         return;
     }
     quiet(words, out);

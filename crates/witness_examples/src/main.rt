@@ -1,5 +1,5 @@
 // Any encoded list of calls, run by `witness::replay`. Standard input has numbers in hex: the NAME, the preferred address, the number of ports, how many calls there
-// are, five words for each call, and the bytes of all calls; what stands behind a # is passed over. A line for each call, its answer's nine words, and how many frames
+// are, five words for each call, and the bytes of all calls; what stands behind a # is passed over. A line for each call, its answer's twelve words, and how many frames
 // wait at each port.
 use libc::STDIN_FILENO;
 use libc::STDOUT_FILENO;
@@ -22,7 +22,7 @@ const LAST_WORD: usize = ANSWER_WORDS - 1;
 const HEAD: usize = 4;
 
 // The words of the largest unit's record, one of eight ports.
-const MOST_WORDS: usize = 2937;
+const MOST_WORDS: usize = 3017;
 
 // A number that is being read, whether it has a digit, and whether a comment goes on.
 struct Reading {
@@ -197,7 +197,7 @@ fn calls_made(said: u64, numbers: usize) -> usize
 // How much of the storage is the record of a unit with so many ports.
 fn record_length(ports: usize) -> usize
     requires { ⌜ (2 ≤ ports) × (ports ≤ 8) ⌝ }
-    ensures { λ r. ⌜ r ≤ 2937 ⌝ }
+    ensures { λ r. ⌜ r ≤ 3017 ⌝ }
 {
     least(Unit::record_length(ports), MOST_WORDS)
 }

@@ -4,6 +4,7 @@
 use std::collections::BTreeMap;
 
 use reference::address::{Event, UnitAnswer};
+use reference::counts::Counts;
 use reference::coverage::Coverage;
 use reference::frame::{Frame, NULL};
 use reference::generate::{generate, Random};
@@ -58,6 +59,8 @@ impl<T: Copy + PartialEq> Lent<T> {
 struct Both {
     reference: Unit,
     record: Lent<u64>,
+    /// Whether the counts are no recount any more.
+    has_lost_counts: bool,
     random: Random,
     coverage: Coverage,
     tried: BTreeMap<&'static str, u64>,
@@ -78,6 +81,7 @@ impl Both {
         Both {
             reference: Unit::power_on(0, 0),
             record: Lent::new(record_words(8), 0, 0xDEAD_BEEF_DEAD_BEEF),
+            has_lost_counts: false,
             random: Random::new(!seed),
             coverage: Coverage::default(),
             tried: BTreeMap::new(),
@@ -100,6 +104,12 @@ impl Both {
         if self.random.once_in(500) {
             self.lose_count();
         }
+        if self.random.once_in(1000) {
+            self.move_totals();
+        }
+        if self.random.once_in(5000) {
+            self.lose_counts();
+        }
         let before = self.reference.clone();
         let words = self.record.contents().to_vec();
         let answer = match call {
@@ -110,6 +120,7 @@ impl Both {
             Call::Take { port } => self.take(*port)?,
             Call::Message { port, requester, payload } => self.message(*port, *requester, payload)?,
             Call::Unit => self.unit()?,
+            Call::Counts { port } => self.counts(*port)?,
         };
         let after = self.record.contents();
         if answer.number() != 0 && answer.number() != 27 && after != words {
@@ -119,6 +130,7 @@ impl Both {
             return Err(format!("{}: {difference}", print_answer(&answer)));
         }
         check(self.record.guards_hold(), "a guard of the record changed")?;
+        check(self.has_lost_counts || self.reference.counts_hold(), "the reference's counts are no recount")?;
         self.coverage.count_call(Some(&before), call, &answer, Some(&self.reference));
         Ok(())
     }
@@ -135,6 +147,7 @@ impl Both {
         };
         let (unit, result) = Unit::power_on_ports(name, preferred, ports);
         self.reference = unit;
+        self.has_lost_counts = false;
         same("number", number, result.err().unwrap_or(0))?;
         same("count", self.record.contents()[PORTS_AT], u64::from(self.reference.ports))?;
         Ok(Answer::PowerOn(result))
@@ -147,6 +160,38 @@ impl Both {
             self.record.contents()[PORTS_AT] = self.random.pick(&[0, 1, 9, 16, any, (1 << 32) + 8, u64::MAX]);
             self.count("records whose count was made none");
         }
+    }
+
+    /// Changes what every port counts, in the reference and in the record.
+    fn change_counts(&mut self, mut change: impl FnMut(&mut Counts)) {
+        for (&port, counts) in self.reference.counts.iter_mut() {
+            change(counts);
+            self.record.contents()[queue_range(port)][COUNTS_AT..][..COUNTS_ANSWER].copy_from_slice(&counts.words());
+        }
+    }
+
+    /// As after so many more frames that were accepted and taken: the totals pass 2^32 and 2^64.
+    fn move_totals(&mut self) {
+        let any = self.random.number();
+        let more = self.random.pick(&[u64::MAX - 40, (1 << 32) - 40, any]);
+        self.change_counts(|counts| {
+            counts.accepted = counts.accepted.wrapping_add(more);
+            counts.taken = counts.taken.wrapping_add(more);
+        });
+        self.count("records whose totals were moved");
+    }
+
+    /// Counts that no list of calls leads to, until the next power-on.
+    fn lose_counts(&mut self) {
+        let mut random = Random::new(self.random.number());
+        self.change_counts(|counts| {
+            counts.waiting = counts.waiting.map(|count| {
+                let any = random.number();
+                random.pick(&[0, u64::MAX, count, any])
+            });
+        });
+        self.has_lost_counts = true;
+        self.count("records whose counts were made any words");
     }
 
     fn start(&mut self) -> Result<Answer, String> {
@@ -167,6 +212,17 @@ impl Both {
         told.is(None, Some(unit_words(&answer)), None)?;
         check(self.record.all == before, "reading the unit changed the record")?;
         Ok(Answer::Unit(answer))
+    }
+
+    /// The record changes by no word.
+    fn counts(&mut self, port: u32) -> Result<Answer, String> {
+        let mut told = self.told(COUNTS_ANSWER, 0);
+        let before = self.record.all.clone();
+        told.number = Record(self.record.contents()).counts(port, told.words.contents());
+        let result = self.reference.how_full(port);
+        told.is(result.as_ref().err(), result.as_ref().ok().map(|counts| counts.words().to_vec()), None)?;
+        check(self.record.all == before, "reading the counts changed the record")?;
+        Ok(Answer::Counts(result))
     }
 
     fn quiet(&mut self) -> Result<Answer, String> {
@@ -243,6 +299,7 @@ impl Both {
             Call::Frame { port, .. } => (Some(*port), Some(FRAME_ANSWER), None),
             Call::Take { port } => (Some(*port), Some(TAKE_ANSWER), Some(FRAME_BYTES)),
             Call::Message { port, .. } => (Some(*port), Some(MESSAGE_ANSWER), Some(LONGEST_MESSAGE)),
+            Call::Counts { port } => (Some(*port), Some(COUNTS_ANSWER), None),
         };
         let bits = 1 + self.random.below(7);
         let wrong_words = bits & 1 != 0 && words.is_some();
@@ -305,6 +362,7 @@ impl Both {
             Call::Take { port } => record.take(*port, words, bytes),
             Call::Message { port, requester, payload } => record.message(*port, *requester, payload, bytes, words),
             Call::Unit => record.unit(words),
+            Call::Counts { port } => record.counts(*port, words),
         }
     }
 }

@@ -40,6 +40,7 @@ fn print_calls(calls: &[Call]) {
             Call::Start => (3, 0, 0, &[]),
             Call::Quiet => (4, 0, 0, &[]),
             Call::Unit => (5, 0, 0, &[]),
+            Call::Counts { port } => (6, *port, 0, &[]),
             Call::PowerOn { .. } => panic!("encode: a second power-on"),
         };
         let first = all.len();
@@ -59,7 +60,7 @@ fn print_answers(lines: &[&[u8]]) {
         let (_, answer) = made(&mut unit, line).expect("encode: a line that is no call");
         match i {
             0 => println!("{:x}", answer.number()),
-            _ => println!("{}", words(&answer).map(|word| format!("{word:x}")).join(" ")),
+            _ => println!("{}", twelve_words(&answer).map(|word| format!("{word:x}")).join(" ")),
         }
     }
     let unit = unit.expect("a power-on comes first");
@@ -67,49 +68,42 @@ fn print_answers(lines: &[&[u8]]) {
     println!("waiting {}", waiting.join(" "));
 }
 
-/// An answer's nine words.
-fn words(answer: &Answer) -> [u64; 9] {
-    let number = u64::from(answer.number());
+/// An answer's words: its number, what it tells, 0 behind that.
+fn twelve_words(answer: &Answer) -> [u64; 12] {
+    let mut words = [0; 12];
+    words[0] = u64::from(answer.number());
+    for (word, told) in words[1..].iter_mut().zip(told_words(answer)) {
+        *word = told;
+    }
+    words
+}
+
+/// What an answer tells beside its number.
+fn told_words(answer: &Answer) -> Vec<u64> {
     match answer {
         Answer::Frame(Ok(told)) => {
             let (event, old) = event_words(&told.event);
-            let compared = told.compared as u64;
-            [
-                0,
-                u64::from(told.consumed),
-                mask(&told.accepted),
-                mask(&told.lost),
-                mask(&told.own_lost),
-                compared,
-                event,
-                old,
-                told.reason_word(),
-            ]
+            let [accepted, lost, own_lost] = [&told.accepted, &told.lost, &told.own_lost].map(|ports| mask(ports));
+            let (consumed, compared) = (u64::from(told.consumed), told.compared as u64);
+            vec![consumed, accepted, lost, own_lost, compared, event, old, told.reason_word()]
         }
         Answer::Take(Ok(Some(frame))) => {
             let bytes = frame.bytes.iter().rev().fold(0, |word, &byte| word << 8 | u64::from(byte));
-            [0, 1, u64::from(frame.id), frame.bytes.len() as u64, bytes, 0, 0, 0, 0]
+            vec![1, u64::from(frame.id), frame.bytes.len() as u64, bytes]
         }
         Answer::Message(told, _) => {
             let [entry, to, absent] = told.wrong_words();
-            [number, u64::from(told.pgn), told.length as u64, entry, to, absent, 0, 0, 0]
+            vec![u64::from(told.pgn), told.length as u64, entry, to, absent]
         }
-        Answer::Start(Ok(told)) => [0, mask(&told.own_lost), u64::from(told.state.number()), 0, 0, 0, 0, 0, 0],
+        Answer::Start(Ok(told)) => vec![mask(&told.own_lost), u64::from(told.state.number())],
         Answer::Unit(told) => {
-            let address = u64::from(told.address.unwrap_or(NULL));
-            [
-                0,
-                u64::from(told.state.number()),
-                address,
-                u64::from(told.preferred),
-                told.name,
-                u64::from(told.ports),
-                0,
-                0,
-                0,
-            ]
+            let address = told.address.unwrap_or(NULL);
+            let [state, address, preferred, ports] =
+                [told.state.number(), address, told.preferred, told.ports].map(u64::from);
+            vec![state, address, preferred, told.name, ports]
         }
-        _ => [number, 0, 0, 0, 0, 0, 0, 0, 0],
+        Answer::Counts(Ok(counts)) => counts.words().to_vec(),
+        _ => Vec::new(),
     }
 }
 

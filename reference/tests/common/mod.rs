@@ -118,7 +118,7 @@ pub fn told(unit: &mut Unit, port: u32, requester: u32, payload: &[u8], length: 
             assert_eq!(written, [control, payload[0], 0xFF, 0xFF, requester as u8, 0x00, 0xED, 0x00]);
         }
     }
-    assert_eq!(unit.queues, before.queues, "messages touch no row");
+    assert_eq!((&unit.queues, &unit.counts), (&before.queues, &before.counts), "messages touch no row");
     assert_eq!(unit.table, before.table);
     match answer.wrong {
         None => assert!(![17, 22].contains(&answer.number)),
@@ -194,10 +194,14 @@ pub fn front(unit: &Unit, port: u32) -> Frame {
     unit.queues[&port].front().expect("a frame waits").clone()
 }
 
-/// Puts so many frames at one port alone.
+/// Puts so many frames at one port alone, counted as if they had been accepted.
 pub fn fill(unit: &mut Unit, port: u32, count: usize) {
     for _ in 0..count {
         let filler = Frame { id: 0x1CFEF100, bytes: vec![] };
         unit.queues.get_mut(&port).expect("a port").push_back(filler);
     }
+    let counts = unit.counts.get_mut(&port).expect("a port");
+    counts.waiting[7] += count as u64;
+    counts.accepted += count as u64;
+    assert!(unit.counts_hold());
 }

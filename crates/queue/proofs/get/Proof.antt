@@ -22,7 +22,7 @@ cast-t8 : tie.Need-cast-t8
 cast-t8 c = search needs
 
 cast-t10 : tie.Need-cast-t10
-cast-t10 c = omega (arith, c .shared-slice-known .given (2 * c .before .args .i + 1))
+cast-t10 c = omega (arith, c .shared-slice-known .given (2 * c .before .args .i + 11))
 
 add-t5 : tie.Need-add-t5
 add-t5 c = search needs

@@ -1,6 +1,8 @@
 -- `queue::join` meets its contract, by the laws of `Block` and what each step ensures. Assumes nothing.
+use Prim.Native.Nat.{_+_}
 use native.Mathlib.Omega.{arith}
-use Rattle.queue.proofs.Block.{joined, lost}
+use lib.ListN.{length-set}
+use Rattle.queue.proofs.Block.{joined-in, lost}
 use borrow.Author.Needs.{needs}
 use Rattle.queue.proofs.join.Statement.{statement}
 use Rattle.queue.proofs.join.Tie as tie
@@ -17,16 +19,25 @@ add-block c = search needs
 slice-write-block : tie.Need-slice-write-block
 slice-write-block c = search needs
 
+priority-requires : tie.Need-priority-requires
+priority-requires c κs = search needs
+
+count-in-requires : tie.Need-count-in-requires
+count-in-requires c κs = (simp length-set (omega arith), omega (arith, c .priority .ensures))
+
 same-length : tie.Need-same-length
-same-length c = search needs
+same-length c =
+    let at-put = c .before .before .before .before .before .before .before in
+    omega (arith, length-set (at-put .put .last .0) 0 (at-put .before .before .before .waiting .result + 1))
 
 returns : tie.Need-returns
 returns c =
-    let at-put = c .before .before in
+    let at-count = c .before .before in
+    let at-put = at-count .before .before .before .before .before in
     let at-waiting = at-put .before .before .before in
     let start = at-waiting .before .before .before in
-    joined (start .args .block .now) (start .pre) (at-waiting .waiting .result) (at-waiting .waiting .ensures .0) (at-put .put .last .0) (start .args .f) (omega arith) (omega arith)
-    (at-put .put .ensures)
+    joined-in (start .args .block .now) (start .pre) (at-waiting .waiting .result) (at-waiting .waiting .ensures .0) (at-put .put .last .0) (at-count .count-in .last .0) (start .args .f) (omega arith)
+    (omega arith) (omega (arith, length-set (at-put .put .last .0) 0 (at-waiting .waiting .result + 1))) (at-put .put .ensures .0) (at-put .put .ensures .1) (rw (at-count .before .priority .ensures) at (at-count .count-in .ensures))
 
 same-length-2 : tie.Need-same-length-2
 same-length-2 c = search needs
@@ -45,6 +56,8 @@ join-spec =
     put-requires
     add-block
     slice-write-block
+    priority-requires
+    count-in-requires
     same-length
     returns
     same-length-2

@@ -1,7 +1,7 @@
 -- `queue::put` meets its contract: two words stored are a frame stored. Assumes nothing.
 use native.Mathlib.Omega.{arith}
 use lib.ListN.{length-set}
-use Rattle.queue.proofs.Words.{frames-put}
+use Rattle.queue.proofs.Words.{frames-put, head-put}
 use borrow.Author.Needs.{needs}
 use Rattle.queue.proofs.put.Statement.{statement}
 use Rattle.queue.proofs.put.Tie as tie
@@ -43,7 +43,9 @@ same-length : tie.Need-same-length
 same-length c = search needs
 
 returns : tie.Need-returns
-returns c = frames-put (c .before .before .args .block .now) (c .before .before .args .i) (c .before .before .args .f) (omega arith)
+returns c =
+    let args = c .before .before .args in
+    (frames-put (args .block .now) (args .i) (args .f) (omega arith), head-put (args .block .now) (args .i) _ (args .f .bytes))
 
 pub put-spec : {M : Type 1} → statement M
 put-spec =

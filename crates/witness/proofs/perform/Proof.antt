@@ -83,8 +83,8 @@ returns-5 c =
     let kind = c .before .before .before .before .before .before .before .before .before .before .before .before .before .before .args .kind in
     rw (ne-eqb kind 0 (c .before .before .before .before .before .before .before .before .before .if1 .left), ne-eqb kind 1 (c .before .before .before .before .before .before .before .before .if2 .left), ne-eqb kind 2 (c .before .before .before .before .before .before .before .if3 .left), ne-eqb kind 3 (c .before .before .before .before .before .before .if4 .left), eq-eqb kind 5 (c .before .before .before .before .before .if5 .taken)) (c .before .before .read-unit .ensures)
 
-quiet-requires : tie.Need-quiet-requires
-quiet-requires c κs = search needs
+read-counts-requires : tie.Need-read-counts-requires
+read-counts-requires c κs = search needs
 
 same-length-12 : tie.Need-same-length-12
 same-length-12 c = search needs
@@ -95,8 +95,23 @@ same-length-13 c = search needs
 returns-6 : tie.Need-returns-6
 unfolding callFrom
 returns-6 c =
-    let kind = c .before .before .before .before .before .before .before .before .before .before .before .before .before .before .before .before .args .kind in
-    rw (ne-eqb kind 0 (c .before .before .before .before .before .before .before .before .before .before .before .if1 .left), ne-eqb kind 1 (c .before .before .before .before .before .before .before .before .before .before .if2 .left), ne-eqb kind 2 (c .before .before .before .before .before .before .before .before .before .if3 .left), ne-eqb kind 3 (c .before .before .before .before .before .before .before .before .if4 .left), ne-eqb kind 5 (c .before .before .before .before .before .before .before .if5 .left)) (c .before .before .before .before .quiet .ensures)
+    let kind = c .before .before .before .before .before .before .before .before .before .before .before .before .before .before .before .args .kind in
+    rw (ne-eqb kind 0 (c .before .before .before .before .before .before .before .before .before .before .if1 .left), ne-eqb kind 1 (c .before .before .before .before .before .before .before .before .before .if2 .left), ne-eqb kind 2 (c .before .before .before .before .before .before .before .before .if3 .left), ne-eqb kind 3 (c .before .before .before .before .before .before .before .if4 .left), ne-eqb kind 5 (c .before .before .before .before .before .before .if5 .left), eq-eqb kind 6 (c .before .before .before .before .before .if6 .taken)) (c .before .before .read-counts .ensures)
+
+quiet-requires : tie.Need-quiet-requires
+quiet-requires c κs = search needs
+
+same-length-14 : tie.Need-same-length-14
+same-length-14 c = search needs
+
+same-length-15 : tie.Need-same-length-15
+same-length-15 c = search needs
+
+returns-7 : tie.Need-returns-7
+unfolding callFrom
+returns-7 c =
+    let kind = c .before .before .before .before .before .before .before .before .before .before .before .before .before .before .before .before .before .args .kind in
+    rw (ne-eqb kind 0 (c .before .before .before .before .before .before .before .before .before .before .before .before .if1 .left), ne-eqb kind 1 (c .before .before .before .before .before .before .before .before .before .before .before .if2 .left), ne-eqb kind 2 (c .before .before .before .before .before .before .before .before .before .before .if3 .left), ne-eqb kind 3 (c .before .before .before .before .before .before .before .before .before .if4 .left), ne-eqb kind 5 (c .before .before .before .before .before .before .before .before .if5 .left), ne-eqb kind 6 (c .before .before .before .before .before .before .before .if6 .left)) (c .before .before .before .before .quiet .ensures)
 
 pub perform-spec : {M : Type 1} → statement M
 perform-spec =
@@ -123,7 +138,11 @@ perform-spec =
     same-length-10
     same-length-11
     returns-5
-    quiet-requires
+    read-counts-requires
     same-length-12
     same-length-13
-    returns-6)
+    returns-6
+    quiet-requires
+    same-length-14
+    same-length-15
+    returns-7)

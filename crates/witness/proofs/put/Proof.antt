@@ -1,7 +1,9 @@
--- `put` meets its contract: nine stores. Assumes nothing.
+-- `put` meets its contract: twelve stores. Assumes nothing.
 use native.Mathlib.Omega.{arith}
 use lib.ListN.{length-set}
-use Rattle.witness.proofs.Steps.{nine}
+use mathlib.Core.List.{[], _∷_}
+use Rattle.witness.specs.Encoding.{padded}
+use Rattle.witness.proofs.Steps.{stored}
 use borrow.Author.Needs.{needs}
 use Rattle.witness.proofs.put.Statement.{statement}
 use Rattle.witness.proofs.put.Tie as tie
@@ -33,13 +35,22 @@ slice-write-out-8 c = simp length-set (omega arith)
 slice-write-out-9 : tie.Need-slice-write-out-9
 slice-write-out-9 c = simp length-set (omega arith)
 
+slice-write-out-10 : tie.Need-slice-write-out-10
+slice-write-out-10 c = simp length-set (omega arith)
+
+slice-write-out-11 : tie.Need-slice-write-out-11
+slice-write-out-11 c = simp length-set (omega arith)
+
+slice-write-out-12 : tie.Need-slice-write-out-12
+slice-write-out-12 c = simp length-set (omega arith)
+
 same-length : tie.Need-same-length
-same-length c = search needs
+same-length c = simp length-set (omega arith)
 
 returns : tie.Need-returns
 returns c =
     let args = c .args in
-    nine (args .out .now) (args .a) (args .b) (args .c) (args .d) (args .e) (args .f) (args .g) (args .h) (args .i) (c .pre)
+    stored (padded (args .a ∷ args .b ∷ args .c ∷ args .d ∷ args .e ∷ args .f ∷ args .g ∷ args .h ∷ args .i ∷ [])) (args .out .now) (c .pre)
 
 pub put-spec : {M : Type 1} → statement M
 put-spec =
@@ -54,5 +65,8 @@ put-spec =
     slice-write-out-7
     slice-write-out-8
     slice-write-out-9
+    slice-write-out-10
+    slice-write-out-11
+    slice-write-out-12
     same-length
     returns)

@@ -76,9 +76,9 @@ loop-again c =
     let i = at-loop .i in (
       omega arith,
       search needs,
-      rw (range-size (9 * i) 9) (length-back (9 * i) 9 (at-loop .answers) (at-step .step .last .1 .1 .1 .1 .0) (omega arith) (omega arith) ∙ at-loop .inv .2),
+      rw (range-size (12 * i) 12) (length-back (12 * i) 12 (at-loop .answers) (at-step .step .last .1 .1 .1 .1 .0) (omega arith) (omega arith) ∙ at-loop .inv .2),
       search needs,
-      rw (range-size (9 * i) 9) (running-step (at-loop .inv .4) (rw (range-size (5 * i) 5, at-loop .inv .3) at (at-step .step .ensures))),
+      rw (range-size (12 * i) 12) (running-step (at-loop .inv .4) (rw (range-size (5 * i) 5, at-loop .inv .3) at (at-step .step .ensures))),
     )
 
 same-length : tie.Need-same-length Inv-loop μ-loop

@@ -1,0 +1,3 @@
+mod Histories
+mod Kept
+pub mod Tallies
