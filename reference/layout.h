@@ -21,6 +21,15 @@ enum {
     MOST_WORDS = DEORASAENG_RECORD_WORDS_FOR(MOST_PORTS)
 };
 
+/* A plan: for each of its units eight ports, a word each, and 56 lists. */
+enum {
+    MOST_SEGMENTS = DEORASAENG_MOST_SEGMENTS,
+    MOST_UNITS = DEORASAENG_MOST_UNITS,
+    PLAN_PAIRS = MOST_PORTS * (MOST_PORTS - 1),
+    PLAN_PORTS = DEORASAENG_PLAN_PORT_WORDS,
+    PLAN_LISTS = DEORASAENG_PLAN_LIST_WORDS
+};
+
 #define PAIRS_AT(ports) (QUEUES_AT + QUEUE_WORDS * (ports))
 
 /* The pair of two different ports, as its number in that order. */

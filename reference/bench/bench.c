@@ -34,6 +34,9 @@ struct row {
     /* A message: function, pair byte, how many entries, how many of them different, the first one's place among the PGNs, the last one's; backwards or not. */
     uint8_t function, pair;
     int named, different, first, last, backwards;
+    /* A plan: how many units it has, and whether they close a ring; its lists are as every pair's above, and the last word of the last is wrong where the number is 28. */
+    uint32_t units;
+    int ring;
     /* Words that every call finds as they were: at, value. */
     uint64_t resets[6][2];
 };
@@ -44,6 +47,7 @@ static size_t record_len;
 static struct lent lent;
 static uint8_t payload[LONGEST];
 static size_t payload_len;
+static struct plan plan;
 
 /* ---- what the calls find */
 static uint32_t listed(int i)
@@ -75,8 +79,37 @@ static void make_payload(const struct row *r)
     payload_len = n;
 }
 
+/* The units in a chain, with all their lists; ports further on for each unit. In a ring they join as many segments as there are units; else the last
+   of sixteen is at its end, since there is no segment more. */
+static void make_plan(const struct row *r)
+{
+    memset(&plan, 0, sizeof plan);
+    plan.units = r->units;
+    plan.segments = r->ring || r->units == MOST_UNITS ? r->units : r->units + 1;
+    plan.first = 1;
+    plan.pgn = PGN;
+    for (uint32_t i = 0; i < plan.units; i++) {
+        uint64_t *unit = plan.ports + MOST_PORTS * i;
+        unit[i % MOST_PORTS] = i + 1;
+        if (r->ring || i + 2 <= plan.segments)
+            unit[(i + 5) % MOST_PORTS] = (i + 1) % plan.segments + 1;
+    }
+    for (uint32_t i = 0; i < PLAN_PAIRS * plan.units; i++) {
+        uint64_t *pair = plan.lists + PAIR_WORDS * i;
+        pair[0] = r->mode;
+        pair[1] = r->entries;
+        for (int j = 0; j < r->entries; j++)
+            pair[2 + j] = j + 1 == r->at ? PGN : listed(j);
+    }
+    if (r->number == 28)
+        plan.lists[PAIR_WORDS * PLAN_PAIRS * plan.units - 1] = 1;
+    make_links(&plan);
+}
+
 static void make(const struct row *r)
 {
+    if (r->units)
+        make_plan(r);
     ports = r->ports ? r->ports : USUAL_PORTS;
     record_len = DEORASAENG_RECORD_WORDS_FOR(ports);
     memset(w, 0, sizeof w);
@@ -197,6 +230,24 @@ static uint32_t power_ons(const struct side *side, const struct row *r, long cal
     return number;
 }
 
+static uint32_t plans(const struct side *side, const struct row *r, long calls)
+{
+    uint32_t number = 0;
+    (void)r;
+    for (long k = 0; k < calls; k++)
+        number = side->plan(plan.ports, PLAN_PORTS, plan.lists, PLAN_LISTS, plan.segments, plan.units, plan.first, plan.pgn, lent.answer, DEORASAENG_PLAN_ANSWER);
+    return number;
+}
+
+static uint32_t plans_by_links(const struct side *side, const struct row *r, long calls)
+{
+    uint32_t number = 0;
+    (void)r;
+    for (long k = 0; k < calls; k++)
+        number = side->plan_links(plan.links, plan.links_len, plan.lists, PLAN_LISTS, plan.segments, plan.units, plan.first, plan.pgn, lent.answer, DEORASAENG_PLAN_ANSWER);
+    return number;
+}
+
 /* ---- the tables */
 #define NOTHING_WAITS {{WAITING(1), 0}, {WAITING(2), 0}, {WAITING(3), 0}, {WAITING(4), 0}}
 #define MODES(mode) {{MODE(0), mode}, {MODE(1), mode}, {MODE(2), mode}}
@@ -303,6 +354,18 @@ static const struct row full_port_rows[] = {
     {"8", frame_and_takes, .ports = 8, .mode = 1, .entries = 32, .waiting = 31},
 };
 
+/* Without a ring 16 units of eight ports on 16 segments have 31 ports in use at most; all 896 lists are judged. */
+static const struct row plan_rows[] = {
+    {"1 unit, cleared", plans, .units = 1},
+    {"16 units, cleared", plans, .units = 16},
+    {"16 units, 896 lists of 32, found first", plans, .units = 16, .mode = 2, .entries = 32, .at = 1},
+    {"16 units, 896 lists of 32, absent (the largest plan)", plans, .units = 16, .mode = 1, .entries = 32},
+    {"the largest plan, as links", plans_by_links, .units = 16, .mode = 1, .entries = 32},
+    {"the largest plan, stopped at its first unit", plans, .units = 16, .mode = 2, .entries = 32},
+    {"the largest plan, refused (28) by the last word", plans, .number = 28, .units = 16, .mode = 1, .entries = 32},
+    {"the largest plan, refused (29)", plans, .number = 29, .units = 16, .ring = 1, .mode = 1, .entries = 32},
+};
+
 static const struct table {
     const char *title, *column;
     const struct row *rows;
@@ -315,6 +378,7 @@ static const struct table {
     {"Growth with the ports: frame that joins every other queue, and a take at each, cleared pairs, depth 1", "ports", port_rows,
      sizeof port_rows / sizeof *port_rows},
     {"The same, lists of 32 PGNs that are not the frame's, depth 32", "ports, lists and queues full", full_port_rows, sizeof full_port_rows / sizeof *full_port_rows},
+    {"Plans: units of eight ports in a chain, a PGN that every list lets through unless said", "plan", plan_rows, sizeof plan_rows / sizeof *plan_rows},
 };
 
 enum { TABLES = sizeof tables / sizeof *tables };
@@ -364,7 +428,7 @@ static int same_case(const struct row *a, const struct row *b)
 {
     return a->run == b->run && a->number == b->number && a->ports == b->ports && a->mode == b->mode && a->entries == b->entries && a->at == b->at && a->waiting == b->waiting &&
            a->lower == b->lower && a->held == b->held && a->id == b->id && a->len == b->len && a->bytes == b->bytes && a->function == b->function &&
-           a->pair == b->pair && a->named == b->named && a->different == b->different && a->first == b->first && a->last == b->last &&
+           a->pair == b->pair && a->units == b->units && a->ring == b->ring && a->named == b->named && a->different == b->different && a->first == b->first && a->last == b->last &&
            a->backwards == b->backwards && memcmp(a->resets, b->resets, sizeof a->resets) == 0;
 }
 
@@ -408,7 +472,7 @@ static void time_tables(int rounds)
 /* ---- the stack: painted before each call, and looked through after it */
 static uint32_t nothing();
 
-static const struct side empty = {"nothing", nothing, nothing, nothing, nothing, nothing, nothing, nothing, nothing, nothing};
+static const struct side empty = {"nothing", nothing, nothing, nothing, nothing, nothing, nothing, nothing, nothing, nothing, nothing, nothing};
 
 static uint32_t nothing()
 {
@@ -444,7 +508,7 @@ static size_t touched(const struct side *side)
 /* The most that a call takes, with its return address. */
 static void print_stack(long calls)
 {
-    static const char *labels[KINDS] = {"frame", "take", "message", "Start", "Quiet", "unit", "counts", "power-on", "power-on with ports"};
+    static const char *labels[KINDS] = {"frame", "take", "message", "Start", "Quiet", "unit", "counts", "power-on", "power-on with ports", "plan", "plan as links"};
     size_t most[KINDS][SIDES] = {{0}};
     for (int s = 0; s < SIDES; s++) {
         memset(&lent, 0, sizeof lent);

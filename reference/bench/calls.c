@@ -3,7 +3,8 @@
 #include <stdio.h>
 #include <string.h>
 
-#define SIDE(name, side) {name, side##_power_on, side##_power_on_ports, side##_frame, side##_take, side##_message, side##_start, side##_quiet, side##_unit, side##_counts}
+#define SIDE(name, side) {name, side##_power_on, side##_power_on_ports, side##_frame, side##_take, side##_message, side##_start, side##_quiet, side##_unit, side##_counts, \
+                          side##_plan, side##_plan_links}
 
 const struct side sides[SIDES] = {SIDE("Rattle", deorasaeng), SIDE("C", c), SIDE("Rust", rust)};
 
@@ -133,6 +134,80 @@ static void make_message(struct call *c, const uint64_t *record)
         make_entries(c, pair, 3);
 }
 
+/* ---- plans */
+void make_links(struct plan *p)
+{
+    p->links_len = 0;
+    for (uint32_t unit = 0; unit < p->units; unit++)
+        for (uint32_t port = 0; port < MOST_PORTS; port++)
+            if (p->ports[MOST_PORTS * unit + port])
+                p->links[p->links_len++] = (struct deorasaeng_link){unit + 1, port + 1, p->ports[MOST_PORTS * unit + port]};
+}
+
+/* A segment on every other port, mostly where no path leads to it yet. */
+static void make_ports(struct plan *p)
+{
+    uint32_t joined[MOST_SEGMENTS + 1];
+    for (uint32_t s = 0; s <= p->segments; s++)
+        joined[s] = 1u << s;
+    for (uint32_t unit = 0; unit < p->units; unit++) {
+        uint32_t all = 0;
+        for (uint32_t port = 0; port < MOST_PORTS; port++) {
+            uint32_t s = 1 + below(p->segments);
+            if (one_in(2) || (all >> s & 1 && !one_in(256)))
+                continue;
+            p->ports[MOST_PORTS * unit + port] = s;
+            all |= joined[s];
+        }
+        for (uint32_t s = 1; s <= p->segments; s++)
+            if (all >> s & 1)
+                joined[s] = all;
+    }
+}
+
+/* Some are cleared, some long; all words of the others are PGNs. */
+static void make_lists(struct plan *p)
+{
+    for (uint32_t i = 0; i < PLAN_PAIRS * p->units; i++) {
+        uint64_t *pair = p->lists + PAIR_WORDS * i;
+        pair[0] = one_in(2) ? 0 : below(3);
+        pair[1] = one_in(4) ? below(LIST + 1) : below(3);
+        for (uint64_t j = 0; pair[0] && j < pair[1]; j++)
+            pair[2 + j] = some_pgn();
+    }
+}
+
+/* A number out of its range. */
+static void spoil_plan(struct plan *p)
+{
+    uint64_t *pair = p->lists + PAIR_WORDS * below(PLAN_PAIRS * MOST_UNITS);
+    switch (below(9)) {
+    case 0: p->segments = one_in(2) ? 0 : MOST_SEGMENTS + 1; break;
+    case 1: p->units = MOST_UNITS + 1; break;
+    case 2: p->first = one_in(2) ? 0 : p->segments + 1; break;
+    case 3: p->pgn = one_in(2) ? 1 : 1 << 18; break;
+    case 4: p->ports[below(PLAN_PORTS)] = p->segments + 1; break;
+    case 5: pair[0] = 3; break;
+    case 6: pair[1] = LIST + 1; break;
+    case 7: pair[2] = 0xEF01; break;
+    default: p->links[p->links_len++] = (struct deorasaeng_link){below(p->units + 2), below(MOST_PORTS + 2), below(p->segments + 2)};
+    }
+}
+
+static void make_plan(struct plan *p)
+{
+    memset(p->ports, 0, sizeof p->ports);
+    p->segments = one_in(4) ? MOST_SEGMENTS : 1 + below(MOST_SEGMENTS);
+    p->units = one_in(4) ? MOST_UNITS : below(MOST_UNITS + 1);
+    p->first = 1 + below(p->segments);
+    p->pgn = some_pgn();
+    make_ports(p);
+    make_lists(p);
+    make_links(p);
+    if (one_in(4))
+        spoil_plan(p);
+}
+
 /* Now and then a length that is not the published one. */
 static size_t some_length(size_t published)
 {
@@ -163,6 +238,8 @@ void make_call(struct call *c, const uint64_t *record)
         c->kind = COUNTS;
     if (one_in(4096))
         c->kind = POWER_ON + below(2);
+    if (one_in(128))
+        c->kind = PLAN + below(2);
     uint32_t ports = ports_of(record, MOST_WORDS);
     c->ports = one_in(8) ? below(12) : 2 + below(7);
     c->port = one_in(64) ? below(ports + 2) : 1 + below(ports);
@@ -172,16 +249,21 @@ void make_call(struct call *c, const uint64_t *record)
     c->name = one_in(4) ? some_name() : own_name;
     c->preferred = one_in(8) ? below(300) : own_address;
     static const size_t answers[KINDS] = {DEORASAENG_FRAME_ANSWER, DEORASAENG_TAKE_ANSWER, DEORASAENG_MESSAGE_ANSWER, DEORASAENG_START_ANSWER, 0,
-                                          DEORASAENG_UNIT_ANSWER, DEORASAENG_COUNTS_ANSWER};
+                                          DEORASAENG_UNIT_ANSWER, DEORASAENG_COUNTS_ANSWER, 0, 0, DEORASAENG_PLAN_ANSWER, DEORASAENG_PLAN_ANSWER};
     c->answer_len = one_in(256) ? below(ANSWER_WORDS + 1) : answers[c->kind];
     if (c->kind == FRAME)
         make_frame(c);
     if (c->kind == MESSAGE)
         make_message(c, record);
+    c->plan_ports_len = some_length(PLAN_PORTS);
+    c->plan_lists_len = some_length(PLAN_LISTS);
+    if (c->kind == PLAN || c->kind == PLAN_LINKS)
+        make_plan(&c->plan);
 }
 
 uint32_t do_call(const struct side *side, const struct call *c, struct lent *l)
 {
+    const struct plan *p = &c->plan;
     switch (c->kind) {
     case FRAME: return side->frame(l->record, c->record_len, c->port, c->id, c->payload, c->len, l->answer, c->answer_len);
     case TAKE: return side->take(l->record, c->record_len, c->port, l->answer, c->answer_len, l->bytes, c->bytes_len);
@@ -191,6 +273,10 @@ uint32_t do_call(const struct side *side, const struct call *c, struct lent *l)
     case QUIET: return side->quiet(l->record, c->record_len);
     case UNIT: return side->unit(l->record, c->record_len, l->answer, c->answer_len);
     case COUNTS: return side->counts(l->record, c->record_len, c->port, l->answer, c->answer_len);
+    case PLAN:
+        return side->plan(p->ports, c->plan_ports_len, p->lists, c->plan_lists_len, p->segments, p->units, p->first, p->pgn, l->answer, c->answer_len);
+    case PLAN_LINKS:
+        return side->plan_links(p->links, p->links_len, p->lists, c->plan_lists_len, p->segments, p->units, p->first, p->pgn, l->answer, c->answer_len);
     case POWER_ON: return side->power_on(l->record, c->record_len, c->name, c->preferred);
     default: return side->power_on_ports(l->record, c->record_len, c->name, c->preferred, c->ports);
     }
@@ -224,17 +310,17 @@ bool same_record(const uint64_t *a, const uint64_t *b)
 }
 
 /* One more than the highest number, and the highest reason. */
-enum { NUMBERS = DEORASAENG_WRONG_PORT_COUNT + 1, REASONS = DEORASAENG_REASON_STOPPED_AS_NOT_LISTED + 1 };
+enum { NUMBERS = DEORASAENG_TWO_PATHS + 1, REASONS = DEORASAENG_REASON_STOPPED_AS_NOT_LISTED + 1 };
 
 static bool is_number(int i)
 {
-    return i <= DEORASAENG_WRONG_STATE || i == DEORASAENG_WRONG_ENTRY || i == DEORASAENG_WRONG_PORT_COUNT;
+    return i <= DEORASAENG_WRONG_STATE || i == DEORASAENG_WRONG_ENTRY || i >= DEORASAENG_WRONG_PORT_COUNT;
 }
 
 /* What came of the calls, so that one sees that nothing was left untried. */
 struct tally {
     long numbers[NUMBERS], events[8], reasons[REASONS], done[65], ports[MOST_PORTS + 1], full, longest, permanent, later_entry, later_absent, later_pair, counts_of_full,
-        counts_of_none;
+        counts_of_none, heard[MOST_SEGMENTS + 1];
 };
 
 /* How many lists on a frame's way would stop it if its PGN, which is permanent, were not. */
@@ -280,11 +366,14 @@ static void count(struct tally *t, const struct call *c, const struct lent *l, u
         t->full += c->payload[0] == 0 && l->answer[DEORASAENG_WRITTEN] == 99;
         t->longest += c->payload[0] && c->len >= 1784;
     }
+    if (number == 0 && (c->kind == PLAN || c->kind == PLAN_LINKS))
+        t->heard[__builtin_popcountll(l->answer[0])]++;
 }
 
 static bool is_whole(const struct tally *t, long calls)
 {
-    bool whole = t->full && t->longest && t->permanent && t->later_entry && t->later_absent && t->later_pair && t->counts_of_full && t->counts_of_none;
+    bool whole = t->full && t->longest && t->permanent && t->later_entry && t->later_absent && t->later_pair && t->counts_of_full && t->counts_of_none
+        && t->heard[1] && t->heard[MOST_SEGMENTS];
     for (int i = 0; i < NUMBERS; i++)
         whole &= !is_number(i) || t->numbers[i] > 0;
     for (int i = FEWEST_PORTS; i <= MOST_PORTS; i++)
@@ -311,6 +400,9 @@ static bool is_whole(const struct tally *t, long calls)
     printf("; on units with so many ports:");
     for (int i = FEWEST_PORTS; i <= MOST_PORTS; i++)
         printf(" %d:%ld", i, t->ports[i]);
+    printf("; plans where so many segments hear:");
+    for (int i = 1; i <= MOST_SEGMENTS; i++)
+        printf(" %d:%ld", i, t->heard[i]);
     printf("\n");
     if (!whole)
         printf("something was left untried\n");

@@ -20,11 +20,21 @@ struct side {
     __typeof__(deorasaeng_quiet) *quiet;
     __typeof__(deorasaeng_unit) *unit;
     __typeof__(deorasaeng_counts) *counts;
+    __typeof__(deorasaeng_plan) *plan;
+    __typeof__(deorasaeng_plan_links) *plan_links;
 };
 
 extern const struct side sides[SIDES];
 
-enum kind { FRAME, TAKE, MESSAGE, START, QUIET, UNIT, COUNTS, POWER_ON, POWER_ON_PORTS, KINDS };
+enum kind { FRAME, TAKE, MESSAGE, START, QUIET, UNIT, COUNTS, POWER_ON, POWER_ON_PORTS, PLAN, PLAN_LINKS, KINDS };
+
+/* A plan, its links beside the words of its ports, one of them wrong now and then. */
+struct plan {
+    uint64_t ports[PLAN_PORTS], lists[PLAN_LISTS];
+    struct deorasaeng_link links[PLAN_PORTS + 1];
+    size_t links_len;
+    uint32_t segments, units, first, pgn;
+};
 
 /* The arguments of a call, with the lengths that are lent. */
 struct call {
@@ -33,6 +43,8 @@ struct call {
     uint32_t port, id, requester, preferred, ports;
     uint64_t name;
     uint8_t payload[LONGEST + 15];
+    size_t plan_ports_len, plan_lists_len;
+    struct plan plan;
 };
 
 /* What a call is lent. */
@@ -43,6 +55,9 @@ struct lent {
 
 /* A random number. */
 uint64_t next(void);
+
+/* The links that a plan's ports are. */
+void make_links(struct plan *p);
 
 /* A random call on a unit of which the record is known. */
 void make_call(struct call *c, const uint64_t *record);

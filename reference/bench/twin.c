@@ -602,3 +602,128 @@ uint32_t c_counts(const uint64_t *record, size_t record_len, uint32_t port, uint
     memcpy(answer, ((const struct unit *)record)->queues[port - 1].counts, 8 * DEORASAENG_COUNTS_ANSWER);
     return 0;
 }
+
+/* ---- plans */
+enum { SEGMENTS = 16, UNITS = 16, PAIRS = MOST * (MOST - 1), PLAN_PORTS = UNITS * MOST, PLAN_LISTS = UNITS * PAIRS * (2 + LIST), PLAN_ANSWER = 1 };
+
+/* What a number has that no PGN has: bits from 18 on, or a low byte where its PF is below 240. */
+static uint64_t no_pgn(uint64_t n)
+{
+    return n >> 18 | ((n & 0xF000) == 0xF000 ? 0 : n & 0xFF);
+}
+
+/* A list is judged where there is one: that of a cleared pair is not read. */
+static bool is_good_pair(const struct pair *p)
+{
+    if (p->mode == CLEARED)
+        return true;
+    if (p->mode > PASS || p->count > LIST)
+        return false;
+    uint64_t wrong = 0;
+    for (uint64_t i = 0; i < p->count; i++)
+        wrong |= no_pgn(p->pgns[i]);
+    return !wrong;
+}
+
+static bool is_good_plan(const uint64_t *ports, const struct pair *pairs, uint32_t segments, uint32_t units, uint32_t first, uint32_t pgn)
+{
+    if (segments > SEGMENTS || units > UNITS || first - 1 >= segments || no_pgn(pgn))
+        return false;
+    for (uint32_t i = 0; i < MOST * units; i++)
+        if (ports[i] > segments)
+            return false;
+    for (uint32_t i = 0; i < PAIRS * units; i++)
+        if (!is_good_pair(pairs + i))
+            return false;
+    return true;
+}
+
+/* Whether two paths lead between some segments: a unit has a port on a segment that its earlier ports are joined to. */
+static bool has_ring(const uint64_t *ports, uint32_t segments, uint32_t units)
+{
+    uint32_t joined[SEGMENTS + 1];
+    for (uint32_t s = 0; s <= segments; s++)
+        joined[s] = 1u << s;
+    for (uint32_t unit = 0; unit < units; unit++, ports += MOST) {
+        uint32_t all = 0;
+        for (uint32_t port = 0; port < MOST; port++) {
+            uint64_t s = ports[port];
+            if (s && all >> s & 1)
+                return true;
+            all |= s ? joined[s] : 0;
+        }
+        for (uint32_t left = all; left; left &= left - 1)
+            joined[__builtin_ctz(left)] = all;
+    }
+    return false;
+}
+
+static bool permits(const struct pair *p, uint64_t pgn)
+{
+    if (p->mode == CLEARED)
+        return true;
+    return (find(p->pgns, p->count, pgn) < p->count) == (p->mode == PASS);
+}
+
+/* The segments that hear, bit s for segment s. Without a ring each is reached once. */
+static uint32_t walk(const uint64_t *ports, const struct pair *pairs, uint32_t units, uint32_t first, uint32_t pgn)
+{
+    bool permanent = pgn == CLAIM_PGN || pgn == REQUEST_PGN;
+    struct { uint32_t segment, by; } waiting[SEGMENTS] = {{first, UNITS}};
+    uint32_t heard = 1u << first, n = 1;
+    while (n > 0) {
+        uint32_t segment = waiting[--n].segment, by = waiting[n].by;
+        for (uint32_t unit = 0; unit < units; unit++) {
+            const uint64_t *on = ports + MOST * unit;
+            uint32_t from = unit == by ? MOST : find(on, MOST, segment);
+            if (from == MOST)
+                continue;
+            const struct pair *p = pairs + PAIRS * unit + (MOST - 1) * from;
+            for (uint32_t to = 0; to < MOST; to++) {
+                if (to == from)
+                    continue;
+                if (on[to] && (permanent || permits(p, pgn))) {
+                    heard |= 1u << on[to];
+                    waiting[n].segment = on[to];
+                    waiting[n++].by = unit;
+                }
+                p++;
+            }
+        }
+    }
+    return heard;
+}
+
+static uint32_t plan(const uint64_t *ports, const uint64_t *lists, uint32_t segments, uint32_t units, uint32_t first, uint32_t pgn, uint64_t *answer)
+{
+    const struct pair *pairs = (const struct pair *)lists;
+    if (!is_good_plan(ports, pairs, segments, units, first, pgn))
+        return 28;
+    if (has_ring(ports, segments, units))
+        return 29;
+    *answer = walk(ports, pairs, units, first, pgn) >> 1;
+    return 0;
+}
+
+uint32_t c_plan(const uint64_t *ports, size_t ports_len, const uint64_t *lists, size_t lists_len, uint32_t segments, uint32_t units, uint32_t first,
+                uint32_t pgn, uint64_t *answer, size_t answer_len)
+{
+    if (ports_len != PLAN_PORTS || lists_len != PLAN_LISTS || answer_len != PLAN_ANSWER)
+        return 2;
+    return plan(ports, lists, segments, units, first, pgn, answer);
+}
+
+uint32_t c_plan_links(const struct deorasaeng_link *links, size_t links_len, const uint64_t *lists, size_t lists_len, uint32_t segments, uint32_t units,
+                      uint32_t first, uint32_t pgn, uint64_t *answer, size_t answer_len)
+{
+    uint64_t ports[PLAN_PORTS] = {0};
+    if (lists_len != PLAN_LISTS || answer_len != PLAN_ANSWER)
+        return 2;
+    for (size_t i = 0; i < links_len; i++) {
+        uint32_t unit = links[i].unit - 1, port = links[i].port - 1, segment = links[i].segment;
+        if (unit >= units || unit >= UNITS || port >= MOST || segment - 1 >= segments || ports[MOST * unit + port])
+            return 28;
+        ports[MOST * unit + port] = segment;
+    }
+    return plan(ports, lists, segments, units, first, pgn, answer);
+}

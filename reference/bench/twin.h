@@ -13,7 +13,9 @@
     __typeof__(deorasaeng_start) side##_start;       \
     __typeof__(deorasaeng_quiet) side##_quiet;       \
     __typeof__(deorasaeng_unit) side##_unit;         \
-    __typeof__(deorasaeng_counts) side##_counts
+    __typeof__(deorasaeng_counts) side##_counts;     \
+    __typeof__(deorasaeng_plan) side##_plan;         \
+    __typeof__(deorasaeng_plan_links) side##_plan_links
 
 FUNCTIONS(c);
 FUNCTIONS(rust);

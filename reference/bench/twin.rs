@@ -664,6 +664,122 @@ fn power_on(words: &mut [u64], name: u64, preferred: u32, ports: u32) -> Result<
     }
 }
 
+// ---- plans
+
+const SEGMENTS: usize = 16;
+const UNITS: usize = 16;
+const PAIRS: usize = MOST * (MOST - 1);
+
+#[repr(C)]
+pub struct Link {
+    unit: u32,
+    port: u32,
+    segment: u32,
+}
+
+#[derive(Clone, Copy)]
+struct Question {
+    segments: usize,
+    units: usize,
+    first: usize,
+    pgn: u32,
+}
+
+/// What a number has that no PGN has: bits from 18 on, or a low byte where its PF is below 240.
+fn no_pgn(number: u64) -> u64 {
+    let low = if number & 0xF000 == 0xF000 { 0 } else { number & 0xFF };
+    number >> 18 | low
+}
+
+/// A list is judged where there is one: that of a cleared pair is not read.
+fn is_good_pair(pair: &Pair) -> bool {
+    match pair[0] {
+        CLEARED => true,
+        BLOCK | PASS if pair[1] <= LIST as u64 => entries_of(pair).iter().fold(0, |wrong, &x| wrong | no_pgn(x)) == 0,
+        _ => false,
+    }
+}
+
+/// Whether two paths lead between some segments: a unit has a port on a segment that its earlier ports are joined to.
+fn has_ring(units: &[[u64; MOST]]) -> bool {
+    let mut joined: [u32; SEGMENTS + 1] = std::array::from_fn(|s| 1 << s);
+    for ports in units {
+        let mut all = 0;
+        for &s in ports.iter().filter(|&&s| s != 0) {
+            if all >> s & 1 == 1 {
+                return true;
+            }
+            all |= joined[s as usize];
+        }
+        for (s, joined) in joined.iter_mut().enumerate() {
+            if all >> s & 1 == 1 {
+                *joined = all;
+            }
+        }
+    }
+    false
+}
+
+/// The segments that hear, bit s for segment s. Without a ring each is reached once.
+fn walk(units: &[[u64; MOST]], pairs: &[Pair], first: usize, pgn: u32) -> u64 {
+    let permanent = pgn == CLAIM_PGN || pgn == REQUEST_PGN;
+    let mut waiting = [(0, UNITS); SEGMENTS];
+    waiting[0].0 = first as u64;
+    let (mut heard, mut n) = (1 << first, 1);
+    while n > 0 {
+        n -= 1;
+        let (segment, by) = waiting[n];
+        for (unit, ports) in units.iter().enumerate() {
+            let Some(from) = ports.iter().position(|&s| s == segment).filter(|_| unit != by) else { continue };
+            let others = (0..MOST).filter(|&to| to != from);
+            for (to, pair) in others.zip(&pairs[PAIRS * unit + (MOST - 1) * from..]) {
+                let s = ports[to];
+                if s != 0 && (permanent || ask(pair, pgn).0 < reason::STOPPED_AS_LISTED) {
+                    heard |= 1 << s;
+                    waiting[n] = (s, unit);
+                    n += 1;
+                }
+            }
+        }
+    }
+    heard
+}
+
+fn plan(ports: &[u64], lists: &[u64], q: Question, answer: &mut [u64]) -> Result<(), u32> {
+    let (units, pairs) = (ports.as_chunks::<MOST>().0, lists.as_chunks::<PAIR_WORDS>().0);
+    let ([told], true, true) = (answer, units.len() == UNITS && ports.len() == UNITS * MOST, lists.len() == UNITS * PAIRS * PAIR_WORDS) else {
+        return Err(2);
+    };
+    if q.segments > SEGMENTS || q.units > UNITS || !(1..=q.segments).contains(&q.first) || !is_pgn(q.pgn) {
+        return Err(28);
+    }
+    let (units, pairs) = (&units[..q.units], &pairs[..PAIRS * q.units]);
+    if units.as_flattened().iter().any(|&s| s > q.segments as u64) || !pairs.iter().all(is_good_pair) {
+        return Err(28);
+    }
+    if has_ring(units) {
+        return Err(29);
+    }
+    *told = walk(units, pairs, q.first, q.pgn) >> 1;
+    Ok(())
+}
+
+fn plan_links(links: &[Link], lists: &[u64], q: Question, answer: &mut [u64]) -> Result<(), u32> {
+    let mut ports = [0; UNITS * MOST];
+    if lists.len() != UNITS * PAIRS * PAIR_WORDS || answer.len() != 1 {
+        return Err(2);
+    }
+    for link in links {
+        let (unit, port, segment) = (link.unit as usize, link.port as usize, link.segment as usize);
+        let good = (1..=q.units.min(UNITS)).contains(&unit) && (1..=MOST).contains(&port) && (1..=q.segments).contains(&segment);
+        if !good || ports[MOST * (unit - 1) + port - 1] != 0 {
+            return Err(28);
+        }
+        ports[MOST * (unit - 1) + port - 1] = segment as u64;
+    }
+    plan(&ports, lists, q, answer)
+}
+
 fn number(done: Result<(), u32>) -> u32 {
     done.err().unwrap_or(0)
 }
@@ -775,4 +891,40 @@ pub unsafe extern "C" fn rust_counts(record: *const u64, record_len: usize, port
     let queue = OWN + PLACE_WORDS * PLACES + QUEUE_WORDS * (port as usize - 1);
     answer.copy_from_slice(&words[queue + 1..][..COUNTS]);
     0
+}
+
+#[no_mangle]
+pub unsafe extern "C" fn rust_plan(
+    ports: *const u64,
+    ports_len: usize,
+    lists: *const u64,
+    lists_len: usize,
+    segments: u32,
+    units: u32,
+    first: u32,
+    pgn: u32,
+    answer: *mut u64,
+    answer_len: usize,
+) -> u32 {
+    let question = Question { segments: segments as usize, units: units as usize, first: first as usize, pgn };
+    let lists = slice::from_raw_parts(lists, lists_len);
+    number(plan(slice::from_raw_parts(ports, ports_len), lists, question, slice::from_raw_parts_mut(answer, answer_len)))
+}
+
+#[no_mangle]
+pub unsafe extern "C" fn rust_plan_links(
+    links: *const Link,
+    links_len: usize,
+    lists: *const u64,
+    lists_len: usize,
+    segments: u32,
+    units: u32,
+    first: u32,
+    pgn: u32,
+    answer: *mut u64,
+    answer_len: usize,
+) -> u32 {
+    let question = Question { segments: segments as usize, units: units as usize, first: first as usize, pgn };
+    let lists = slice::from_raw_parts(lists, lists_len);
+    number(plan_links(slice::from_raw_parts(links, links_len), lists, question, slice::from_raw_parts_mut(answer, answer_len)))
 }

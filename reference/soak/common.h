@@ -8,12 +8,12 @@
 #include <stdlib.h>
 #include <string.h>
 
-enum kind { POWER_ON, POWER_ON_PORTS, FRAME, TAKE, MESSAGE, START, QUIET, UNIT, COUNTS, TAKE_QUEUE, KINDS };
+enum kind { POWER_ON, POWER_ON_PORTS, FRAME, TAKE, MESSAGE, START, QUIET, UNIT, COUNTS, TAKE_QUEUE, PLAN, PLAN_LINKS, KINDS };
 
 /* One more than the highest number. */
-enum { NUMBERS = DEORASAENG_WRONG_PORT_COUNT + 1 };
+enum { NUMBERS = DEORASAENG_TWO_PATHS + 1 };
 
-static const char *const kind_name[KINDS] = {"power-on", "power-on with ports", "frame", "take", "message", "Start", "Quiet", "unit", "counts", "take on a queue"};
+static const char *const kind_name[KINDS] = {"power-on", "power-on with ports", "frame", "take", "message", "Start", "Quiet", "unit", "counts", "take on a queue", "plan", "plan as links"};
 
 /* The numbers that each call can give. */
 static const uint32_t allowed[KINDS] = {
@@ -27,6 +27,8 @@ static const uint32_t allowed[KINDS] = {
     1u << 0 | 1u << 2,
     0x7u,
     1u << 0 | 1u << 2,
+    1u << 0 | 1u << 2 | 1u << 28 | 1u << 29,
+    1u << 0 | 1u << 2 | 1u << 28 | 1u << 29,
 };
 
 static uint64_t seed, calls, number_count[KINDS][NUMBERS];
@@ -66,6 +68,11 @@ static void count(enum kind kind, uint32_t number)
 static void print_counts(void)
 {
     for (int kind = 0; kind < KINDS; kind++) {
+        uint64_t all = 0;
+        for (int number = 0; number < NUMBERS; number++)
+            all += number_count[kind][number];
+        if (all == 0)
+            continue;
         printf("%s:", kind_name[kind]);
         for (int number = 0; number < NUMBERS; number++)
             if (number_count[kind][number] != 0)

@@ -5,7 +5,7 @@
 #include "common.h"
 #include <sys/mman.h>
 
-enum { ROOM = 32768, PAGE = 65536, LENT = 4 };
+enum { ROOM = 262144, PAGE = 65536, LENT = 4 };
 
 /* A buffer of one call: its place, its bytes, and what it held before. */
 struct lent {
@@ -13,7 +13,7 @@ struct lent {
     size_t size;
 };
 
-/* the record or queue, the answer, bytes or reply, and what is handed in */
+/* the record or queue, or a plan's ports or links; the answer; bytes or reply; and what is handed in, or a plan's lists */
 static struct lent lent[LENT];
 
 static uint8_t *fence(void)
@@ -285,9 +285,68 @@ static void fuzz_counts(size_t length, uint64_t *record)
         check(memcmp(answer, record + DEORASAENG_QUEUE_AT(port) + COUNTS_AT, 8 * DEORASAENG_COUNTS_ANSWER) == 0, "other counts");
 }
 
+/* Units in a chain, some of them with one port more; as links where there is room for them. */
+static void fill_ports(uint64_t *words, size_t length)
+{
+    memset(words, 0, 8 * length);
+    for (size_t i = 0; i + MOST_PORTS <= length && i < PLAN_PORTS - MOST_PORTS; i += MOST_PORTS) {
+        words[i + i / MOST_PORTS % 5] = 1 + i / MOST_PORTS;
+        words[i + 5 + below(3)] = 2 + i / MOST_PORTS;
+        if (below(64) == 0)
+            words[i + below(MOST_PORTS)] = below(MOST_SEGMENTS + 2);
+    }
+}
+
+static void fill_links(struct deorasaeng_link *links, size_t length)
+{
+    for (size_t i = 0; i < length; i++) {
+        links[i] = (struct deorasaeng_link){1 + i / 2, 1 + i % 2 * (1 + below(7)), 1 + i / 2 + i % 2};
+        if (below(128) == 0)
+            links[i] = (struct deorasaeng_link){below(18), below(10), below(18)};
+    }
+}
+
+/* Lists whose words are in range, but for one now and then. */
+static void fill_lists(uint64_t *lists, size_t length)
+{
+    for (size_t i = 0; i < length; i++)
+        lists[i] = i % PAIR_WORDS == 0 ? below(3) : i % PAIR_WORDS == 1 ? below(LIST + 1) : 0xF000u + below(60);
+    if (length != 0 && below(4) == 0)
+        lists[below((uint32_t)length)] = next();
+}
+
+static void fuzz_plan(enum kind kind)
+{
+    size_t length = kind == PLAN ? some_size(PLAN_PORTS, 200) : below(8) ? 2 * below(MOST_UNITS) : below(200);
+    size_t list_words = some_size(PLAN_LISTS, PLAN_LISTS), words = some_size(DEORASAENG_PLAN_ANSWER, 4);
+    void *on = lend(0, (kind == PLAN ? sizeof(uint64_t) : sizeof(struct deorasaeng_link)) * length);
+    uint64_t *answer = lend(1, 8 * words), *lists = lend(3, 8 * list_words);
+    if (below(8) && kind == PLAN && length != 0)
+        fill_ports(on, length);
+    if (below(8) && kind == PLAN_LINKS)
+        fill_links(on, length);
+    if (below(8))
+        fill_lists(lists, list_words);
+    keep(0);
+    keep(3);
+    uint32_t segments = below(8) ? MOST_SEGMENTS : below(18), units = below(8) ? MOST_UNITS : below(18);
+    uint32_t first = below(8) ? 1 + below(MOST_SEGMENTS) : below(18), pgn = some_pgn();
+    uint32_t number = kind == PLAN ? deorasaeng_plan(on, length, lists, list_words, segments, units, first, pgn, answer, words)
+                                   : deorasaeng_plan_links(on, length, lists, list_words, segments, units, first, pgn, answer, words);
+    judge(kind, number, 1, (kind == PLAN_LINKS || length == PLAN_PORTS) && list_words == PLAN_LISTS && words == DEORASAENG_PLAN_ANSWER);
+    check(unchanged(0), "asking a plan changed it");
+    if (number == 0)
+        check(answer[0] >> (first - 1) & 1 && answer[0] >> segments == 0, "the first segment does not hear, or one that is not there");
+}
+
 static void fuzz(void)
 {
     enum kind kind = below(4) ? FRAME + below(3) : below(KINDS);
+    if (kind == PLAN || kind == PLAN_LINKS) {
+        fuzz_plan(kind);
+        take_back();
+        return;
+    }
     uint32_t likely = kind == POWER_ON && below(2) ? USUAL_PORTS : FEWEST_PORTS + below(7);
     size_t length = kind == TAKE_QUEUE ? DEORASAENG_QUEUE_WORDS : some_size(DEORASAENG_RECORD_WORDS_FOR(likely), 4000);
     uint64_t *record = some_record(length, likely);

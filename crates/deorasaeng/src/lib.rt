@@ -2,6 +2,8 @@
 // nothing: a wrong length is refused with 2.
 use bridge::TakeAnswer;
 use bridge::UnitAnswer;
+use plan_links::Link;
+use plans::Planned;
 use queue::Queue;
 use unit::Unit;
 ghost use mathlib.Core.Path.{_≡_};
@@ -9,9 +11,10 @@ ghost use Rattle.unit.specs.Count.{portsOf};
 ghost use Rattle.unit.specs.PowerOn.{PoweringOn};
 ghost use Rattle.bridge.specs.Calls.{Quieting};
 ghost use Rattle.deorasaeng.specs.Interface.{lentRefusal, FrameCall, TakeCall, MessageCall, StartCall, UnitCall, CountsCall, QueueCall};
+ghost use Rattle.deorasaeng.specs.PlanCalls.{Telling, PlanCall, LinksCall};
 
 // The version of the interface, which the header names: it rises with every function, number or word that is added.
-pub const VERSION: u64 = 6;
+pub const VERSION: u64 = 7;
 
 // The published lengths of the answers.
 pub const FRAME_WORDS: usize = 8;
@@ -25,6 +28,8 @@ pub const START_WORDS: usize = 2;
 pub const UNIT_WORDS: usize = 5;
 
 pub const COUNTS_WORDS: usize = 10;
+
+pub const PLAN_WORDS: usize = 1;
 
 // The number of a call that names a port and lends storage of a wrong length: 1 stands before 2.
 fn lent_refusal(words: &[u64], port: u32) -> u32
@@ -224,4 +229,54 @@ pub extern "C" fn deorasaeng_take_queue(
     let t = take_told(*queue, answer, bytes);
     *queue = t.queue;
     t.number
+}
+
+// A plan's answer as the caller gets it.
+fn tell_plan(planned: Planned, answer: &mut [u64]) -> u32
+    ensures { λ r. ⌜ Telling planned (now (answer .entry)) (now (answer .exit)) r ⌝ }
+{
+    if answer.len() != PLAN_WORDS {
+        return 2;
+    }
+    match planned {
+        Planned::Heard(segments) => {
+            answer[0] = segments;
+            0
+        }
+        Planned::Refused(number) => number,
+    }
+}
+
+// Which segments of a plan hear a PGN that is sent on the first one.
+#[no_mangle]
+pub extern "C" fn deorasaeng_plan(
+    ports: &[u64],
+    lists: &[u64],
+    segments: u32,
+    units: u32,
+    first: u32,
+    pgn: u32,
+    answer: &mut [u64],
+) -> u32
+    ensures { λ r. ⌜ PlanCall (now (ports .entry)) (now (lists .entry)) segments units first pgn (now (answer .entry)) (now (answer .exit)) r ⌝ }
+{
+    let planned = plans::hear(ports, lists, segments, units, first, pgn);
+    tell_plan(planned, answer)
+}
+
+// The same by the plan's links.
+#[no_mangle]
+pub extern "C" fn deorasaeng_plan_links(
+    links: &[Link],
+    lists: &[u64],
+    segments: u32,
+    units: u32,
+    first: u32,
+    pgn: u32,
+    answer: &mut [u64],
+) -> u32
+    ensures { λ r. ⌜ LinksCall (now (links .entry)) (now (lists .entry)) segments units first pgn (now (answer .entry)) (now (answer .exit)) r ⌝ }
+{
+    let planned = plan_links::hear(links, lists, segments, units, first, pgn);
+    tell_plan(planned, answer)
 }

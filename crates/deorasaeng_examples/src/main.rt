@@ -319,6 +319,41 @@ fn eight_ports() {
     frame(record, b"port 9", 9, 0x18FEF126, b"\x01");
 }
 
+// A plan's line. A refusal leaves the answer, which had 9.
+fn plan(ports: &[u64], lists: &[u64], word: &[u8], first: u32, pgn: u32) {
+    let mut answer = [9u64; deorasaeng::PLAN_WORDS];
+    head(
+        word,
+        deorasaeng::deorasaeng_plan(ports, lists, 3, 2, first, pgn, &mut answer),
+    );
+    words(&answer);
+    text(b"\n");
+}
+
+// Unit 1 joins segments 1 and 2 and lets 65097 alone through from the one to the other, unit 2 joins 2 and 3.
+fn ask_plan(lists: &[u64]) {
+    let mut ports = [0u64; plan_shape::PORTS_LENGTH];
+    ports[0] = 1;
+    ports[1] = 2;
+    ports[8] = 2;
+    ports[9] = 3;
+    plan(&ports, lists, b"plan, 65097 from 1", 1, 65097);
+    plan(&ports, lists, b"plan, 61444 from 1", 1, 61444);
+    plan(&ports, lists, b"plan, 61444 from 3", 3, 61444);
+    plan(&ports, lists, b"plan, 61185 from 1", 1, 61185);
+    plan(&ports, &ports, b"plan, lists of 128 words", 1, 65097);
+    ports[10] = 1;
+    plan(&ports, lists, b"plan, a ring", 1, 65097);
+}
+
+fn plans() {
+    let mut lists = [0u64; plan_shape::LISTS_LENGTH];
+    lists[0] = 2;
+    lists[1] = 1;
+    lists[2] = 65097;
+    ask_plan(&lists);
+}
+
 // A unit that is Claimed.
 fn claimed(record: &mut [u64]) {
     begins(record);
@@ -349,4 +384,5 @@ fn main() {
     is_taken_over(record);
     wrong_counts(record);
     eight_ports();
+    plans();
 }

@@ -1,4 +1,4 @@
-/* The C interface of the bridge: one unit of two to eight ports, on a record of words that the caller lends.
+/* The C interface of the bridge: one unit of two to eight ports, on a record of words that the caller lends; and a plan of several, asked who hears what.
 
    Link libdeorasaeng.a. Each function gives back 0 for done, or the number that refuses the call; a refusal changes no word of the record (27 at power-on aside).
    Nothing is required of arguments and lengths: what is wrong is refused by its number. Of pointers, what C itself asks: each is aligned and good for as many
@@ -6,8 +6,8 @@
    bytes may be handed in as NULL, 0; any other may not.
 
    Platform: x86-64 Linux, the System V calling convention, any linker for ELF. Needed are memcpy and memset and nothing else: no heap, no call of the operating
-   system, no data outside the record. SSE registers and the red zone are used. Some 16 KB of code and constants, 9,768 bytes of record for four ports, at most 1.2 KB
-   of stack. For other platforms there is no proved library today; the project's reference/, in safe Rust, is an unproved stand-in.
+   system, no data outside the record. SSE registers and the red zone are used. Some 21 KB of code and constants, 9,768 bytes of record for four ports, at most 1.2 KB
+   of stack, 7 KB in a call on a plan. For other platforms there is no proved library today; the project's reference/, in safe Rust, is an unproved stand-in.
    docs/INTEGRATION.md has the loop of a box, interrupts, locking and stack.
 
    An answer is lent storage of the length given below, in words; another length is number 2. On a refusal it is left as it was (deorasaeng_message says
@@ -27,7 +27,7 @@ extern "C" {
 
 /* The version of this interface. A version may add functions, numbers, and words at the end of an answer, whose published length then grows: a call that lends
    the old length is refused with 2. So callers are compiled again with the header of the library that they link. */
-#define DEORASAENG_VERSION 6
+#define DEORASAENG_VERSION 7
 
 /* What a function gives back: 0 for done, else why the call is refused. */
 enum deorasaeng_number {
@@ -51,7 +51,9 @@ enum deorasaeng_number {
     DEORASAENG_PGN_ABSENT = 17,          /* Delete: a PGN absent from a named pair */
     DEORASAENG_WRONG_STATE = 18,         /* Start not in Unstarted, Quiet not in Claiming */
     DEORASAENG_WRONG_ENTRY = 22,         /* an entry is no PGN */
-    DEORASAENG_WRONG_PORT_COUNT = 27     /* port count not 2 to 8 */
+    DEORASAENG_WRONG_PORT_COUNT = 27,    /* port count not 2 to 8 */
+    DEORASAENG_WRONG_PLAN = 28,          /* a number outside the plan or its range, or one asked or listed that is no PGN */
+    DEORASAENG_TWO_PATHS = 29            /* two paths between some segments, or two ports of a unit on one */
 };
 
 /* What a message's answer names as written, and the PGN that a network message comes with. */
@@ -94,6 +96,13 @@ enum deorasaeng_number {
 #define DEORASAENG_START_ANSWER 2
 #define DEORASAENG_UNIT_ANSWER 5
 #define DEORASAENG_COUNTS_ANSWER 10
+#define DEORASAENG_PLAN_ANSWER 1
+
+/* A plan of a machine: how many segments and units it may have; for each unit the segment on each of eight ports, and the list of each of 56 pairs, as words. */
+#define DEORASAENG_MOST_SEGMENTS 16
+#define DEORASAENG_MOST_UNITS 16
+#define DEORASAENG_PLAN_PORT_WORDS 128
+#define DEORASAENG_PLAN_LIST_WORDS 30464
 
 /* The words of a frame's answer. */
 enum deorasaeng_frame_word {
@@ -221,6 +230,22 @@ uint32_t deorasaeng_counts(const uint64_t *record, size_t record_len, uint32_t p
    words, the port's counts among them. Answer and bytes as deorasaeng_take's. Number 2. It copies the queue (1.2 KB of stack); deorasaeng_take works in place. */
 uint32_t deorasaeng_take_queue(uint64_t queue[DEORASAENG_QUEUE_WORDS], uint64_t *answer, size_t answer_len, uint8_t *bytes,
                                size_t bytes_len);
+
+/* A plan of a machine, asked before it is built: which segments hear a PGN that is sent on the first one? It needs no record. `ports` has eight words for each of 16
+   units, the segment on each port, 1 to `segments`, or 0 if it is unused. `lists` has 56 blocks of DEORASAENG_PAIR_WORDS words for each of 16 units, in order of From, then
+   To: mode (0 cleared, 1 block, 2 pass), count, 32 PGNs. What lies past the units in use is not read. The answer has bit s - 1 for segment s that hears. Numbers 2, 28
+   and 29. docs/PLANS.md says what each is for. */
+uint32_t deorasaeng_plan(const uint64_t *ports, size_t ports_len, const uint64_t *lists, size_t lists_len, uint32_t segments, uint32_t units,
+                         uint32_t first, uint32_t pgn, uint64_t *answer, size_t answer_len);
+
+/* A port of a unit with the segment that it is on, each counted from 1. */
+struct deorasaeng_link {
+    uint32_t unit, port, segment;
+};
+
+/* The same with a link for each port in use, in any order, in place of `ports`. A port that is named twice is 28, as is a number out of its range. */
+uint32_t deorasaeng_plan_links(const struct deorasaeng_link *links, size_t links_len, const uint64_t *lists, size_t lists_len, uint32_t segments,
+                               uint32_t units, uint32_t first, uint32_t pgn, uint64_t *answer, size_t answer_len);
 
 #ifdef __cplusplus
 }

@@ -218,6 +218,21 @@ fn pgns(words: &mut [u64]) -> [u64; 2] {
 
 const VERSION: [u64; 1] = [deorasaeng::VERSION];
 
+// The number that a plan of one segment is given, by the segment on two ports of its unit.
+fn plan_number(segment: u64) -> u64 {
+    let mut answer = [0u64; deorasaeng::PLAN_WORDS];
+    let mut ports = [0u64; plan_shape::PORTS_LENGTH];
+    ports[0] = segment;
+    ports[1] = segment;
+    let lists = [0u64; plan_shape::LISTS_LENGTH];
+    deorasaeng::deorasaeng_plan(&ports, &lists, 1, 1, 1, 65097, &mut answer) as u64
+}
+
+// WRONG_PLAN, TWO_PATHS.
+fn plan_numbers() -> [u64; 2] {
+    [plan_number(2), plan_number(1)]
+}
+
 // The numbers of an Unstarted unit.
 fn early_numbers(head: &[u8], names: &[u8], from: Passed, words: &mut [u64]) -> Passed {
     let mut p = all(head, names, from, &VERSION);
@@ -248,8 +263,8 @@ fn record_lengths(head: &[u8], names: &[u8], from: Passed) -> Passed {
     p
 }
 
-// QUEUE_WORDS, PAIR_WORDS, REPLY_BYTES, QUEUES_AT, FRAME_BYTES, and the lengths of the answers to a frame, a take, a message, Start, of the unit and of the counts.
-const LENGTHS: [u64; 11] = [
+// QUEUE_WORDS, PAIR_WORDS, REPLY_BYTES, QUEUES_AT, FRAME_BYTES, and the lengths of the answers to a frame, a take, a message, Start, of the unit, of the counts and of a plan.
+const LENGTHS: [u64; 12] = [
     queue::BLOCK_LENGTH as u64,
     filter::BLOCK_SIZE as u64,
     refusals::LONGEST_MESSAGE as u64,
@@ -261,6 +276,15 @@ const LENGTHS: [u64; 11] = [
     deorasaeng::START_WORDS as u64,
     deorasaeng::UNIT_WORDS as u64,
     deorasaeng::COUNTS_WORDS as u64,
+    deorasaeng::PLAN_WORDS as u64,
+];
+
+// MOST_SEGMENTS, MOST_UNITS, PLAN_PORT_WORDS, PLAN_LIST_WORDS.
+const PLAN: [u64; 4] = [
+    plan_shape::SEGMENTS as u64,
+    plan_shape::UNITS as u64,
+    plan_shape::PORTS_LENGTH as u64,
+    plan_shape::LISTS_LENGTH as u64,
 ];
 
 // The claim states, and the address of a unit that has none.
@@ -402,10 +426,12 @@ fn compare_all(head: &[u8], names: &[u8]) -> u64 {
     p = early_numbers(head, names, p, &mut words);
     claim(&mut words);
     p = claimed_numbers(head, names, p, &mut words);
+    p = all(head, names, p, &plan_numbers());
     p = all(head, names, p, &pgns(&mut words));
     p = all(head, names, p, &PORT_COUNTS);
     p = record_lengths(head, names, p);
     p = all(head, names, p, &LENGTHS);
+    p = all(head, names, p, &PLAN);
     p = answers(head, names, p, &mut words);
     p = all(head, names, p, &states());
     p = all(head, names, p, &events());

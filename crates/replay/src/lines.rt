@@ -1,6 +1,7 @@
 // One line of a script: passed over or answered, and what is written for it.
 use crate::calls;
-use script_output::print;
+use line_parts::print;
+use script_output::output;
 use script_output::tally;
 use script_output::words;
 ghost use Prim.Native.Nat.{_≤_};
@@ -25,7 +26,7 @@ fn show(counts: &mut [u64], line: &[u8]) {
     let out: &mut [u8] = &mut space;
     let n = shown_length(line);
     let at = print::text(out, 0, &line[0..n]);
-    print::finish(counts, out, at);
+    output::finish(counts, out, at);
 }
 
 // The words of the number that refused the last call, in parentheses; nothing for a call that was done.
@@ -52,7 +53,7 @@ fn show_beside(counts: &mut [u64], line: &[u8], answer: &[u8]) {
     let at = print::text(out, at, b"  ");
     let at = print::text(out, at, answer);
     let at = told(counts, out, at);
-    print::finish(counts, out, at);
+    output::finish(counts, out, at);
 }
 
 // Whether a line without blanks at its ends is empty or a comment.
@@ -69,7 +70,7 @@ fn answer(words: &mut [u64], counts: &mut [u64], line: &[u8], is_plain: bool) {
     let out: &mut [u8] = &mut space;
     let n = calls::answer(words, counts, line, out);
     if is_plain {
-        print::finish(counts, out, n);
+        output::finish(counts, out, n);
         return;
     }
     let written = &out[..];
@@ -93,6 +94,6 @@ pub fn pass(words: &mut [u64], counts: &mut [u64], line: &[u8], is_plain: bool) 
         return;
     }
     tally::count(counts, tally::LINES);
-    let end = script::end_of(line);
+    let end = line_parts::words::end_of(line);
     pass_trimmed(words, counts, &line[0..end], is_plain);
 }

@@ -5,7 +5,8 @@ mod lines;
 
 use libc::STDERR_FILENO;
 use libc::STDIN_FILENO;
-use script_output::print;
+use line_parts::print;
+use line_parts::words;
 use script_output::summary;
 use script_output::tally;
 ghost use Prim.Native.Nat.{_≤_};
@@ -28,7 +29,7 @@ enum Output {
 fn overflow(line: &mut [u8], byte: u8) {
     let n = line.len();
     if 0 < n {
-        if !script::is_blank(byte) {
+        if !words::is_blank(byte) {
             line[n - 1] = byte;
         }
     }
@@ -39,7 +40,7 @@ fn past_mark(counts: &[u64], line: &[u8]) -> usize
     ensures { λ r. ⌜ r ≤ length (now (line .entry)) ⌝ }
 {
     if tally::get(counts, tally::LINES) == 0 {
-        if script::is_mark(line) {
+        if words::is_mark(line) {
             return 0;
         }
     }
@@ -62,7 +63,7 @@ fn feed(
         lines::pass(words, counts, &line[0..len], is_plain);
         return 0;
     }
-    if len == 0 && script::is_blank(byte) {
+    if len == 0 && words::is_blank(byte) {
         return 0;
     }
     if len == line.len() {
@@ -177,21 +178,6 @@ fn run(is_plain: bool) {
     tell(counts);
 }
 
-// Whether two words are the same.
-fn is_same(a: &[u8], b: &[u8]) -> bool {
-    if a.len() != b.len() {
-        return false;
-    }
-    let mut i = 0;
-    while i < a.len() && i < b.len() {
-        if a[i] != b[i] {
-            return false;
-        }
-        i += 1;
-    }
-    true
-}
-
 // The one argument that there may be.
 fn output_asked() -> Output {
     let n = os::arg_count();
@@ -200,7 +186,7 @@ fn output_asked() -> Output {
     }
     let mut buffer = io::buffer();
     let k = os::arg(1, &mut buffer);
-    if 2 < n || !is_same(&buffer[..k], b"--plain") {
+    if 2 < n || !words::is_same(&buffer[..k], b"--plain") {
         return Output::Unknown;
     }
     Output::Plain

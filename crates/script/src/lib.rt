@@ -1,4 +1,7 @@
 // The script format: whether a line is a call and what is wrong with it if not, the call that it is, and the bytes that its last word stands for.
+use line_parts::words;
+use line_parts::words::Narrow;
+use line_parts::words::Word;
 use unit::Unit;
 ghost use Prim.Native.Nat.{_≤_};
 ghost use lib.ListN.{length};
@@ -56,71 +59,10 @@ pub enum Wrong {
     NoUnit,
 }
 
-// Where a word begins and ends in its line; the two are the same where there is none.
-struct Word {
-    start: usize,
-    end: usize,
-}
-
-// A word that stands for a number of 32 bits, or for none.
-enum Narrow {
-    Number(u32),
-    Wrong,
-}
-
-// The same of 64 bits.
+// A word that stands for a number of 64 bits, or for none.
 enum Wide {
     Number(u64),
     Wrong,
-}
-
-// Blanks, tabs and carriage returns part words and are no part of them.
-pub fn is_blank(byte: u8) -> bool {
-    byte == b' ' || byte == b'\t' || byte == b'\r'
-}
-
-// The first place, from one on, that has no blank, or the line's end.
-fn past_blanks(line: &[u8], from: usize) -> usize
-    requires { ⌜ from ≤ length (now line) ⌝ }
-    ensures { λ r. ⌜ (from ≤ r) × (r ≤ length (now (line .entry))) ⌝ }
-{
-    let mut i = from;
-    while i < line.len() {
-        if !is_blank(line[i]) {
-            return i;
-        }
-        i += 1;
-    }
-    i
-}
-
-// The first place, from one on, that has a blank, or the line's end.
-fn past_word(line: &[u8], from: usize) -> usize
-    requires { ⌜ from ≤ length (now line) ⌝ }
-    ensures { λ r. ⌜ (from ≤ r) × (r ≤ length (now (line .entry))) ⌝ }
-{
-    let mut i = from;
-    while i < line.len() {
-        if is_blank(line[i]) {
-            return i;
-        }
-        i += 1;
-    }
-    i
-}
-
-// Where the line ends without the blanks at its end.
-pub fn end_of(line: &[u8]) -> usize
-    ensures { λ r. ⌜ r ≤ length (now (line .entry)) ⌝ }
-{
-    let mut i = line.len();
-    while 0 < i {
-        if !is_blank(line[i - 1]) {
-            return i;
-        }
-        i -= 1;
-    }
-    i
 }
 
 // The next word from a place on.
@@ -128,8 +70,8 @@ fn next_word(line: &[u8], from: usize) -> Word
     requires { ⌜ from ≤ length (now line) ⌝ }
     ensures { λ r. ⌜ (from ≤ r .start) × (r .start ≤ r .end) × (r .end ≤ length (now (line .entry))) ⌝ }
 {
-    let start = past_blanks(line, from);
-    let end = past_word(line, start);
+    let start = words::past_blanks(line, from);
+    let end = words::past_word(line, start);
     Word { start, end }
 }
 
@@ -159,27 +101,6 @@ fn digit(byte: u8) -> u8
     }
 }
 
-// Decimal digits of a number below 2^32.
-fn decimal(word: &[u8]) -> Narrow {
-    if word.len() == 0 {
-        return Narrow::Wrong;
-    }
-    let mut n: u64 = 0;
-    let mut i = 0;
-    while i < word.len() {
-        let d = digit(word[i]);
-        if 9 < d {
-            return Narrow::Wrong;
-        }
-        n = 10 * n + d as u64;
-        if 4294967295 < n {
-            return Narrow::Wrong;
-        }
-        i += 1;
-    }
-    Narrow::Number(n as u32)
-}
-
 // One to `longest` hex digits.
 fn hex(word: &[u8], longest: usize) -> Wide {
     if word.len() == 0 || longest < word.len() {
@@ -199,7 +120,7 @@ fn hex(word: &[u8], longest: usize) -> Wide {
 }
 
 fn is_decimal(word: &[u8]) -> bool {
-    if let Narrow::Number(_) = decimal(word) {
+    if let Narrow::Number(_) = words::decimal(word) {
         true
     } else {
         false
@@ -301,7 +222,7 @@ pub fn what_is_wrong(line: &[u8]) -> Wrong {
         return Wrong::NoLetter;
     }
     if 1 < line.len() {
-        if !is_blank(line[1]) {
+        if !words::is_blank(line[1]) {
             return Wrong::NoLetter;
         }
     }
@@ -321,7 +242,7 @@ fn decimal_at(line: &[u8], k: usize) -> u32 {
     let found = word_at(line, k);
     let start = found.start;
     let end = found.end;
-    let Narrow::Number(n) = decimal(&line[start..end]) else {
+    let Narrow::Number(n) = words::decimal(&line[start..end]) else {
         return 0;
     };
     n
@@ -409,7 +330,7 @@ fn last_word(line: &[u8]) -> usize
 {
     let mut i = line.len();
     while 0 < i {
-        if is_blank(line[i - 1]) {
+        if words::is_blank(line[i - 1]) {
             return i;
         }
         i -= 1;
@@ -438,12 +359,4 @@ pub fn read_bytes(line: &[u8], bytes: &mut [u8]) -> usize
 {
     let start = last_word(line);
     decode(&line[start..], bytes)
-}
-
-// Whether three bytes are a byte-order mark.
-pub fn is_mark(bytes: &[u8]) -> bool {
-    if bytes.len() != 3 {
-        return false;
-    }
-    bytes[0] == 0xEF && bytes[1] == 0xBB && bytes[2] == 0xBF
 }

@@ -1,5 +1,5 @@
-// What a run of a script prints: lines made in a lent buffer, the numbers and reasons in words, what came of the calls counted, and the summary.
-pub mod print;
+// What a run of a script prints: the numbers and reasons in words, what came of the calls counted, and the summary.
+pub mod output;
 pub mod reasons;
 pub mod summary;
 pub mod tally;

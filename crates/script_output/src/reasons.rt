@@ -1,8 +1,9 @@
 // The reasons why frames crossed to ports or stopped: in a frame's answer, and counted in the summary. They are told in the order of their numbers, but 0, that a
 // port was not asked, comes last.
-use crate::print;
+use crate::output;
 use crate::tally;
 use crate::words;
+use line_parts::print;
 ghost use Prim.Native.Nat.{_≤_, _<_};
 ghost use lib.ListN.{length};
 
@@ -114,6 +115,6 @@ pub fn write(counts: &mut [u64], out: &mut [u8], index: usize)
     let first = print::text(out, 0, b"    ");
     let end = counted(counts, out, first, index);
     if first < end {
-        print::finish(counts, out, end);
+        output::finish(counts, out, end);
     }
 }

@@ -1,8 +1,9 @@
 // The summary of a script: the calls of each kind, what came of them, and what became of frames at each port.
-use crate::print;
+use crate::output;
 use crate::reasons;
 use crate::tally;
 use crate::words;
+use line_parts::print;
 use std::num::wrapping_add_u64;
 use std::num::wrapping_sub_u64;
 ghost use Prim.Native.Nat.{_≤_, _<_};
@@ -16,7 +17,7 @@ fn refusal(counts: &mut [u64], out: &mut [u8], number: usize, n: u64) {
     let at = print::text(out, 0, b"    ");
     let at = words::number(out, at, number as u64);
     let at = print::count(out, at, b": ", n);
-    print::finish(counts, out, at);
+    output::finish(counts, out, at);
 }
 
 // A line for each number that refused calls of a kind, rising.
@@ -37,7 +38,7 @@ fn refusals(counts: &mut [u64], out: &mut [u8], at: usize, kind: usize)
 {
     let n = tally::sum(counts, kind, 1);
     let end = print::count(out, at, b", refused ", n);
-    print::finish(counts, out, end);
+    output::finish(counts, out, end);
     by_number(counts, out, kind);
 }
 
@@ -60,7 +61,7 @@ fn power_ons(counts: &mut [u64], out: &mut [u8]) {
         b", lines that are no call ",
         others,
     );
-    print::finish(counts, out, at);
+    output::finish(counts, out, at);
     by_number(counts, out, tally::POWER_ON);
 }
 
@@ -122,7 +123,7 @@ fn port(counts: &mut [u64], out: &mut [u8], index: usize)
     requires { ⌜ index < 8 ⌝ }
 {
     let at = fates(counts, out, index);
-    print::finish(counts, out, at);
+    output::finish(counts, out, at);
     reasons::write(counts, out, index);
 }
 
@@ -148,7 +149,7 @@ fn takes(counts: &mut [u64], out: &mut [u8]) {
 
 // Power-ons, Start, Quiet and the unit, after an empty line.
 fn beginnings(counts: &mut [u64], out: &mut [u8]) {
-    print::finish(counts, out, 0);
+    output::finish(counts, out, 0);
     power_ons(counts, out);
     claims(counts, out);
 }

@@ -1,5 +1,5 @@
 // What a person reads beside a number, and why a line is no call.
-use crate::print;
+use line_parts::print;
 use script::Field;
 use script::Wrong;
 ghost use Prim.Native.Nat.{_≤_};

@@ -1,0 +1,104 @@
+// The lists of the pairs.
+use filter::BLOCK_SIZE;
+use filter::Reason;
+use plan_shape::PAIRS;
+use plan_shape::PORTS;
+use plan_text::Wrong;
+ghost use Prim.Native.Nat.{_≤_};
+
+// Where a pair's block begins: in order of unit, From and To.
+fn start(unit: u32, from: u32, to: u32) -> usize
+    requires { ⌜ (1 ≤ unit) × (1 ≤ from) × (1 ≤ to) ⌝ }
+    ensures { λ r. ⌜ r ≤ 17592186044416 ⌝ }
+{
+    let f = from as usize - 1;
+    let t = to as usize - 1;
+    let first = PAIRS * (unit as usize - 1) + (PORTS - 1) * f;
+    if t <= f {
+        return BLOCK_SIZE * (first + t);
+    }
+    BLOCK_SIZE * (first + (t - 1))
+}
+
+// Why a PGN crosses a pair or not.
+pub fn reason(listed: &[u64], unit: u32, from: u32, to: u32, pgn: u32) -> Reason {
+    if unit == 0 {
+        return Reason::NotAsked;
+    }
+    if from == 0 {
+        return Reason::NotAsked;
+    }
+    if to == 0 {
+        return Reason::NotAsked;
+    }
+    let a = start(unit, from, to);
+    let e = a + BLOCK_SIZE;
+    if listed.len() < e {
+        return Reason::NotAsked;
+    }
+    let asked = filter::ask(&listed[a..e], pgn);
+    asked.reason
+}
+
+// The first of a line's numbers that is no PGN.
+fn no_pgn(line: &[u8]) -> Wrong {
+    let n = plan_text::list_length(line);
+    let mut i = 0;
+    while i < n {
+        let pgn = plan_text::pgn(line, i);
+        let good = identifier::is_pgn(pgn);
+        if good {
+            i += 1;
+        } else {
+            return Wrong::NoPgn(pgn as u64);
+        }
+    }
+    Wrong::Nothing
+}
+
+fn put(block: &mut [u64], place: usize, word: u64) {
+    if place < block.len() {
+        block[place] = word;
+    }
+}
+
+// A pair's block, from its line.
+fn fill(block: &mut [u64], mode: u64, line: &[u8]) {
+    let n = plan_text::list_length(line);
+    put(block, filter::MODE, mode);
+    put(block, filter::COUNT, n as u64);
+    let mut i = 0;
+    while i < n {
+        put(block, filter::LIST + i, plan_text::pgn(line, i) as u64);
+        i += 1;
+    }
+}
+
+// A pair's list, from its line, unless it has one or lists what is no PGN.
+pub fn add(listed: &mut [u64], unit: u32, from: u32, to: u32, mode: u64, line: &[u8]) -> Wrong {
+    if unit == 0 {
+        return Wrong::NoUnit;
+    }
+    if from == 0 {
+        return Wrong::UnknownPort(0);
+    }
+    if to == 0 {
+        return Wrong::UnknownPort(0);
+    }
+    let a = start(unit, from, to);
+    let e = a + BLOCK_SIZE;
+    if listed.len() < e {
+        return Wrong::NoUnit;
+    }
+    if listed[a] != filter::CLEARED {
+        return Wrong::KnownPair {
+            from: from as u64,
+            to: to as u64,
+        };
+    }
+    let wrong = no_pgn(line);
+    if let Wrong::Nothing = wrong {
+        fill(&mut listed[a..e], mode, line);
+    }
+    wrong
+}

@@ -1,0 +1,4 @@
+pub mod PathsIn
+pub mod Joined
+pub mod Unique
+pub mod Labels

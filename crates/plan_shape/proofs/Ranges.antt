@@ -1,0 +1,122 @@
+-- A test of each number below n, one after the other; and what a plan whose numbers are in range has. Assumes nothing.
+use mathlib.Core.Path.{_≡_, refl, sym, ap, _∙_}
+use mathlib.Core.Bool.{Bool, true, false, _&&_, true≢false}
+use mathlib.Core.List.{List}
+use Prim.Native.Nat.{ℕ, zero, suc, _+_, _-_, _*_, _≤_, _<_}
+use native.Mathlib.Decide.{ℕ-discrete}
+use native.Mathlib.Numerals.{add-one}
+use native.Mathlib.Omega.{arith}
+use borrow.Author.Tests.{leb-true}
+use lib.ListN.{length, getD, take, drop, length-drop}
+use lib.Seq.{length-take-le}
+use Rattle.storage.specs.Blocks.{blockAt}
+use Rattle.filter.specs.Filter.{blockSize}
+use lib.Dec.{leb}
+use Rattle.checks.proofs.Tests.{both}
+use Rattle.storage.proofs.Walk.{Left, left-next, left-one, left-none}
+use Rattle.entries.specs.Entries.{every}
+use Rattle.identifier.specs.Identifier.{isPgn}
+use Rattle.plan_shape.specs.Plan.{Plan, below, numbersInRange, inRange, pairInRange, blockOf, mostSegments, mostUnits, portCount, pairsOfUnit}
+
+-- ---- below n
+pub below-none : (test : ℕ → Bool) → below test 0 ≡ true
+unfolding below
+below-none test = refl
+
+pub below-more : (test : ℕ → Bool) (n : ℕ) → below test n ≡ true → test n ≡ true → below test (n + 1) ≡ true
+unfolding below
+below-more test n h t = rw (add-one n, below, h, t)
+
+and-false : (a : Bool) → (a && false) ≡ false
+and-false true = refl
+and-false false = refl
+
+pub below-not : (test : ℕ → Bool) (n i : ℕ) → i < n → test i ≡ false → below test n ≡ false
+unfolding below
+below-not test zero i h t = absurd (omega arith)
+below-not test (suc n) i h t = elim (ℕ-discrete i n) [
+  | yes e ↦ rw ((rw e at t), and-false (below test n))
+  | no ne ↦ rw (below-not test n i (omega arith) t)
+]
+
+pub below-at : (test : ℕ → Bool) (n i : ℕ) → i < n → below test n ≡ true → test i ≡ true
+unfolding below
+below-at test zero i h t = absurd (omega arith)
+below-at test (suc n) i h t =
+    let p = both (below test n) (test n) t in
+    elim (ℕ-discrete i n) [
+      | yes e ↦ rw e (p .1)
+      | no ne ↦ below-at test n i (omega arith) (p .0)
+    ]
+
+-- ---- the part that is lent for a pair
+pub part-block : (lists : List ℕ) (i : ℕ) → take (blockSize * i + blockSize - blockSize * i) (drop (blockSize * i) lists) ≡ blockOf lists i
+unfolding blockAt
+part-block lists i =
+    let size : blockSize * i + blockSize - blockSize * i ≡ blockSize = omega arith in
+    let start : 0 + blockSize * i ≡ blockSize * i = omega arith in
+    rw (size, start)
+
+pub part-long : (lists : List ℕ) (i : ℕ) → blockSize * i + blockSize ≤ length lists → length (take (blockSize * i + blockSize - blockSize * i) (drop (blockSize * i) lists)) ≡ blockSize
+part-long lists i h =
+    let size : blockSize * i + blockSize - blockSize * i ≡ blockSize = omega arith in
+    rw size (length-take-le blockSize (drop (blockSize * i) lists) (omega (arith, length-drop (blockSize * i) lists)))
+
+-- ---- a walk over a list whose elements are to be PGNs
+module _ {es : List ℕ} {i : ℕ} (L : Left (every isPgn es) (every isPgn) es i) where
+  pub every-on : i < length es → isPgn (getD es i 0) ≡ true → Left (every isPgn es) (every isPgn) es (i + 1)
+  unfolding every
+  every-on turn e = left-one L turn (rw e)
+
+  pub every-not : i < length es → isPgn (getD es i 0) ≡ false → every isPgn es ≡ false
+  unfolding every
+  every-not turn e = left-next L turn ∙ rw e
+
+  pub every-done : length es ≤ i → every isPgn es ≡ true
+  unfolding every
+  every-done h = left-none L h
+
+-- ---- the numbers in range
+pub record Numbers (segments units first pgn : ℕ) : Type 0 where
+  pub segmented : segments ≤ mostSegments
+  pub few : units ≤ mostUnits
+  pub least : 1 ≤ first
+  pub most : first ≤ segments
+
+pub numbers : (segments units first pgn : ℕ) → numbersInRange segments units first pgn ≡ true → Numbers segments units first pgn
+unfolding numbersInRange
+numbers segments units first pgn e =
+    let a = both (leb segments mostSegments) (leb units mostUnits && (leb 1 first && (leb first segments && isPgn pgn))) e in
+    let b = both (leb units mostUnits) (leb 1 first && (leb first segments && isPgn pgn)) (a .1) in
+    let c = both (leb 1 first) (leb first segments && isPgn pgn) (b .1) in
+    let d = both (leb first segments) (isPgn pgn) (c .1) in
+    record {
+      segmented = leb-true segments mostSegments (a .0);
+      few = leb-true units mostUnits (b .0);
+      least = leb-true 1 first (c .0);
+      most = leb-true first segments (d .0);
+    }
+
+-- what a plan in range has
+pub record Ranged (segments : ℕ) (plan : Plan) (first : ℕ) : Type 0 where
+  pub segmented : segments ≤ mostSegments
+  pub few : plan .units ≤ mostUnits
+  pub least : 1 ≤ first
+  pub most : first ≤ segments
+  pub ports : (i : ℕ) → i < portCount * plan .units → getD (plan .ports) i 0 ≤ segments
+
+pub ranged : (segments : ℕ) (plan : Plan) (first pgn : ℕ) → inRange segments plan first pgn ≡ true → Ranged segments plan first
+unfolding inRange
+ranged segments plan first pgn e =
+    let onPort : ℕ → Bool = λ i. leb (getD (plan .ports) i 0) segments in
+    let inLists : ℕ → Bool = λ i. pairInRange (blockOf (plan .lists) i) in
+    let a = both (numbersInRange segments (plan .units) first pgn) (below onPort (portCount * plan .units) && below inLists (pairsOfUnit * plan .units)) e in
+    let b = both (below onPort (portCount * plan .units)) (below inLists (pairsOfUnit * plan .units)) (a .1) in
+    let N = numbers segments (plan .units) first pgn (a .0) in
+    record {
+      segmented = N .segmented;
+      few = N .few;
+      least = N .least;
+      most = N .most;
+      ports = λ i h. leb-true (getD (plan .ports) i 0) segments (below-at onPort (portCount * plan .units) i h (b .0));
+    }
