@@ -1,11 +1,14 @@
-/* Where the record's regions begin, in words, for C that reads or fills a record itself: the unit's own words, the address table, the queues, and the pairs in order of
-   From, then To, which alone lie elsewhere with another number of ports. */
+/* Where the record's regions begin, in words, for C that reads or fills a record itself: the unit's own words, the address table, the queues; and the pairs in order of
+   From, then To, and the losses in the same order, the general counter last, which lie elsewhere with another number of ports. */
 #ifndef LAYOUT_H
 #define LAYOUT_H
 
 #include "../include/deorasaeng.h"
 
 enum { USUAL_PORTS = 4, FEWEST_PORTS = DEORASAENG_FEWEST_PORTS, MOST_PORTS = DEORASAENG_MOST_PORTS, LIST = 32, QUEUE = 32, RANKS = 8, PLACES = 254 };
+
+/* Where a counter of losses stays. */
+enum { MOST_LOSSES = 64255 };
 
 /* The unit's own words are its claim state, address, preferred address, NAME and number of ports. A place of the table is its port and its NAME; a queue how
    many wait, what the port counts and two words for each frame; a pair its mode, its count and its list. */
@@ -31,6 +34,8 @@ enum {
 };
 
 #define PAIRS_AT(ports) (QUEUES_AT + QUEUE_WORDS * (ports))
+#define LOSSES_AT(ports) (PAIRS_AT(ports) + PAIR_WORDS * (ports) * ((ports) - 1))
+#define GENERAL_AT(ports) (LOSSES_AT(ports) + (ports) * ((ports) - 1))
 
 /* The pair of two different ports, as its number in that order. */
 static inline uint32_t pair_number(uint32_t ports, uint32_t from, uint32_t to)

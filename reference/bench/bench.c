@@ -31,8 +31,8 @@ struct row {
     uint32_t id;
     size_t len;
     uint64_t bytes;
-    /* A message: function, pair byte, how many entries, how many of them different, the first one's place among the PGNs, the last one's; backwards or not. */
-    uint8_t function, pair;
+    /* A message: function, pair byte, parameter; how many entries, how many of them different, the first one's place among the PGNs, the last one's; backwards or not. */
+    uint8_t function, pair, parameter;
     int named, different, first, last, backwards;
     /* A plan: how many units it has, and whether they close a ring; its lists are as every pair's above, and the last word of the last is wrong where the number is 28. */
     uint32_t units;
@@ -68,6 +68,8 @@ static void make_payload(const struct row *r)
     payload[1] = r->pair;
     if (r->function == 6)
         payload[n++] = 1;
+    if (r->function >= 128)
+        payload[n++] = r->parameter;
     for (int i = 0; i < r->named; i++) {
         int k = i % r->different;
         uint32_t pgn = listed(r->last && i == r->named - 1 ? r->last : r->first + (r->backwards ? r->different - 1 - k : k));
@@ -316,6 +318,9 @@ static const struct row message_rows[] = {
     {"Create of 32, 3 pairs", messages, .function = 6, .pair = 0x1F, .named = 32, .different = 32, .resets = MODES(0)},
     {"address list of none", messages, .function = 64, .pair = 0x02},
     {"address list of 253", messages, .function = 64, .pair = 0x02, .held = 253},
+    {"losses of a pair told", messages, .function = 131, .pair = 0x12, .parameter = 9},
+    {"losses of a pair reset", messages, .function = 133, .pair = 0x12, .parameter = 9, .resets = {{LOSSES_AT(USUAL_PORTS), 5}}},
+    {"entries in general told", messages, .mode = 1, .entries = 32, .function = 128, .parameter = 3},
     {"refused (10)", messages, .number = 10, .function = 2, .pair = 0x11},
 };
 
@@ -428,7 +433,7 @@ static int same_case(const struct row *a, const struct row *b)
 {
     return a->run == b->run && a->number == b->number && a->ports == b->ports && a->mode == b->mode && a->entries == b->entries && a->at == b->at && a->waiting == b->waiting &&
            a->lower == b->lower && a->held == b->held && a->id == b->id && a->len == b->len && a->bytes == b->bytes && a->function == b->function &&
-           a->pair == b->pair && a->units == b->units && a->ring == b->ring && a->named == b->named && a->different == b->different && a->first == b->first && a->last == b->last &&
+           a->pair == b->pair && a->parameter == b->parameter && a->units == b->units && a->ring == b->ring && a->named == b->named && a->different == b->different && a->first == b->first && a->last == b->last &&
            a->backwards == b->backwards && memcmp(a->resets, b->resets, sizeof a->resets) == 0;
 }
 

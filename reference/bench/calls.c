@@ -115,19 +115,21 @@ static void make_entries(struct call *c, const uint64_t *pair, size_t start)
 
 static void make_message(struct call *c, const uint64_t *record)
 {
-    static const uint8_t functions[] = {0, 2, 2, 2, 3, 3, 3, 4, 6, 6, 6, 64};
+    static const uint8_t functions[] = {0, 2, 2, 2, 3, 3, 3, 4, 6, 6, 6, 64, 128, 130, 131, 133}, parameters[] = {1, 2, 3, 9, 9, 9};
     uint32_t ports = ports_of(record, MOST_WORDS), from = 1 + below(ports), to = 1 + (from + below(ports - 1)) % ports;
     const uint64_t *pair = record + PAIRS_AT(ports) + PAIR_WORDS * pair_number(ports, from, to);
     for (int i = 0; i < 16; i++)
         c->payload[i] = next();
     c->payload[0] = one_in(64) ? below(256) : functions[below(sizeof functions)];
-    c->payload[1] = one_in(64) ? below(256) : from << 4 | (c->payload[0] && one_in(3) ? 15 : to);
+    c->payload[1] = one_in(64) ? below(256) : from << 4 | (c->payload[0] && one_in(c->payload[0] < 128 ? 3 : 32) ? 15 : to);
     c->len = one_in(32) ? below(1800) : 8;
     c->requester = one_in(64) ? below(300) : 0x21;
     if (one_in(3))
         c->port = one_in(2) ? from : to;
     if (c->payload[0] == 6)
         c->payload[2] = one_in(32) ? below(256) : below(2);
+    if (c->payload[0] >= 128)
+        c->payload[2] = one_in(16) ? below(256) : parameters[below(sizeof parameters)];
     if (c->payload[0] == 2 || c->payload[0] == 3)
         make_entries(c, pair, 2);
     if (c->payload[0] == 6)
@@ -314,13 +316,13 @@ enum { NUMBERS = DEORASAENG_TWO_PATHS + 1, REASONS = DEORASAENG_REASON_STOPPED_A
 
 static bool is_number(int i)
 {
-    return i <= DEORASAENG_WRONG_STATE || i == DEORASAENG_WRONG_ENTRY || i >= DEORASAENG_WRONG_PORT_COUNT;
+    return i <= DEORASAENG_WRONG_STATE || i == DEORASAENG_WRONG_ENTRY || i == DEORASAENG_WRONG_PARAMETER || i >= DEORASAENG_WRONG_PORT_COUNT;
 }
 
 /* What came of the calls, so that one sees that nothing was left untried. */
 struct tally {
-    long numbers[NUMBERS], events[8], reasons[REASONS], done[65], ports[MOST_PORTS + 1], full, longest, permanent, later_entry, later_absent, later_pair, counts_of_full,
-        counts_of_none, heard[MOST_SEGMENTS + 1];
+    long numbers[NUMBERS], events[8], reasons[REASONS], done[256], ports[MOST_PORTS + 1], full, longest, permanent, later_entry, later_absent, later_pair, counts_of_full,
+        counts_of_none, losses_told, most_told, heard[MOST_SEGMENTS + 1];
 };
 
 /* How many lists on a frame's way would stop it if its PGN, which is permanent, were not. */
@@ -365,6 +367,11 @@ static void count(struct tally *t, const struct call *c, const struct lent *l, u
         t->done[c->payload[0]]++;
         t->full += c->payload[0] == 0 && l->answer[DEORASAENG_WRITTEN] == 99;
         t->longest += c->payload[0] && c->len >= 1784;
+        if ((c->payload[0] == 128 || c->payload[0] == 131) && c->payload[2] == 9) {
+            uint32_t losses = l->reply[3] | (uint32_t)l->reply[4] << 8;
+            t->losses_told += losses != 0;
+            t->most_told += losses == MOST_LOSSES;
+        }
     }
     if (number == 0 && (c->kind == PLAN || c->kind == PLAN_LINKS))
         t->heard[__builtin_popcountll(l->answer[0])]++;
@@ -372,8 +379,9 @@ static void count(struct tally *t, const struct call *c, const struct lent *l, u
 
 static bool is_whole(const struct tally *t, long calls)
 {
-    bool whole = t->full && t->longest && t->permanent && t->later_entry && t->later_absent && t->later_pair && t->counts_of_full && t->counts_of_none
-        && t->heard[1] && t->heard[MOST_SEGMENTS];
+    bool whole = t->full && t->longest && t->permanent && t->later_entry && t->later_absent && t->later_pair && t->counts_of_full && t->counts_of_none &&
+                 t->losses_told && t->most_told && t->done[128] && t->done[130] && t->done[131] && t->done[133] &&
+                 t->heard[1] && t->heard[MOST_SEGMENTS];
     for (int i = 0; i < NUMBERS; i++)
         whole &= !is_number(i) || t->numbers[i] > 0;
     for (int i = FEWEST_PORTS; i <= MOST_PORTS; i++)
@@ -382,8 +390,9 @@ static bool is_whole(const struct tally *t, long calls)
         whole &= t->events[i] > 0;
     for (int i = 0; i < REASONS; i++)
         whole &= t->reasons[i] > 0;
-    printf("%ld random calls: the three sides agree. Messages done: Request %ld (%ld of 32 PGNs), Add %ld, Delete %ld, Clear %ld, Create %ld, addresses %ld; %ld of 594 entries.\n",
-           calls, t->done[0], t->full, t->done[2], t->done[3], t->done[4], t->done[6], t->done[64], t->longest);
+    printf("%ld random calls: the three sides agree. Messages done: Request %ld (%ld of 32 PGNs), Add %ld, Delete %ld, Clear %ld, Create %ld, addresses %ld; %ld of 594 entries; parameters told %ld in general, %ld of a pair, "
+           "losses that are not 0 %ld, at the most %ld; reset %ld and %ld.\n",
+           calls, t->done[0], t->full, t->done[2], t->done[3], t->done[4], t->done[6], t->done[64], t->longest, t->done[128], t->done[131], t->losses_told, t->most_told, t->done[130], t->done[133]);
     printf("Refused, by number:");
     for (int i = 1; i < NUMBERS; i++)
         if (is_number(i))
@@ -409,6 +418,17 @@ static bool is_whole(const struct tally *t, long calls)
     return whole;
 }
 
+/* Counters near where they stay, which calls would take long to come to; the same on every side. */
+static void near_the_most(struct lent *lent)
+{
+    uint32_t ports = ports_of(lent[0].record, MOST_WORDS);
+    for (size_t i = LOSSES_AT(ports); i <= GENERAL_AT(ports); i++) {
+        uint64_t counter = MOST_LOSSES - below(6);
+        for (int s = 0; s < SIDES; s++)
+            lent[s].record[i] = counter;
+    }
+}
+
 bool agree(long calls)
 {
     static struct lent lent[SIDES];
@@ -424,6 +444,8 @@ bool agree(long calls)
                 return false;
             }
         count(&t, &c, &lent[0], number);
+        if (one_in(8192))
+            near_the_most(lent);
         make_call(&c, lent[0].record);
     }
     return is_whole(&t, calls);

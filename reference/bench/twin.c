@@ -3,10 +3,12 @@
 #include <stdbool.h>
 #include <string.h>
 
-enum { FEWEST = 2, USUAL = 4, MOST = 8, LIST = 32, QUEUE = 32, PLACES = 254, NO_ADDRESS = 254, LONGEST = 1785, ALL = 15, FILLING = 0xFF };
+enum { FEWEST = 2, USUAL = 4, MOST = 8, LIST = 32, QUEUE = 32, PLACES = 254, NO_ADDRESS = 254, LONGEST = 1785, ALL = 15, FILLING = 0xFF, MOST_LOSSES = 64255 };
 enum { UNSTARTED, CLAIMING, CLAIMED, LOST };
 enum { CLEARED, BLOCK, PASS };
 enum { REQUEST = 0, ADD = 2, DELETE = 3, CLEAR = 4, CREATE = 6, ADDRESSES = 64 };
+enum { TELL_GENERAL = 128, RESET_GENERAL = 130, TELL_PAIR = 131, RESET_PAIR = 133 };
+enum { BUFFER_SIZE = 1, LIST_SIZE = 2, ENTRIES = 3, LOSSES = 9 };
 enum { REQUEST_PGN = 59904, CLAIM_PGN = 60928, REPLY_PGN = 60672, ACKNOWLEDGMENT_PGN = 59392 };
 
 struct pair {
@@ -28,7 +30,7 @@ struct place {
     uint64_t port, name;
 };
 
-/* Behind the queues, one for each port, stand the pairs: for each port those to the others. */
+/* Behind the queues, one for each port, stand the pairs: for each port those to the others; then the losses, a counter for each pair and the general one. */
 struct unit {
     uint64_t claim, address, preferred, name, ports;
     struct place table[PLACES];
@@ -38,7 +40,7 @@ struct unit {
 _Static_assert(sizeof(struct unit) == 8 * DEORASAENG_QUEUES_AT, "the published place");
 _Static_assert(sizeof(struct queue) == 8 * DEORASAENG_QUEUE_WORDS, "the published queue");
 
-#define WORDS_FOR(ports) ((sizeof(struct unit) + (ports) * sizeof(struct queue) + (ports) * ((ports) - 1) * sizeof(struct pair)) / 8)
+#define WORDS_FOR(ports) ((sizeof(struct unit) + (ports) * sizeof(struct queue) + (ports) * ((ports) - 1) * (sizeof(struct pair) + 8) + 8) / 8)
 
 #define PUBLISHED(ports) (WORDS_FOR(ports) == DEORASAENG_RECORD_WORDS_FOR(ports))
 
@@ -60,6 +62,17 @@ static struct pair *pairs_from(struct unit *u, uint32_t ports, uint32_t from)
     return (struct pair *)(u->queues + ports) + (ports - 1) * from;
 }
 
+static uint64_t *losses_of(struct unit *u, uint32_t ports)
+{
+    return (uint64_t *)pairs_from(u, ports, ports);
+}
+
+static void lose(uint64_t *counter)
+{
+    if (*counter < MOST_LOSSES)
+        ++*counter;
+}
+
 /* ---- queues */
 static bool join(struct queue *q, uint64_t head, uint64_t bytes)
 {
@@ -79,8 +92,10 @@ static uint64_t announce(struct unit *u, uint32_t ports, uint32_t id)
 {
     uint64_t lost = 0;
     for (uint32_t q = 0; q < ports; q++)
-        if (!join(&u->queues[q], id | 8ull << 32, u->name))
+        if (!join(&u->queues[q], id | 8ull << 32, u->name)) {
             lost |= 1u << q;
+            lose(losses_of(u, ports) + ports * (ports - 1));
+        }
     return lost;
 }
 
@@ -121,10 +136,14 @@ static void forward(struct unit *u, uint32_t ports, uint32_t from, uint32_t pgn,
         reasons |= reason << 4 * to;
         if (reason >= DEORASAENG_REASON_STOPPED_AS_LISTED)
             continue;
-        if (join(&u->queues[to], head, bytes))
+        if (join(&u->queues[to], head, bytes)) {
             accepted |= 1u << to;
-        else
+        } else {
+            uint64_t *losses = losses_of(u, ports);
             lost |= 1u << to;
+            lose(losses + (ports - 1) * from + (to < from ? to : to - 1));
+            lose(losses + ports * (ports - 1));
+        }
     }
     answer[DEORASAENG_ACCEPTED] = accepted;
     answer[DEORASAENG_LOST] = lost;
@@ -418,14 +437,55 @@ static size_t reply_addresses(const struct unit *u, uint32_t port, uint8_t *repl
     return n;
 }
 
+/* How many PGNs so many pairs list. */
+static uint64_t listed(const struct pair *pairs, uint32_t n)
+{
+    uint64_t sum = 0;
+    for (uint32_t k = 0; k < n; k++)
+        sum += pairs[k].mode == CLEARED ? 0 : pairs[k].count;
+    return sum;
+}
+
+/* 23 and 12, and a parameter told or reset where none applies; `length` is that of a reply without filling. */
+static uint32_t parameter(struct unit *u, uint32_t ports, uint32_t from, uint32_t to, const uint8_t *payload, size_t n, uint8_t *reply, size_t *length)
+{
+    bool general = payload[0] < TELL_PAIR, resets = payload[0] == RESET_GENERAL || payload[0] == RESET_PAIR;
+    uint8_t asked = payload[2];
+    if (asked != LOSSES && (resets || asked < BUFFER_SIZE || asked > ENTRIES))
+        return 23;
+    if (n != 8)
+        return 12;
+    uint32_t all = ports * (ports - 1), first = general ? 0 : (ports - 1) * (from - 1) + (to < from ? to - 1 : to - 2), pairs = general ? all : 1;
+    uint64_t *counter = losses_of(u, ports) + (general ? all : first), value = *counter;
+    if (resets) {
+        *counter = 0;
+        return 0;
+    }
+    if (asked == BUFFER_SIZE)
+        value = 13 * QUEUE * (general ? ports : 1);
+    else if (asked == LIST_SIZE)
+        value = 3 * LIST * pairs;
+    else if (asked == ENTRIES)
+        value = listed(pairs_from(u, ports, 0) + first, pairs);
+    reply[0] = payload[0] + 1;
+    reply[1] = general ? FILLING : payload[1];
+    reply[2] = asked;
+    reply[3] = value;
+    reply[4] = value >> 8;
+    *length = 5;
+    return 0;
+}
+
 /* 9 to 11: function, ports, right. All pairs from a port are a neighbour's too only where there is one. */
 static uint32_t judge(uint32_t ports, uint32_t port, uint8_t function, uint32_t from, uint32_t to)
 {
     switch (function) {
     case ADDRESSES:
         return to - 1 >= ports ? 10 : port != 1 && port != to ? 11 : 0;
-    case REQUEST: case ADD: case DELETE: case CLEAR: case CREATE:
-        if (from - 1 >= ports || from == to || (to - 1 >= ports && (to != ALL || function == REQUEST)))
+    case TELL_GENERAL: case RESET_GENERAL:
+        return port != 1 ? 11 : 0;
+    case REQUEST: case ADD: case DELETE: case CLEAR: case CREATE: case TELL_PAIR: case RESET_PAIR:
+        if (from - 1 >= ports || from == to || (to - 1 >= ports && (to != ALL || function == REQUEST || function > CREATE)))
             return 10;
         return port != 1 && port != from && port != to && !(to == ALL && ports == 2) ? 11 : 0;
     default:
@@ -454,7 +514,7 @@ static uint32_t command(struct pair *pairs, int named, uint32_t from, uint32_t t
     return payload[2] > 1 ? 13 : create(pairs, named, BLOCK + payload[2], payload + start, m);
 }
 
-/* 12 to 17 and 22, and what a message asks for where none applies; `length` is that of a reply. */
+/* 23, 12 to 17 and 22, and what a message asks for where none applies; `length` is that of a reply. */
 static uint32_t perform(struct unit *u, uint32_t ports, uint32_t from, uint32_t to, const uint8_t *payload, size_t n, uint8_t *reply,
                         size_t *length, struct wrong *wrong)
 {
@@ -464,6 +524,8 @@ static uint32_t perform(struct unit *u, uint32_t ports, uint32_t from, uint32_t 
         *length = reply_addresses(u, to, reply);
         return 0;
     }
+    if (payload[0] > ADDRESSES)
+        return parameter(u, ports, from, to, payload, n, reply, length);
     struct pair *pairs = pairs_from(u, ports, from - 1);
     if (to == ALL)
         return command(pairs, ports - 1, from, to, payload, n, wrong);

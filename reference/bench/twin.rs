@@ -22,6 +22,7 @@ const MESSAGE_ANSWER: usize = 5;
 const NO_ADDRESS: u64 = 254;
 const ALL: usize = 15;
 const FILLING: u8 = 0xFF;
+const MOST_LOSSES: u64 = 64255;
 
 const UNSTARTED: u64 = 0;
 const CLAIMING: u64 = 1;
@@ -52,6 +53,15 @@ const DELETE: u8 = 3;
 const CLEAR: u8 = 4;
 const CREATE: u8 = 6;
 const ADDRESSES: u8 = 64;
+const TELL_GENERAL: u8 = 128;
+const RESET_GENERAL: u8 = 130;
+const TELL_PAIR: u8 = 131;
+const RESET_PAIR: u8 = 133;
+
+const BUFFER_SIZE: u8 = 1;
+const LIST_SIZE: u8 = 2;
+const ENTRIES: u8 = 3;
+const LOSSES: u8 = 9;
 
 /// The mode, the count, the PGNs.
 type Pair = [u64; PAIR_WORDS];
@@ -60,16 +70,17 @@ type Queue = [u64; QUEUE_WORDS];
 /// The arrival port, the NAME.
 type Place = [u64; PLACE_WORDS];
 
-/// The record's regions. The pairs are, for each port, those to the others.
+/// The record's regions. The pairs are, for each port, those to the others; the losses are a counter for each, and the general one last.
 struct Unit<'a> {
     own: &'a mut [u64; OWN],
     table: &'a mut [Place; PLACES],
     queues: &'a mut [Queue],
     pairs: &'a mut [Pair],
+    losses: &'a mut [u64],
 }
 
 const fn record_words(ports: usize) -> usize {
-    OWN + PLACE_WORDS * PLACES + QUEUE_WORDS * ports + PAIR_WORDS * ports * (ports - 1)
+    OWN + PLACE_WORDS * PLACES + QUEUE_WORDS * ports + (PAIR_WORDS + 1) * ports * (ports - 1) + 1
 }
 
 /// How many ports the record has.
@@ -325,6 +336,12 @@ fn contest(place: &mut Place, port: u64, name: u64) -> Event {
     event
 }
 
+fn lose(counter: &mut u64) {
+    if *counter < MOST_LOSSES {
+        *counter += 1;
+    }
+}
+
 fn own_id(address: u64) -> u32 {
     0x18EEFF00 + address as u32
 }
@@ -353,12 +370,14 @@ impl<'a> Unit<'a> {
         }
         let (own, rest) = words.split_first_chunk_mut()?;
         let (table, rest) = rest.split_at_mut(PLACE_WORDS * PLACES);
-        let (queues, pairs) = rest.split_at_mut(QUEUE_WORDS * ports);
+        let (queues, rest) = rest.split_at_mut(QUEUE_WORDS * ports);
+        let (pairs, losses) = rest.split_at_mut(PAIR_WORDS * ports * (ports - 1));
         Some(Unit {
             own,
             table: table.as_chunks_mut().0.try_into().ok()?,
             queues: queues.as_chunks_mut().0,
             pairs: pairs.as_chunks_mut().0,
+            losses,
         })
     }
 
@@ -387,6 +406,7 @@ impl<'a> Unit<'a> {
         for (q, queue) in self.queues.iter_mut().enumerate() {
             if !join(queue, u64::from(id) | 8 << 32, name) {
                 lost |= 1 << q;
+                lose(&mut self.losses[self.pairs.len()]);
             }
         }
         lost
@@ -430,6 +450,8 @@ impl<'a> Unit<'a> {
                 accepted |= 1 << to;
             } else {
                 lost |= 1 << to;
+                lose(&mut self.losses[n * from + pair_of(from, to)]);
+                lose(&mut self.losses[self.pairs.len()]);
             }
         }
         (accepted, lost, total, reasons)
@@ -508,7 +530,35 @@ impl<'a> Unit<'a> {
         n
     }
 
-    /// 9 to 17 and 22, and what the payload asks for where none applies: a reply's length, or nothing where an acknowledgment is due.
+    /// 23 and 12, and where none applies a parameter that is reset, or told: then the reply's length without filling. Without a pair it is a general one.
+    fn parameter(&mut self, pair: Option<usize>, payload: &[u8], reply: &mut [u8]) -> Result<Option<usize>, Refusal> {
+        let (function, asked) = (payload[0], payload[2]);
+        let resets = function == RESET_GENERAL || function == RESET_PAIR;
+        if asked != LOSSES && (resets || !(BUFFER_SIZE..=ENTRIES).contains(&asked)) {
+            return Err(23.into());
+        }
+        has_eight_bytes(payload)?;
+        let counter = &mut self.losses[pair.unwrap_or(self.pairs.len())];
+        if resets {
+            *counter = 0;
+            return Ok(None);
+        }
+        let (queues, pairs) = match pair {
+            Some(i) => (1, &self.pairs[i..=i]),
+            None => (self.queues.len(), &self.pairs[..]),
+        };
+        let value = match asked {
+            BUFFER_SIZE => 13 * QUEUE * queues,
+            LIST_SIZE => 3 * LIST * pairs.len(),
+            ENTRIES => pairs.iter().map(|pair| entries_of(pair).len()).sum(),
+            _ => *counter as usize,
+        };
+        let named = if pair.is_some() { payload[1] } else { FILLING };
+        reply[..5].copy_from_slice(&[function + 1, named, asked, value as u8, (value >> 8) as u8]);
+        Ok(Some(5))
+    }
+
+    /// 9 to 17, 22 and 23, and what the payload asks for where none applies: a reply's length, or nothing where an acknowledgment is due.
     fn perform(&mut self, port: usize, payload: &[u8], reply: &mut [u8]) -> Result<Option<usize>, Refusal> {
         let (from, to) = (usize::from(payload[1] >> 4), usize::from(payload[1] & 15));
         let ports = self.ports();
@@ -518,8 +568,10 @@ impl<'a> Unit<'a> {
             ADDRESSES if !is_port(to) => Err(10.into()),
             ADDRESSES if port != 1 && port != to => Err(11.into()),
             ADDRESSES => has_eight_bytes(payload).map(|()| Some(self.reply_addresses(to, reply))),
-            REQUEST | ADD | DELETE | CLEAR | CREATE => {
-                if !is_port(from) || from == to || !(is_port(to) || to == ALL && function != REQUEST) {
+            TELL_GENERAL | RESET_GENERAL if port != 1 => Err(11.into()),
+            TELL_GENERAL | RESET_GENERAL => self.parameter(None, payload, reply),
+            REQUEST | ADD | DELETE | CLEAR | CREATE | TELL_PAIR | RESET_PAIR => {
+                if !is_port(from) || from == to || !(is_port(to) || to == ALL && (ADD..=CREATE).contains(&function)) {
                     return Err(10.into());
                 }
                 // All pairs from a port are a neighbour's too only where there is one.
@@ -528,6 +580,10 @@ impl<'a> Unit<'a> {
                 }
                 if function == REQUEST {
                     return has_eight_bytes(payload).map(|()| Some(self.reply_list(from, to, payload[1], reply)));
+                }
+                if function > CREATE {
+                    let pair = (ports - 1) * (from - 1) + pair_of(from - 1, to - 1);
+                    return self.parameter(Some(pair), payload, reply);
                 }
                 self.command(from, to, payload).map(|()| None)
             }

@@ -21,7 +21,7 @@ static const uint32_t allowed[KINDS] = {
     1u << 0 | 1u << 2 | 1u << 27,
     0x3Fu,
     0x7u,
-    0x7u | 0x3FFC0u | 1u << 22,
+    0x7u | 0x3FFC0u | 1u << 22 | 1u << DEORASAENG_WRONG_PARAMETER,
     1u << 0 | 1u << 2 | 1u << 8 | 1u << 18,
     1u << 0 | 1u << 2 | 1u << 18,
     1u << 0 | 1u << 2,
@@ -194,6 +194,123 @@ static void check_left(const uint64_t *queue, const uint64_t *before, const uint
     check_counts(queue, before, &changes);
 }
 
+/* What a counter of losses tells: a word above the most is the most. */
+static uint64_t losses_of(uint64_t word)
+{
+    return word < MOST_LOSSES ? word : MOST_LOSSES;
+}
+
+/* The word after so many more: one that tells the most is left as it is. */
+static uint64_t with_losses(uint64_t word, uint64_t losses)
+{
+    return word >= MOST_LOSSES ? word : losses_of(word + losses);
+}
+
+/* The forwarded frame's losses are counted for its pairs and in general, the unit's own in general alone; without a port it is the unit's own that is sent. */
+static void check_losses(const uint64_t *record, const uint64_t *before, uint32_t port, uint64_t lost, uint64_t own_lost)
+{
+    uint64_t all = 0;
+    for (uint32_t from = 1; from <= ports; from++)
+        for (uint32_t to = 1; to <= ports; to++) {
+            if (from == to)
+                continue;
+            size_t at = LOSSES_AT(ports) + pair_number(ports, from, to);
+            uint64_t one = from == port && (lost >> (to - 1) & 1);
+            check(record[at] == with_losses(before[at], one), "the losses of a pair");
+            all += one;
+        }
+    for (uint32_t q = 1; q <= ports; q++)
+        all += own_lost >> (q - 1) & 1;
+    check(record[GENERAL_AT(ports)] == with_losses(before[GENERAL_AT(ports)], all), "the losses in general");
+}
+
+/* A message of the functions of parameters: 128 request and 130 reset in general, 131 and 133 of a pair. */
+static int is_parameter(uint8_t function)
+{
+    return function == 128 || function == 130 || function == 131 || function == 133;
+}
+
+static int is_function(uint8_t function)
+{
+    return function == 0 || function == 2 || function == 3 || function == 4 || function == 6 || function == 64 || is_parameter(function);
+}
+
+/* What a reply tells of a pair whose words these are, and of its counter: sizes, entries, losses. */
+static uint64_t value_of(uint8_t parameter, const uint64_t *pair, uint64_t counter)
+{
+    switch (parameter) {
+    case 1: return 13 * QUEUE;
+    case 2: return 3 * LIST;
+    case 3: return pair[0] == 0 ? 0 : pair[1] < LIST ? pair[1] : LIST;
+    default: return losses_of(counter);
+    }
+}
+
+/* The same in general, read with the number of ports. */
+static uint64_t general_value(uint8_t parameter, const uint64_t *record)
+{
+    uint64_t sum = 0;
+    for (uint32_t i = 0; i < ports * (ports - 1); i++)
+        sum += value_of(3, record + PAIRS_AT(ports) + PAIR_WORDS * i, 0);
+    switch (parameter) {
+    case 1: return 13 * QUEUE * ports;
+    case 2: return 3 * LIST * ports * (ports - 1);
+    case 3: return sum;
+    default: return losses_of(record[GENERAL_AT(ports)]);
+    }
+}
+
+/* How often a counter was told, and told at the most; resets of a counter that was not 0. */
+static uint64_t told_losses[2], told_most[2], resets[2];
+
+/* 10, 11, 23 and 12 of a message of parameters, in this order; the general functions are port 1's, and their pair byte is not looked at. */
+static uint32_t parameter_number(uint32_t port, const uint8_t *payload, size_t length)
+{
+    uint32_t from = payload[1] >> 4, to = payload[1] & 15;
+    int general = payload[0] < 131, resetting = payload[0] == 130 || payload[0] == 133;
+    int held = payload[2] == 9 || (!resetting && payload[2] >= 1 && payload[2] <= 3);
+    if (!general && (from < 1 || from > ports || to < 1 || to > ports || from == to))
+        return DEORASAENG_WRONG_PAIR;
+    if (port != 1 && (general || (port != from && port != to)))
+        return DEORASAENG_ACCESS_DENIED;
+    if (!held)
+        return DEORASAENG_WRONG_PARAMETER;
+    return length != 8 ? DEORASAENG_WRONG_BODY : DEORASAENG_DONE;
+}
+
+/* The number, where it is none of those that write nothing; and what is done: the reply's bytes, or the one counter that is 0 now. The record's words up to the losses are
+   the same before and after, which the caller has checked. */
+static void check_parameter(uint32_t number, uint32_t port, const uint8_t *payload, size_t length, const uint64_t *record, const uint64_t *before,
+                            const uint8_t *reply)
+{
+    uint8_t function = payload[0], parameter = payload[2];
+    int general = function < 131, resetting = function == 130 || function == 133;
+    check(number == parameter_number(port, payload, length), "the number of a message of parameters");
+    if (number != 0)
+        return;
+    uint32_t pair = general ? ports * (ports - 1) : pair_number(ports, payload[1] >> 4, payload[1] & 15);
+    size_t at = LOSSES_AT(ports) + pair;
+    if (resetting) {
+        check(record[at] == 0, "a counter that was reset");
+        for (size_t i = LOSSES_AT(ports); i <= GENERAL_AT(ports); i++)
+            check(i == at || record[i] == before[i], "a reset of another counter");
+        resets[general] += before[at] != 0;
+        return;
+    }
+    uint64_t value = general ? general_value(parameter, record) : value_of(parameter, record + PAIRS_AT(ports) + PAIR_WORDS * pair, record[at]);
+    uint8_t due[8] = {(uint8_t)(function + 1), general ? 0xFF : payload[1], parameter, (uint8_t)value, (uint8_t)(value >> 8), 0xFF, 0xFF, 0xFF};
+    check(memcmp(reply, due, 8) == 0, "a parameter's reply");
+    told_losses[general] += parameter == 9;
+    told_most[general] += parameter == 9 && value == MOST_LOSSES;
+}
+
+static void print_losses(void)
+{
+    for (int general = 0; general < 2; general++)
+        printf("losses %s told %" PRIu64 ", at the most %" PRIu64 ", counters that were not 0 reset %" PRIu64 "\n", general ? "in general" : "of a pair",
+               told_losses[general], told_most[general], resets[general]);
+}
+
 static int is_pgn(uint32_t number)
 {
     return number < 1u << 18 && ((number >> 8 & 0xFF) >= 240 || (number & 0xFF) == 0);
@@ -245,10 +362,14 @@ static void check_entry(uint32_t number, const uint8_t *payload, size_t length, 
     }
 }
 
+/* In a storm of losses the NAMEs are near the unit's, so that it is not displaced, and of its resets one in so many is made, so that the others add up. */
+static int storm;
+enum { RESETS_IN_A_STORM = 10000 };
+
 static void some_bytes(uint8_t *bytes, uint32_t id, size_t length)
 {
     static const uint8_t request[3] = {0x00, 0xEE, 0x00};
-    uint64_t name = below(64) ? 0xA000000000000000u + below(16) : next();
+    uint64_t name = storm || below(64) ? 0xA000000000000000u + below(16) : next();
     for (size_t i = 0; i < length; i++)
         bytes[i] = (uint8_t)(name >> 8 * (i % 8));
     if ((id >> 16 & 0xFF) == 0xEA && length == 3 && below(8))
@@ -282,17 +403,36 @@ static size_t some_payload_length(void)
     }
 }
 
+static uint8_t some_function(void)
+{
+    static const uint8_t functions[12] = {0, 2, 2, 3, 4, 6, 6, 64, 128, 131, 130, 133};
+    uint8_t function = below(20) == 0 ? (uint8_t)(below(4) == 0 ? 128 + below(6) : next()) : functions[below(12)];
+    if (storm && (function == 130 || function == 133) && below(RESETS_IN_A_STORM) != 0)
+        return function == 130 ? 128 : 131;
+    return function;
+}
+
+/* A parameter that is held, mostly the losses, or any. */
+static uint8_t some_parameter(void)
+{
+    static const uint8_t parameters[8] = {1, 2, 3, 3, 9, 9, 9, 9};
+    return below(8) == 0 ? (uint8_t)next() : parameters[below(8)];
+}
+
 /* A payload that is mostly in good form. */
 static void some_payload(uint8_t *payload, size_t length)
 {
-    static const uint8_t functions[8] = {0, 2, 2, 3, 4, 6, 6, 64};
     for (size_t i = 0; i < length; i++)
         payload[i] = 0xFF;
     if (length < 3)
         return;
-    payload[0] = below(20) == 0 ? (uint8_t)next() : functions[below(8)];
+    payload[0] = some_function();
     payload[1] = (uint8_t)(below(20) == 0 ? next() : (1 + below(ports)) << 4 | (below(4) == 0 ? 15 : 1 + below(ports)));
     size_t first = payload[0] == 6 ? 3 : 2;
+    if (payload[0] >= 128) {
+        payload[2] = some_parameter();
+        return;
+    }
     payload[2] = payload[0] == 6 ? (uint8_t)below(below(20) == 0 ? 256 : 2) : 0xFF;
     size_t entries = length == 8 ? 1 + below(2) : (length - first) / 3;
     for (size_t i = 0; i < entries && first + 3 * i + 3 <= length; i++) {

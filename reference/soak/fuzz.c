@@ -76,12 +76,16 @@ static size_t some_size(size_t right, uint32_t most)
     }
 }
 
-/* A record whose claim state is one of the four, whose lists and queues are of likely lengths, and of whose counts some are likely or the last before 2^64. */
+/* A record whose claim state is one of the four, whose lists and queues are of likely lengths, of whose counts some are likely or the last before 2^64, and of whose
+   counters of losses some are near the most. */
 static void fill_record(uint64_t *record, uint32_t likely, size_t length)
 {
     record[0] = below(3) ? 2 : below(5);
     record[1] = record[2] = 0x80;
-    for (uint64_t *pair = record + PAIRS_AT(likely); pair < record + length; pair += PAIR_WORDS) {
+    for (size_t i = LOSSES_AT(likely); i < length; i++)
+        if (below(2) == 0)
+            record[i] = below(4) == 0 ? below(300) : MOST_LOSSES - 3 + below(6);
+    for (uint64_t *pair = record + PAIRS_AT(likely); pair < record + LOSSES_AT(likely); pair += PAIR_WORDS) {
         pair[0] = below(4);
         pair[1] = below(LIST + 4);
         for (int j = 0; j < LIST; j++)
@@ -198,6 +202,7 @@ static void fuzz_frame(size_t length, uint64_t *record)
     if (number == 0) {
         check_reasons(port, id, answer);
         judge_joined(record, id, answer[DEORASAENG_ACCEPTED], answer[DEORASAENG_OWN_LOST]);
+        check_losses(record, old_words(), port, answer[DEORASAENG_LOST], answer[DEORASAENG_OWN_LOST]);
     }
     if (is_port(port) && right) {
         check((id >> 29 != 0) == (number == 3), "number 3");
@@ -251,6 +256,16 @@ static void fuzz_message(size_t length, uint64_t *record)
     check(written == room || memcmp(reply + written, lent[2].old + written, room - written) == 0, "a byte past what was written");
     check((number >= 1 && number <= 8) == (written == 0), "written");
     check_entry(number, payload, size, answer);
+    if (written == 0)
+        return;
+    check((number == DEORASAENG_WRONG_FUNCTION) == !is_function(payload[0]), "number 9");
+    if (is_parameter(payload[0])) {
+        check(memcmp(record, old_words(), 8 * LOSSES_AT(ports)) == 0, "a message of parameters changed a list");
+        check_parameter(number, port, payload, size, record, old_words(), reply);
+    } else {
+        check(memcmp(record + LOSSES_AT(ports), old_words() + LOSSES_AT(ports), 8 * (length - LOSSES_AT(ports))) == 0, "a command changed a counter of losses");
+        check(number != DEORASAENG_WRONG_PARAMETER, "number 23");
+    }
 }
 
 static void fuzz_start(size_t length, uint64_t *record)
@@ -259,8 +274,10 @@ static void fuzz_start(size_t length, uint64_t *record)
     uint64_t *answer = lend(1, 8 * words);
     uint32_t number = deorasaeng_start(record, length, answer, words);
     judge(START, number, 1, length == record_words && words == DEORASAENG_START_ANSWER);
-    if (number == 0)
-        check_joined(record, old_words(), 0, 0, 1, answer[DEORASAENG_START_OWN_LOST]);
+    if (number != 0)
+        return;
+    check_joined(record, old_words(), 0, 0, 1, answer[DEORASAENG_START_OWN_LOST]);
+    check_losses(record, old_words(), 0, 0, answer[DEORASAENG_START_OWN_LOST]);
 }
 
 static void fuzz_unit(size_t length, uint64_t *record)
@@ -373,6 +390,7 @@ int main(int argc, char **argv)
     for (calls = 0; calls < total; calls++)
         fuzz();
     print_counts();
+    print_losses();
     printf("%" PRIu64 " buffers of no length were null\n", nulls);
     printf("%" PRIu64 " fuzzed calls from seed %s: every check held\n", calls, argc > 1 ? argv[1] : "1");
     return 0;

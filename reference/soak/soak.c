@@ -1,5 +1,5 @@
 /* A soak: one unit after the other, of every number of ports, through the C interface, every buffer between guards. After each call the guards hold, a refusal has changed nothing, what the answer
-   says agrees with what the record's words say, and every port's counts equal a recount and the history. usage: soak SEED CALLS */
+   says agrees with what the record's words say, and every port's counts equal a recount and the history, as the losses do. usage: soak SEED CALLS */
 #include "common.h"
 
 enum { GUARDS = 16, LONGEST = 2000, MOST_ANSWER = DEORASAENG_COUNTS_ANSWER };
@@ -18,6 +18,7 @@ static uint8_t handed_in[LONGEST];
 static uint64_t later_entry, later_pair; /* told with 17 */
 static uint64_t accepted_at[MOST_PORTS + 1], taken_at[MOST_PORTS + 1]; /* frames since power-on, read off the answers */
 static uint64_t counts_of_full, counts_of_none;
+static uint64_t lost_on[MOST_PORTS * (MOST_PORTS - 1) + 1]; /* frames since power-on or the last reset, read off the answers, in the order of the record's counters */
 
 /* Everything that is lent is filled with the guards' pattern first. */
 static void lend(size_t byte_length)
@@ -64,6 +65,24 @@ static uint64_t waiting(const uint64_t *unit, uint32_t port)
     return waiting_in(unit + DEORASAENG_QUEUE_AT(port));
 }
 
+/* Each counter is what the history says, and no more than the most. */
+static void check_loss_history(void)
+{
+    for (uint32_t i = 0; i <= ports * (ports - 1); i++)
+        check(record[LOSSES_AT(ports) + i] == losses_of(lost_on[i]), "losses of another history");
+}
+
+/* What a frame's answer, or Start's, adds to the history. */
+static void add_losses(uint32_t port, uint64_t lost, uint64_t own_lost)
+{
+    for (uint32_t q = 1; q <= ports; q++) {
+        uint64_t one = lost >> (q - 1) & 1;
+        if (one)
+            lost_on[pair_number(ports, port, q)]++;
+        lost_on[ports * (ports - 1)] += one + (own_lost >> (q - 1) & 1);
+    }
+}
+
 /* At each port the counts equal a recount, the totals are those of the history, and accepted is taken and waiting. */
 static void check_recount(void)
 {
@@ -96,6 +115,7 @@ static void power_on(void)
     ports = good ? asked : USUAL_PORTS;
     memset(accepted_at, 0, sizeof accepted_at);
     memset(taken_at, 0, sizeof taken_at);
+    memset(lost_on, 0, sizeof lost_on);
     check(number == (good ? 0 : 27) && record[PORTS_AT] == ports && words_are(record + TABLE_AT, words - TABLE_AT, 0), "power-on");
     check(words_are(record + words, MOST_WORDS - words + GUARDS, WORD), "power-on wrote behind the record");
 }
@@ -167,8 +187,10 @@ static void frame(void)
         check_same(0, words, "a refused frame changed the record");
         return;
     }
-    check_same(PAIRS_AT(ports), words, "a frame changed a list");
+    check_same(PAIRS_AT(ports), LOSSES_AT(ports), "a frame changed a list");
     check_frame_joined(port, id, length);
+    check_losses(record, before, port, answer[DEORASAENG_LOST], answer[DEORASAENG_OWN_LOST]);
+    add_losses(port, answer[DEORASAENG_LOST], answer[DEORASAENG_OWN_LOST]);
     int has_address = before[0] == DEORASAENG_STATE_CLAIMING || before[0] == DEORASAENG_STATE_CLAIMED;
     check(answer[DEORASAENG_CONSUMED] == (has_address && (id >> 16 & 0xFF) < 240 && (id >> 8 & 0xFF) == before[1]), "consumed or not");
     if (answer[DEORASAENG_CONSUMED])
@@ -255,15 +277,30 @@ static void check_absent(const uint8_t *payload, size_t length)
     later_pair += (payload[1] & 15) == 15 && to > 1u + (from == 1);
 }
 
+/* A list's command changes no counter; a message of parameters no list. */
+static void check_parameters(uint32_t number, uint32_t port, size_t length)
+{
+    check((number == DEORASAENG_WRONG_FUNCTION) == !is_function(handed_in[0]), "number 9");
+    if (!is_parameter(handed_in[0])) {
+        check_same(LOSSES_AT(ports), words, "a command changed a counter of losses");
+        check(number != DEORASAENG_WRONG_PARAMETER, "number 23");
+        return;
+    }
+    check_same(0, LOSSES_AT(ports), "a message of parameters changed a list");
+    check_parameter(number, port, handed_in, length, record, before, bytes);
+    if (number == 0 && (handed_in[0] == 130 || handed_in[0] == 133))
+        lost_on[handed_in[0] == 130 ? ports * (ports - 1) : pair_number(ports, handed_in[1] >> 4, handed_in[1] & 15)] = 0;
+}
+
 static void message(void)
 {
     size_t length = some_payload_length();
-    uint32_t requester = below(100) == 0 ? 254 : below(254);
+    uint32_t port = some_port(), requester = below(100) == 0 ? 254 : below(254);
     size_t room = below(50) == 0 ? DEORASAENG_REPLY_BYTES - 1 : DEORASAENG_REPLY_BYTES;
     some_payload(handed_in, length);
     lend(room);
     uint32_t number =
-        deorasaeng_message(record, words, some_port(), requester, handed_in, length, bytes, room, answer, DEORASAENG_MESSAGE_ANSWER);
+        deorasaeng_message(record, words, port, requester, handed_in, length, bytes, room, answer, DEORASAENG_MESSAGE_ANSWER);
     count(MESSAGE, number);
     uint64_t pgn = answer[DEORASAENG_PGN], written = answer[DEORASAENG_WRITTEN];
     check_lent(DEORASAENG_MESSAGE_ANSWER, written, room);
@@ -271,6 +308,8 @@ static void message(void)
     if (number != 0)
         check_same(0, words, "a refused message changed the record");
     check_entry(number, handed_in, length, answer);
+    if (pgn != 0)
+        check_parameters(number, port, length);
     if (number == DEORASAENG_PGN_ABSENT)
         check_absent(handed_in, length);
     if (pgn == 60672)
@@ -291,8 +330,10 @@ static void start(void)
         check_same(0, words, "a refused Start changed the record");
         return;
     }
-    check_same(PAIRS_AT(ports), words, "Start changed a list");
+    check_same(PAIRS_AT(ports), LOSSES_AT(ports), "Start changed a list");
     check_joined(record, before, 0, 0, 1, answer[DEORASAENG_START_OWN_LOST]);
+    check_losses(record, before, 0, 0, answer[DEORASAENG_START_OWN_LOST]);
+    add_losses(0, 0, answer[DEORASAENG_START_OWN_LOST]);
     check_own(answer[DEORASAENG_START_OWN_LOST]);
     uint64_t state = answer[DEORASAENG_START_STATE];
     check(state == record[0] && (state == DEORASAENG_STATE_CLAIMING || state == DEORASAENG_STATE_LOST), "what became of the unit");
@@ -346,8 +387,10 @@ int main(int argc, char **argv)
     uint64_t full = 0;
     power_on();
     for (calls = 1; calls < total; calls++) {
-        uint32_t takes = calls >> 12 & 3 ? 55 : 25, pick = below(100);
-        if (below(record[0] == 3 ? 2000 : 20000) == 0)
+        int breaks = !storm && (calls >> 19 & 7) == 7;
+        storm = (calls >> 19 & 7) == 7; /* half a million calls without a take, on a unit of its own: the counters of losses stay */
+        uint32_t takes = storm ? 0 : calls >> 12 & 3 ? 55 : 25, pick = below(100);
+        if (breaks || (!storm && below(record[0] == 3 ? 2000 : 20000) == 0))
             power_on();
         else if (below(record[0] == 0 || record[0] == 1 ? 50 : 2000) == 0)
             (record[0] == 1) == (below(10) != 0) ? quiet() : start();
@@ -362,9 +405,11 @@ int main(int argc, char **argv)
         else
             frame();
         check_recount();
+        check_loss_history();
         full += waiting(record, 1) == QUEUE;
     }
     print_counts();
+    print_losses();
     printf("17 at an entry behind the first %" PRIu64 ", at a pair of all behind the first %" PRIu64 "\n", later_entry, later_pair);
     printf("counts of a full queue %" PRIu64 ", of an empty one %" PRIu64 "\n", counts_of_full, counts_of_none);
     printf("%" PRIu64 " calls from seed %s, %" PRIu64 " with port 1 full: every check held\n", calls, argc > 1 ? argv[1] : "1", full);

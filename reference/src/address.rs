@@ -178,7 +178,9 @@ impl Unit {
     /// The unit's frame joins every queue under rule 3; gives the ports where it was lost.
     fn send_own_frame(&mut self) -> Vec<u32> {
         let own = self.own_frame();
-        self.all_ports().filter(|&port| !self.join(port, &own)).collect()
+        let lost: Vec<u32> = self.all_ports().filter(|&port| !self.join(port, &own)).collect();
+        self.losses.own(lost.len());
+        lost
     }
 }
 

@@ -8,8 +8,9 @@ use crate::counts::{recount, Counts};
 use crate::frame::{self, is_pgn, Frame, PERMANENT};
 use crate::message::{entries, entry_places, MessageAnswer, WrongEntry};
 use crate::pair::{added, Pair, Reason, LONGEST_LIST};
+use crate::parameters::{Whose, ENTRIES, HELD, LOST, MOST_LOSSES};
 use crate::script::{apply, is_passed_over, lines_of, read_call, Answer, Call};
-use crate::unit::{FrameAnswer, Unit, LONGEST_QUEUE, PORT_COUNTS};
+use crate::unit::{FrameAnswer, Number, Unit, LONGEST_QUEUE, PORT_COUNTS};
 use crate::words::{REASONS, WORDS};
 
 /// The call letters of a script.
@@ -27,7 +28,7 @@ pub const DESTINATIONS: [&str; 3] = ["all", "the unit", "another"];
 pub const LENGTHS: [&str; 9] = ["0", "1", "2", "3", "4", "5", "6", "7", "8"];
 
 /// The further rows that a deep script reaches.
-pub const DEEP: [&str; 75] = [
+pub const DEEP: [&str; 91] = [
     "frame consumed",
     "frame stopped by a pair",
     "frame lost at some ports, accepted at others",
@@ -74,6 +75,22 @@ pub const DEEP: [&str; 75] = [
     "counts with a frame of the unit's own waiting",
     "counts after a loss",
     "counts at the last port",
+    "frame stopped on the way to a full port",
+    "loss counted for a pair",
+    "own losses counted in general",
+    "own losses counted in general beside a forwarded frame's",
+    "losses of a pair told, not 0",
+    "losses in general told, not 0",
+    "losses in general told, no sum of the pairs'",
+    "reset of a pair's counter that was not 0",
+    "reset of the general counter that was not 0",
+    "entries of a pair told, not 0",
+    "entries of a cleared pair told",
+    "entries in general told, not 0",
+    "10 for a parameter of To 15",
+    "11 though the parameter is not held",
+    "23 though the length is wrong",
+    "23 for a reset of a parameter that is held",
     "12 though an entry is no PGN",
     "22 with other entries that are none",
     "22 at a first entry before filling",
@@ -103,6 +120,26 @@ pub const DEEP: [&str; 75] = [
     "refused 11 from another port than 1",
     "port one past the count refused with 1",
     "pair with the port one past the count refused with 10",
+];
+
+/// The rows that only a script reaches whose counters stay (`generate::storms`).
+pub const AT_THE_MOST: [&str; 6] = [
+    "losses of a pair told at the most",
+    "losses in general told at the most",
+    "loss of a pair where the counter stays",
+    "loss in general where the counter stays",
+    "reset of a pair's counter at the most",
+    "reset of the general counter at the most",
+];
+
+/// The functions of parameters, their replies among them, and the numbers from 9 on that each can give.
+pub const BY_FUNCTION: [(u8, &[Number]); 6] = [
+    (128, &[0, 11, 23, 12]),
+    (129, &[9]),
+    (130, &[0, 11, 23, 12]),
+    (131, &[0, 10, 11, 23, 12]),
+    (132, &[9]),
+    (133, &[0, 10, 11, 23, 12]),
 ];
 
 /// The places from 1 where 22 finds an entry that is no PGN, and where 17 finds one that is absent.
@@ -180,8 +217,12 @@ impl Coverage {
             (Call::Frame { port, id, bytes }, Answer::Frame(Ok(answer))) => {
                 let frame = Frame { id: *id, bytes: bytes.clone() };
                 self.count_frame(before, *port, &frame, answer);
+                self.count_losses(before, *port, &answer.lost, &answer.own_lost);
             }
-            (Call::Start, Answer::Start(Ok(answer))) => self.count_start(before, answer),
+            (Call::Start, Answer::Start(Ok(answer))) => {
+                self.count_start(before, answer);
+                self.count_losses(before, 0, &[], &answer.own_lost);
+            }
             (Call::Take { port }, Answer::Take(Ok(given))) => self.count_take(before, *port, given, after),
             (Call::Message { port, payload, .. }, Answer::Message(..)) => {
                 self.count_message(before, *port, payload, answer, after)
@@ -206,6 +247,8 @@ impl Coverage {
         self.losing.extend(answer.lost.iter().chain(&answer.own_lost));
         let (accepted, lost) = (answer.accepted.len(), answer.lost.len());
         self.add_if(accepted + lost < asked.len(), "frame stopped by a pair");
+        let stopped = |to: &u32| before.queues[to].len() == LONGEST_QUEUE && answer.reason_number(*to) > 4;
+        self.add_if(asked.iter().any(stopped), "frame stopped on the way to a full port");
         self.add_if(lost > 0 && accepted > 0, "frame lost at some ports, accepted at others");
         self.add_if(lost > 0 && lost == asked.len(), "frame lost at every other port");
         self.add_if(accepted == 7, "frame accepted at seven ports");
@@ -219,6 +262,59 @@ impl Coverage {
         self.count_claim_or_request(before, frame, answer);
         let pairs: Vec<&Pair> = asked.iter().map(|to| &before.pairs[&(port, *to)]).collect();
         self.count_permanent(frame, answer, &pairs);
+    }
+
+    /// The ports where a forwarded frame from a port was lost, and one of the unit's own.
+    fn count_losses(&mut self, before: &Unit, port: u32, lost: &[u32], own_lost: &[u32]) {
+        let stays = |to: &u32| before.losses.pairs[&(port, *to)].told() == MOST_LOSSES;
+        self.add_if(!lost.is_empty(), "loss counted for a pair");
+        self.add_if(!own_lost.is_empty(), "own losses counted in general");
+        self.add_if(
+            !lost.is_empty() && !own_lost.is_empty(),
+            "own losses counted in general beside a forwarded frame's",
+        );
+        self.add_if(lost.iter().any(stays), "loss of a pair where the counter stays");
+        let any = !(lost.is_empty() && own_lost.is_empty());
+        self.add_if(any && before.losses.general.told() == MOST_LOSSES, "loss in general where the counter stays");
+    }
+
+    /// A message of the functions of parameters.
+    fn count_parameter(&mut self, before: &Unit, payload: &[u8], number: Number, written: &[u8]) {
+        let (function, byte, parameter) = (payload[0], payload[1], payload[2]);
+        self.add(&format!("function {function} number {number}"));
+        self.add_if(number == 10 && byte & 0x0F == 15, "10 for a parameter of To 15");
+        self.add_if(number == 11 && !HELD.contains(&parameter), "11 though the parameter is not held");
+        self.add_if(number == 23 && payload.len() != 8, "23 though the length is wrong");
+        self.add_if(number == 23 && HELD.contains(&parameter), "23 for a reset of a parameter that is held");
+        if number != 0 {
+            return;
+        }
+        let (from, to) = (u32::from(byte >> 4), u32::from(byte & 0x0F));
+        let (whose, of) =
+            if function < 131 { (Whose::General, "in general") } else { (Whose::Pair(from, to), "of a pair") };
+        if function == 130 || function == 133 {
+            let counter = if whose == Whose::General { "the general counter" } else { "a pair's counter" };
+            let lost = before.value(whose, LOST);
+            self.add_if(lost != 0, &format!("reset of {counter} that was not 0"));
+            self.add_if(lost == MOST_LOSSES, &format!("reset of {counter} at the most"));
+            return;
+        }
+        let told = u64::from(written[3]) + 256 * u64::from(written[4]);
+        self.add(&format!("parameter {parameter} {of}"));
+        match parameter {
+            ENTRIES => {
+                self.add_if(told != 0, &format!("entries {of} told, not 0"));
+                let cleared = before.pairs.get(&(from, to)).is_some_and(Pair::is_cleared);
+                self.add_if(function == 131 && cleared, "entries of a cleared pair told");
+            }
+            LOST => {
+                self.add_if(told != 0, &format!("losses {of} told, not 0"));
+                self.add_if(told == MOST_LOSSES, &format!("losses {of} told at the most"));
+                let sum: u64 = before.losses.pairs.values().map(|counter| counter.told()).sum();
+                self.add_if(function == 128 && told != sum, "losses in general told, no sum of the pairs'");
+            }
+            _ => {}
+        }
     }
 
     /// A frame of a permanent PGN, or of one beside it, and the pairs that were asked.
@@ -312,13 +408,16 @@ impl Coverage {
     }
 
     fn count_message(&mut self, before: &Unit, port: u32, payload: &[u8], answer: &Answer, after: &Unit) {
-        let Answer::Message(answer, _) = answer else { return };
+        let Answer::Message(answer, written) = answer else { return };
         *self.lengths.entry(payload.len()).or_insert(0) += 1;
         if (1..=8).contains(&answer.number) {
             return;
         }
         let function = payload[0];
         self.functions.insert(function);
+        if BY_FUNCTION.iter().any(|(listed, _)| *listed == function) {
+            self.count_parameter(before, payload, answer.number, written);
+        }
         if answer.number != 9 {
             self.pair_bytes.insert((port, payload[1]));
         }
@@ -392,7 +491,7 @@ impl Coverage {
             4 => "Clear",
             _ => "Create",
         };
-        let all = payload[1] & 0x0F == 15 && function != 64;
+        let all = payload[1] & 0x0F == 15 && function < 64;
         self.add_if(all, &format!("To 15 done by {word}"));
         self.add_if(all && before.ports == 2, "To 15 done on one pair");
         self.add_if(all && before.ports == 8, "To 15 done on seven pairs");
@@ -435,11 +534,24 @@ impl Coverage {
         lines.push(format!("ports by reason: {}", reasons.join(", ")));
         lines.push(self.line_of("permanent PGNs to", &DESTINATIONS, "permanent to "));
         lines.push(self.line_of("permanent PGNs of length", &LENGTHS, "permanent of "));
-        lines.push(self.line_of("done by function", &["0", "2", "3", "4", "6", "64"], "done "));
+        lines.push(self.line_of(
+            "done by function",
+            &["0", "2", "3", "4", "6", "64", "128", "130", "131", "133"],
+            "done ",
+        ));
         lines.push(self.places_of("22 at entry", WRONG_PLACES, ""));
         lines.push(self.places_of("17 at entry", ABSENT_PLACES, ""));
         lines.push(self.places_of("17 at pair", ABSENT_PAIRS, " of To 15"));
-        for row in DEEP {
+        for (function, numbers) in BY_FUNCTION {
+            let reached = |number: &Number| self.reached(&format!("function {function} number {number}"));
+            let counts: Vec<String> = numbers.iter().map(|number| format!("{number}: {}", reached(number))).collect();
+            lines.push(format!("function {function} by number {}", counts.join(", ")));
+        }
+        for of in ["in general", "of a pair"] {
+            let counts = HELD.map(|held| format!("{held}: {}", self.reached(&format!("parameter {held} {of}"))));
+            lines.push(format!("parameters told {of} {}", counts.join(", ")));
+        }
+        for row in DEEP.iter().chain(&AT_THE_MOST) {
             lines.push(format!("{row}: {}", self.reached(row)));
         }
         lines.push(format!("function bytes answered: {} of 256", self.functions.len()));

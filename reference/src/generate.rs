@@ -2,6 +2,7 @@
 
 use crate::address::ClaimState;
 use crate::frame::{is_pgn, HIGHEST_ADDRESS, PERMANENT};
+use crate::parameters::MOST_LOSSES;
 use crate::script::{apply, Call};
 use crate::unit::Unit;
 
@@ -40,25 +41,18 @@ impl Random {
 
 /// A list of calls that begins with a power-on.
 pub fn generate(seed: u64, calls: usize) -> Vec<Call> {
-    let mut random = Random::new(seed);
-    let (function_sweep, pair_sweep) = (random.below(256), random.below(2048));
-    let mut generator = Generator {
-        random,
-        calls: Vec::new(),
-        unit: Unit::power_on(0, 0),
-        names: Vec::new(),
-        addresses: Vec::new(),
-        pgns: Vec::new(),
-        takes: 0,
-        stuck: 0,
-        function_sweep,
-        pair_sweep,
-        place_sweep: 0,
-    };
+    let mut generator = Generator::new(seed);
     while generator.calls.len() < calls {
         generator.life(calls);
     }
     generator.calls.truncate(calls);
+    generator.calls
+}
+
+/// A long list of calls on one unit, of 2 to 8 ports by the seed, that loses frames until the counters of a pair and in general stay, and beyond.
+pub fn storms(seed: u64) -> Vec<Call> {
+    let mut generator = Generator::new(seed);
+    generator.lose_to_the_most(2 + (seed % 7) as u32);
     generator.calls
 }
 
@@ -75,10 +69,14 @@ pub fn sweep() -> Vec<Call> {
 fn sweep_of(ports: u32, tools: &[u32]) -> Vec<Call> {
     let mut calls = vec![Call::PowerOn { name: 1 << 63, preferred: 200, ports }, Call::Start, Call::Quiet];
     calls.extend((1..=ports).map(|port| Call::Frame { port, id: 0x18EE_FF20 + port, bytes: vec![port as u8; 8] }));
-    for function in [6, 0, 2, 3, 4, 64] {
+    for function in [6, 0, 2, 3, 4, 64, 128, 130, 131, 133] {
         for &port in tools {
             for byte in 0..=255 {
-                let payload = payload(function, byte, byte % 2, &[65265 + u32::from(byte % 3)]);
+                let payload = if function < 128 {
+                    payload(function, byte, byte % 2, &[65265 + u32::from(byte % 3)])
+                } else {
+                    vec![function, byte, [9, 3, 2, 1, 9, 0, 9][usize::from(byte % 7)], byte, 0, byte, 0, 0]
+                };
                 calls.push(Call::Message { port, requester: 33, payload });
             }
         }
@@ -113,9 +111,29 @@ const PGNS: [u32; 22] = [
 /// Numbers that are none.
 const NOT_PGNS: [u32; 8] = [0x40000, 0xFF_FFFF, 0xEF01, 0xEEFF, 1, 0x3EF80, 0x40F0, 0xFE_F100];
 const FUNCTIONS: [u8; 6] = [0, 2, 3, 4, 6, 64];
+/// Parameters that are held, more often the losses, and some that are not.
+const PARAMETERS: [u8; 14] = [1, 2, 3, 3, 3, 9, 9, 9, 9, 9, 0, 4, 8, 255];
 
 // Lives: one power-on to the next.
 impl Generator {
+    fn new(seed: u64) -> Generator {
+        let mut random = Random::new(seed);
+        let (function_sweep, pair_sweep) = (random.below(256), random.below(2048));
+        Generator {
+            random,
+            calls: Vec::new(),
+            unit: Unit::power_on(0, 0),
+            names: Vec::new(),
+            addresses: Vec::new(),
+            pgns: Vec::new(),
+            takes: 0,
+            stuck: 0,
+            function_sweep,
+            pair_sweep,
+            place_sweep: 0,
+        }
+    }
+
     fn make(&mut self, call: Call) {
         let mut unit = Some(self.unit.clone());
         apply(&mut unit, &call);
@@ -294,6 +312,8 @@ impl Generator {
             self.burst();
         } else if self.random.once_in(400) {
             self.fill_and_empty();
+        } else if self.random.once_in(if claimed { 500 } else { 4000 }) {
+            self.lose();
         } else {
             self.frame();
         }
@@ -403,6 +423,100 @@ impl Generator {
         self.make(Call::Message { port: 1, requester: 33, payload: vec![64, one as u8, 0, 0, 0, 0, 0, 0] });
     }
 
+    /// Frames on and on, most of them such as no pair stops, so that they are lost at full queues, the unit's own claims too; on the way the counters are told
+    /// and reset.
+    fn lose(&mut self) {
+        let from = self.some_port();
+        let to = self.some_other_port(from);
+        let own = self.random.pick(&[0, 2, 10]);
+        for count in 0..32 + self.random.pick(&[8, 60, 150]) {
+            let elsewhere = self.some_other_port(to);
+            let port = self.random.pick(&[from, from, from, elsewhere]);
+            if self.random.once_in(2) {
+                let (pgn, sa) = (self.random.pick(&self.pgns), self.some_sa());
+                self.send(port, 5, pgn, 255, sa, vec![count as u8]);
+            } else {
+                self.lost_frame(port, own != 0 && count % own == 0);
+            }
+            if self.random.once_in(10) {
+                self.tell_losses(from, to);
+            }
+            if self.random.once_in(60) {
+                self.reset_losses(from, to);
+            }
+        }
+        self.tell_losses(from, to);
+    }
+
+    /// A frame of a permanent PGN to all; a request for address claimed, which the unit answers, or not.
+    fn lost_frame(&mut self, port: u32, asks: bool) {
+        let (priority, sa) = (self.random.below(8), self.random.below(254));
+        let byte = self.random.number() as u8;
+        self.send(port, priority, 59904, 255, sa, if asks { vec![0x00, 0xEE, 0x00] } else { vec![byte] });
+    }
+
+    /// The losses of a pair and in general, asked for by one of those who may.
+    fn tell_losses(&mut self, from: u32, to: u32) {
+        let port = self.random.pick(&[1, from, to]);
+        self.hand_in(port, payload(131, pair_byte(from, to), 9, &[]));
+        let any = self.random.number() as u8;
+        self.hand_in(1, payload(128, any, 9, &[]));
+    }
+
+    /// A reset of a pair's losses or of the general ones.
+    fn reset_losses(&mut self, from: u32, to: u32) {
+        let port = self.random.pick(&[1, from, to]);
+        let any = self.random.number() as u8;
+        if self.random.once_in(2) {
+            self.hand_in(port, payload(133, pair_byte(from, to), 9, &[]));
+        } else {
+            self.hand_in(1, payload(130, any, 9, &[]));
+        }
+    }
+
+    /// Losses from a port on, until the counters of its pairs stay. Some frames of other ports among them, resets of other pairs' counters, and of the general
+    /// one each time that it has stayed for a while.
+    fn lose_to_the_most(&mut self, ports: u32) {
+        let name = self.random.number();
+        self.make(Call::PowerOn { name, preferred: 128, ports });
+        self.make(Call::Start);
+        self.make(Call::Quiet);
+        let from = self.some_port();
+        let to = self.some_other_port(from);
+        let (mut stayed, mut general_stayed) = (0, 0);
+        while stayed < 200 {
+            let asks = self.random.once_in(40);
+            let port = if self.random.once_in(100) { self.some_other_port(from) } else { from };
+            self.lost_frame(port, asks);
+            let (pair, general) = (self.unit.losses.pairs[&(from, to)].told(), self.unit.losses.general.told());
+            stayed += u64::from(pair == MOST_LOSSES);
+            general_stayed += u64::from(general == MOST_LOSSES);
+            let near = |lost: u64| lost + 20 > MOST_LOSSES;
+            if (near(pair) || near(general)) && self.random.once_in(4) || self.random.once_in(1000) {
+                self.tell_losses(from, to);
+            }
+            if self.random.once_in(2000) {
+                let (other, further) = (self.some_other_port(from), self.some_other_port(from));
+                self.hand_in(1, payload(133, pair_byte(other, from), 9, &[]));
+                self.hand_in(1, payload(131, pair_byte(from, further), 9, &[]));
+            }
+            if general_stayed == 100 {
+                self.hand_in(1, payload(130, 0, 9, &[]));
+                general_stayed = 0;
+            }
+        }
+        for (function, byte) in [(133, pair_byte(from, to)), (130, 0)] {
+            self.tell_losses(from, to);
+            self.hand_in(1, payload(function, byte, 9, &[]));
+            self.tell_losses(from, to);
+            self.lost_frame(from, false);
+            self.tell_losses(from, to);
+        }
+        for (from, to) in self.unit.pairs.clone().into_keys() {
+            self.tell_losses(from, to);
+        }
+    }
+
     fn request(&mut self) {
         let port = self.some_port();
         let priority = self.random.pick(&[6, 6, 3]);
@@ -497,7 +611,7 @@ impl Generator {
 // Messages.
 impl Generator {
     fn message(&mut self) {
-        match self.random.below(30) {
+        match self.random.below(34) {
             0..=9 => self.command(),
             10..=11 => self.fill_list(),
             12 => self.all_pairs(),
@@ -510,6 +624,7 @@ impl Generator {
             25 => self.permanent_in_a_list(),
             26 => self.silent_refusal(),
             27..=28 => self.wrong_entries(),
+            29..=32 => self.parameters(),
             _ => self.absent_entries(),
         }
     }
@@ -789,6 +904,37 @@ impl Generator {
         }
     }
 
+    /// Parameters asked for and reset. Now and then one that is not held, or a reset of one other than the losses, another length, a pair that
+    /// is none or not the tool's, a reply that is sent to the unit. What stands behind the parameter is any bytes.
+    fn parameters(&mut self) {
+        for _ in 0..5 {
+            let function = self.random.pick(&[128, 128, 131, 131, 131, 131, 130, 133, 133, 129, 132]);
+            let from = self.some_port();
+            let to = self.some_other_port(from);
+            let (own, byte) = (self.random.pick(&[from, to]), pair_byte(from, to));
+            let (any_port, past) = (self.some_port(), self.unit.ports + 1);
+            let any = self.random.number() as u8;
+            let bad = self.random.pick(&[0x11, pair_byte(past, 1), pair_byte(1, past), 0x00, pair_byte(from, 15), any]);
+            let byte = self.random.pick(&[byte, byte, byte, byte, byte, bad]);
+            let port = self.random.pick(&[1, own, own, any_port]);
+            let any = self.random.number() as u8;
+            let asked = self.random.pick(&PARAMETERS);
+            let parameter = match function {
+                130 | 133 => self.random.pick(&[9, 9, 9, asked]),
+                _ => self.random.pick(&[asked, asked, asked, asked, asked, asked, any]),
+            };
+            let mut bytes = self.some_bytes(8);
+            bytes[..3].copy_from_slice(&[function, byte, parameter]);
+            if self.random.once_in(3) {
+                bytes[3..].fill(0xFF);
+            }
+            if self.random.once_in(8) {
+                bytes.resize(self.random.pick(&[9, 9, 10, 16, 1785]), 0xFF);
+            }
+            self.hand_in(port, bytes);
+        }
+    }
+
     /// A place below the count, step by step.
     fn some_place(&mut self, count: usize) -> usize {
         self.place_sweep += 1 + self.random.below(2) as usize;
@@ -803,7 +949,7 @@ impl Generator {
             let past = self.unit.ports + 1;
             let byte =
                 self.random.pick(&[allowed, allowed, allowed, 0x11, pair_byte(past, 1), pair_byte(1, past), 0xF1]);
-            let function = self.random.pick(&[0, 2, 3, 4, 6, 64, 5]);
+            let function = self.random.pick(&[0, 2, 3, 4, 6, 64, 5, 128, 131, 133]);
             let mode = self.random.pick(&[0, 1, 2]);
             let count = self.random.pick(&[1, 2, 33]);
             let mut entries = self.different_pgns(count);
@@ -841,7 +987,7 @@ fn repeated(pgns: &[u32], times: usize) -> Vec<u32> {
 /// A payload in good form: filling only in eight bytes.
 fn payload(function: u8, byte: u8, mode: u8, entries: &[u32]) -> Vec<u8> {
     let mut bytes = vec![function, byte];
-    if function == 6 {
+    if function == 6 || function >= 128 {
         bytes.push(mode);
     }
     if [2, 3, 6].contains(&function) {

@@ -7,6 +7,7 @@ pub mod unit;
 pub mod counts;
 pub mod address;
 pub mod message;
+pub mod parameters;
 pub mod script;
 pub mod words;
 pub mod summary;

@@ -8,6 +8,7 @@ use std::ops::Range;
 use crate::counts::RANKS;
 use crate::frame::{Frame, NULL};
 use crate::pair::{Pair, LONGEST_LIST};
+use crate::parameters::{Losses, MOST_LOSSES};
 use crate::unit::{Unit, LONGEST_QUEUE, PORT_COUNTS, USUAL_PORTS};
 
 /// The published length of a queue, in words; `record_words` has the record's. In it: how many wait, what the port counts, the
@@ -25,8 +26,8 @@ pub const COUNTS_ANSWER: usize = RANKS + 2;
 /// The length of a frame's bytes in a take.
 pub const FRAME_BYTES: usize = 8;
 
-/// The regions of the record, where each begins: the unit's own words, the table, the queues, and the pairs, which
-/// alone lie elsewhere with another number of ports.
+/// The regions of the record, where each begins: the unit's own words, the table, the queues; and the pairs and the losses, which
+/// lie elsewhere with another number of ports.
 pub const PORTS_AT: usize = 4;
 const TABLE_AT: usize = 5;
 const QUEUES_AT: usize = TABLE_AT + 2 * PLACES;
@@ -38,10 +39,19 @@ fn pairs_at(ports: u32) -> usize {
     QUEUES_AT + QUEUE_WORDS * ports as usize
 }
 
+/// A word for each pair, in order of From, then To, and the general counter's behind them.
+pub fn losses_at(ports: u32) -> usize {
+    pairs_at(ports) + PAIR_WORDS * pair_count(ports)
+}
+
+fn pair_count(ports: u32) -> usize {
+    (ports * (ports - 1)) as usize
+}
+
 /// The published length of a record, in words; for a count that is none that of four ports.
 pub fn record_words(ports: u32) -> usize {
     let ports = if PORT_COUNTS.contains(&ports) { ports } else { USUAL_PORTS };
-    pairs_at(ports) + PAIR_WORDS * (ports * (ports - 1)) as usize
+    losses_at(ports) + pair_count(ports) + 1
 }
 
 /// How many ports a record's words say, however many they are: four where they say no count.
@@ -177,7 +187,8 @@ pub fn difference(words: &[u64], unit: &Unit) -> Option<String> {
         .or_else(|| own_difference(&words[..PORTS_AT], unit))
         .or_else(|| table_difference(&words[TABLE_AT..QUEUES_AT], unit))
         .or_else(|| queues_difference(words, unit))
-        .or_else(|| pairs_difference(&words[pairs_at(unit.ports)..], unit))
+        .or_else(|| pairs_difference(&words[pairs_at(unit.ports)..losses_at(unit.ports)], unit))
+        .or_else(|| losses_difference(&words[losses_at(unit.ports)..], unit))
 }
 
 fn ports_difference(words: &[u64], unit: &Unit) -> Option<String> {
@@ -213,6 +224,18 @@ fn pairs_difference(words: &[u64], unit: &Unit) -> Option<String> {
         }
     }
     None
+}
+
+/// The counters' words, the general one's last.
+pub fn loss_words(losses: &Losses) -> Vec<u64> {
+    losses.pairs.values().chain([&losses.general]).map(|counter| counter.0).collect()
+}
+
+fn losses_difference(words: &[u64], unit: &Unit) -> Option<String> {
+    // A word above the most is the most, before a loss and after it.
+    let told: Vec<u64> = words.iter().map(|&word| word.min(MOST_LOSSES)).collect();
+    let expected: Vec<u64> = loss_words(&unit.losses).iter().map(|&word| word.min(MOST_LOSSES)).collect();
+    (told != expected).then(|| format!("losses {words:X?}, expected {expected:X?}"))
 }
 
 /// For each port: how many wait, what it counts, then each frame's identifier and length, and its bytes.

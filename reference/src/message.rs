@@ -1,4 +1,4 @@
-//! "Network messages": functions 0, 2, 3, 4, 6 and 64, and their refusals.
+//! "Network messages": functions 0, 2, 3, 4, 6 and 64, and their refusals; `parameters` has those of 128 on.
 
 use crate::address::ClaimState;
 use crate::frame::{self, is_pgn};
@@ -15,7 +15,7 @@ pub const LONGEST_MESSAGE: usize = 1785;
 pub const SHORTEST_MESSAGE: usize = 8;
 
 const ALL_PORTS: u32 = 15;
-const FILLING: u8 = 0xFF;
+pub(crate) const FILLING: u8 = 0xFF;
 
 /// The answer to a message: the number (0 for none), PGN and length of what was written, and with 17 and 22 the entry.
 #[derive(Clone, Copy, Debug, PartialEq, Eq)]
@@ -105,6 +105,11 @@ impl Unit {
             }
             6 => self.create(port, payload).map(|()| None),
             64 => Ok(Some(self.addresses(port, payload)?)),
+            128 | 131 => Ok(Some(self.parameter(port, payload)?)),
+            130 | 133 => {
+                self.reset(port, payload)?;
+                Ok(None)
+            }
             _ => Err(9.into()),
         }
     }
@@ -224,7 +229,7 @@ impl Unit {
     }
 
     /// The pair of byte 2, From in the upper four bits, To in the lower, or number 10.
-    fn one_pair(&self, byte: u8) -> Result<(u32, u32), Number> {
+    pub(crate) fn one_pair(&self, byte: u8) -> Result<(u32, u32), Number> {
         let from = u32::from(byte >> 4);
         let to = u32::from(byte & 0x0F);
         if self.all_ports().contains(&from) && self.all_ports().contains(&to) && from != to {
@@ -247,7 +252,7 @@ impl Unit {
 }
 
 /// Number 11: on a port other than 1, every named pair must have it as From or To.
-fn check_right(port: u32, named: &[(u32, u32)]) -> Result<(), Number> {
+pub(crate) fn check_right(port: u32, named: &[(u32, u32)]) -> Result<(), Number> {
     if port == 1 || named.iter().all(|&(from, to)| from == port || to == port) {
         Ok(())
     } else {
@@ -255,8 +260,8 @@ fn check_right(port: u32, named: &[(u32, u32)]) -> Result<(), Number> {
     }
 }
 
-/// Number 12 for functions 0, 4 and 64.
-fn check_eight_bytes(payload: &[u8]) -> Result<(), Number> {
+/// Number 12 for functions 0, 4, 64 and those of parameters.
+pub(crate) fn check_eight_bytes(payload: &[u8]) -> Result<(), Number> {
     if payload.len() == 8 {
         Ok(())
     } else {
@@ -303,7 +308,7 @@ fn acknowledgment(number: Number, function: u8, requester: u32) -> Vec<u8> {
 }
 
 /// Replies under 8 bytes are filled with FF.
-fn filled(mut reply: Vec<u8>) -> Vec<u8> {
+pub(crate) fn filled(mut reply: Vec<u8>) -> Vec<u8> {
     while reply.len() < SHORTEST_MESSAGE {
         reply.push(FILLING);
     }

@@ -7,6 +7,7 @@ use crate::address::{ClaimState, Event, Holder};
 use crate::counts::Counts;
 use crate::frame::{self, Frame};
 use crate::pair::{Pair, Reason};
+use crate::parameters::{Counter, Losses};
 
 /// How many ports a unit may have (02, ticket 10).
 pub const PORT_COUNTS: RangeInclusive<u32> = 2..=8;
@@ -32,6 +33,8 @@ pub struct Unit {
     pub queues: BTreeMap<u32, VecDeque<Frame>>,
     /// What each port counts.
     pub counts: BTreeMap<u32, Counts>,
+    /// The frames that were lost to full queues.
+    pub losses: Losses,
     /// The address table: who holds which address.
     pub table: BTreeMap<u32, Holder>,
 }
@@ -76,19 +79,22 @@ impl Unit {
         }
     }
 
-    /// Pairs cleared, queues and table empty, every count 0, the unit Unstarted.
+    /// Pairs cleared, queues and table empty, every count 0, nothing lost, the unit Unstarted.
     fn fresh(name: u64, preferred: u32, ports: u32) -> Unit {
         let mut pairs = BTreeMap::new();
         let mut queues = BTreeMap::new();
         let mut counts = BTreeMap::new();
+        let mut losses = Losses::default();
         for from in 1..=ports {
             queues.insert(from, VecDeque::new());
             counts.insert(from, Counts::default());
             for to in (1..=ports).filter(|&to| to != from) {
                 pairs.insert((from, to), Pair::Cleared);
+                losses.pairs.insert((from, to), Counter::default());
             }
         }
-        Unit { name, preferred, state: ClaimState::Unstarted, ports, pairs, queues, counts, table: BTreeMap::new() }
+        let (state, table) = (ClaimState::Unstarted, BTreeMap::new());
+        Unit { name, preferred, state, ports, pairs, queues, counts, losses, table }
     }
 
     /// The ports, in rising order.
@@ -149,6 +155,7 @@ impl Unit {
                     answer.accepted.push(to);
                 } else {
                     answer.lost.push(to);
+                    self.losses.forwarded(port, to);
                 }
             }
         }

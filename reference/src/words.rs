@@ -3,7 +3,7 @@
 use crate::unit::Number;
 
 /// The numbers in words.
-pub const WORDS: [(Number, &str); 20] = [
+pub const WORDS: [(Number, &str); 21] = [
     (1, "port not 1 to the number of ports"),
     (2, "lent storage not of its published length"),
     (3, "identifier 2^29 or more"),
@@ -23,6 +23,7 @@ pub const WORDS: [(Number, &str); 20] = [
     (17, "Delete: a PGN absent from a named pair"),
     (18, "Start not in Unstarted, Quiet not in Claiming"),
     (22, "an entry is no PGN"),
+    (23, "parameter not held, or not one to reset"),
     (27, "port count not 2 to 8"),
 ];
 

@@ -7,12 +7,13 @@ use std::collections::BTreeMap;
 use common::*;
 use reference::address::{ClaimState, Holder};
 use reference::coverage::{
-    Coverage, ABSENT_PAIRS, ABSENT_PLACES, DEEP, DESTINATIONS, EVENTS, LENGTHS, LETTERS, MODES, PRIORITIES, STATES,
-    WAITING, WRONG_PLACES,
+    Coverage, ABSENT_PAIRS, ABSENT_PLACES, BY_FUNCTION, DEEP, DESTINATIONS, EVENTS, LENGTHS, LETTERS, MODES,
+    PRIORITIES, STATES, WAITING, WRONG_PLACES,
 };
 use reference::frame::{pgn, priority, Frame, PERMANENT};
 use reference::generate::{generate, Random};
 use reference::pair::Pair;
+use reference::parameters::{Counter, HELD};
 use reference::script::{apply, write_call, Answer, Call};
 use reference::unit::Unit;
 
@@ -70,18 +71,25 @@ fn demand_2_no_frame_back_and_no_other_pair() {
         (Call::Frame { port, .. }, Answer::Frame(Ok(given))) => {
             assert!(!given.accepted.contains(port) && !given.lost.contains(port));
             assert_eq!(before.pairs, after.pairs);
+            for (pair, counter) in &after.losses.pairs {
+                let lost = pair.0 == *port && given.lost.contains(&pair.1);
+                assert!(lost || *counter == before.losses.pairs[pair]);
+            }
         }
         (Call::Message { payload, .. }, Answer::Message(given, _)) if given.number == 0 => {
             let (from, to) = (u32::from(payload[1] >> 4), u32::from(payload[1] & 15));
             for (pair, filter) in &after.pairs {
-                let named = payload[0] != 64 && pair.0 == from && (pair.1 == to || to == 15);
-                assert!(named || *filter == before.pairs[pair]);
+                let named = pair.0 == from && (pair.1 == to || to == 15);
+                assert!(named && payload[0] < 64 || *filter == before.pairs[pair]);
+                assert!(named && payload[0] == 133 || after.losses.pairs[pair] == before.losses.pairs[pair]);
             }
             assert_eq!((&before.queues, &before.table), (&after.queues, &after.table));
             assert_eq!(before.counts, after.counts);
+            assert!(payload[0] == 130 || before.losses.general == after.losses.general);
         }
         (Call::PowerOn { .. }, _) => {}
-        _ => assert_eq!(before.pairs, after.pairs),
+        (Call::Start, _) => assert_eq!((&before.pairs, &before.losses.pairs), (&after.pairs, &after.losses.pairs)),
+        _ => assert_eq!((&before.pairs, &before.losses), (&after.pairs, &after.losses)),
     });
 }
 
@@ -101,7 +109,7 @@ fn demand_2_permanent_pgns_cross_every_pair() {
     assert!(tried > 300, "{tried}");
 }
 
-/// Other lists and addresses beyond those of port p.
+/// Other lists, addresses and counters beyond those of port p.
 fn scrambled(unit: &Unit, port: u32, random: &mut Random) -> Unit {
     let mut other = unit.clone();
     for (pair, filter) in other.pairs.iter_mut() {
@@ -114,6 +122,12 @@ fn scrambled(unit: &Unit, port: u32, random: &mut Random) -> Unit {
             };
         }
     }
+    for (pair, counter) in other.losses.pairs.iter_mut() {
+        if pair.0 != port && pair.1 != port {
+            *counter = Counter(random.number() >> random.below(64));
+        }
+    }
+    other.losses.general = Counter(random.number() >> random.below(64));
     other.table.retain(|_, holder| holder.port == port);
     for address in 0..254 {
         if other.address() != Some(address) && !other.table.contains_key(&address) && random.once_in(3) {
@@ -124,12 +138,12 @@ fn scrambled(unit: &Unit, port: u32, random: &mut Random) -> Unit {
     other
 }
 
-/// For a tool on a port other than 1 the answer does not depend on a neighbour's lists and addresses.
+/// For a tool on a port other than 1 the answer does not depend on a neighbour's lists, addresses and counters.
 #[test]
 fn demand_2_privacy() {
     let mut random = Random::new(1);
-    let (mut tried, mut wrong_entries) = (0, 0);
-    each_call(103, |before, call, answer, _| {
+    let (mut tried, mut wrong_entries, mut losses) = (0, 0, 0);
+    let mut look = |before: &Unit, call: &Call, answer: &Answer, _: &Unit| {
         let Call::Message { port, requester, payload } = call else { return };
         let Answer::Message(given, written) = answer else { return };
         if (2..=before.ports).contains(port) && before.state == ClaimState::Claimed {
@@ -138,9 +152,11 @@ fn demand_2_privacy() {
             assert_eq!((told, &bytes), (*given, written));
             tried += 1;
             wrong_entries += usize::from(told.wrong.is_some());
+            losses += usize::from(told.number == 0 && payload[0] == 131 && payload[2] == 9);
         }
-    });
-    assert!(tried > 300 && wrong_entries > 30, "{tried}, {wrong_entries}");
+    };
+    [103, 110].into_iter().for_each(|seed| each_call(seed, &mut look));
+    assert!(tried > 300 && wrong_entries > 30 && losses > 5, "{tried}, {wrong_entries}, {losses}");
 }
 
 /// A reported list with entries, sent back as Create to a cleared pair, gives that list again.
@@ -271,7 +287,7 @@ fn generator_reaches_deep_states() {
         let lines: Vec<String> = generate(seed, 20_000).iter().map(write_call).collect();
         coverage.count_script(lines.join("\n").as_bytes());
     }
-    for number in (0..=18).chain([22, 27]).filter(|&number| number != 2) {
+    for number in (0..=18).chain([22, 23, 27]).filter(|&number| number != 2) {
         let reached: u64 = LETTERS.iter().map(|letter| coverage.reached(&format!("number {number} {letter}"))).sum();
         assert!(reached > 0, "number {number}");
     }
@@ -298,6 +314,15 @@ fn generator_reaches_deep_states() {
     }
     for place in ABSENT_PAIRS {
         assert!(coverage.reached(&format!("17 at pair {place} of To 15")) > 0, "17 at pair {place}");
+    }
+    for (function, numbers) in BY_FUNCTION {
+        for number in numbers {
+            assert!(coverage.reached(&format!("function {function} number {number}")) > 0, "{function}: {number}");
+        }
+    }
+    for held in HELD {
+        assert!(coverage.reached(&format!("parameter {held} in general")) > 0, "parameter {held}");
+        assert!(coverage.reached(&format!("parameter {held} of a pair")) > 0, "parameter {held}");
     }
     for row in DEEP {
         assert!(coverage.reached(row) > 0, "{row}");

@@ -115,7 +115,7 @@ fn number_8_at_start() {
 
 #[test]
 fn number_9_function() {
-    let listed = [0, 2, 3, 4, 6, 64];
+    let listed = [0, 2, 3, 4, 6, 64, 128, 130, 131, 133];
     for function in 0..=255 {
         let mut unit = claimed();
         set(&mut unit, 1, 2, Pair::Block(vec![61440]));
@@ -135,6 +135,13 @@ fn number_10_ports_named() {
             let good = twelve.contains(&byte) || (function != 0 && all.contains(&byte));
             let given = number(&mut claimed(), &command(function, byte, 0, &[61440]));
             assert_eq!(given == 10, !good, "{function} {byte:02X}");
+        }
+        for function in [131, 133] {
+            let given = number(&mut claimed(), &[function, byte, 9, 0, 0, 0, 0, 0]);
+            assert_eq!(given, if twelve.contains(&byte) { 0 } else { 10 }, "{function} {byte:02X}");
+        }
+        for function in [128, 130] {
+            assert_eq!(number(&mut claimed(), &[function, byte, 9, 0, 0, 0, 0, 0]), 0, "{function} {byte:02X}");
         }
         let good = [1, 2, 3, 4].contains(&(byte & 0x0F));
         assert_eq!(number(&mut claimed(), &command(64, byte, 0, &[])), if good { 0 } else { 10 });
@@ -162,6 +169,13 @@ fn number_11_right_of_the_tool() {
             let given = message(&mut claimed(), port, TOOL, &command(function, byte, 0, &[61440])).0;
             assert_eq!(given == 11, byte != own_all, "{port} {function} {byte:02X}");
         }
+        for (function, byte) in [131, 133].into_iter().flat_map(|function| twelve.map(|byte| (function, byte))) {
+            let given = message(&mut claimed(), port, TOOL, &[function, byte, 9, 0, 0, 0, 0, 0]).0;
+            assert_eq!(given, if pairs.contains(&byte) { 0 } else { 11 }, "{port} {function} {byte:02X}");
+        }
+        for function in [128, 130] {
+            assert_eq!(message(&mut claimed(), port, TOOL, &[function, 0xFF, 9, 0, 0, 0, 0, 0]).0, 11);
+        }
         for named in 1..=4 {
             let given = message(&mut claimed(), port, TOOL, &command(64, named, 0, &[])).0;
             assert_eq!(given, if u32::from(named) == port { 0 } else { 11 });
@@ -183,6 +197,11 @@ fn number_12_body_length() {
             (payload[0], payload[1]) = (function, 0x12);
             let given = number(&mut claimed(), &payload);
             assert_eq!(given, if length == 8 { 0 } else { 12 });
+        }
+        for function in [128, 130, 131, 133] {
+            let mut payload = vec![0; length];
+            (payload[0], payload[1], payload[2]) = (function, 0x12, 9);
+            assert_eq!(number(&mut claimed(), &payload), if length == 8 { 0 } else { 12 }, "{function} {length}");
         }
         for function in [2, 3] {
             let mut payload = vec![0; length];
@@ -363,6 +382,57 @@ fn number_22_entry() {
         assert_eq!(number(&mut unit.clone(), &command(2, 0x14, 0, &[entry])), given, "{entry:06X}");
         assert_eq!(number(&mut unit.clone(), &command(2, 0x14, 0, &[61440, 61441, entry])), given);
     }
+}
+
+/// 23 for every parameter: 1, 2, 3 and 9 are held, 9 alone is reset.
+#[test]
+fn number_23_parameter() {
+    for parameter in 0..=255 {
+        for (function, byte) in [(128, 0x00), (131, 0x34)] {
+            let given = number(&mut claimed(), &[function, byte, parameter, 9, 9, 9, 9, 9]);
+            assert_eq!(given, if [1, 2, 3, 9].contains(&parameter) { 0 } else { 23 }, "{function} of {parameter}");
+        }
+        for (function, byte) in [(130, 0x00), (133, 0x34)] {
+            let given = number(&mut claimed(), &[function, byte, parameter, 9, 9, 9, 9, 9]);
+            assert_eq!(given, if parameter == 9 { 0 } else { 23 }, "{function} of {parameter}");
+        }
+    }
+}
+
+/// 9, 10, 11, 23, 12: all faults at once, mended one after the other. The general functions have no 10.
+#[test]
+fn order_at_a_parameter() {
+    let mut unit = claimed();
+    let cases = [
+        (3, "84 11 04 FF FF FF FF FF FF", 9),
+        (3, "83 11 04 FF FF FF FF FF FF", 10),
+        (3, "83 1F 04 FF FF FF FF FF FF", 10),
+        (3, "83 12 04 FF FF FF FF FF FF", 11),
+        (2, "83 12 04 FF FF FF FF FF FF", 23),
+        (2, "83 12 09 FF FF FF FF FF FF", 12),
+        (2, "83 12 09 FF FF FF FF FF", 0),
+        (3, "85 51 01 FF FF FF FF FF FF", 10),
+        (3, "85 21 01 FF FF FF FF FF FF", 11),
+        (2, "85 21 01 FF FF FF FF FF FF", 23),
+        (2, "85 21 09 FF FF FF FF FF FF", 12),
+        (2, "85 21 09 FF FF FF FF FF", 0),
+        (3, "81 11 04 FF FF FF FF FF FF", 9),
+        (3, "80 11 04 FF FF FF FF FF FF", 11),
+        (1, "80 11 04 FF FF FF FF FF FF", 23),
+        (1, "80 11 09 FF FF FF FF FF FF", 12),
+        (1, "80 11 09 FF FF FF FF FF", 0),
+        (3, "82 11 03 FF FF FF FF FF FF", 11),
+        (1, "82 11 03 FF FF FF FF FF FF", 23),
+        (1, "82 11 09 FF FF FF FF FF FF", 12),
+        (1, "82 11 09 FF FF FF FF FF", 0),
+    ];
+    for (port, payload, given) in cases {
+        assert_eq!(number_at(&mut unit, port, payload), given, "{payload} from {port}");
+    }
+    let mut unstarted = claiming();
+    assert_eq!(number_at(&mut unstarted, 1, "80 FF 09 FF FF FF FF FF"), 6);
+    assert_eq!(number_at(&mut unit, 1, "80 FF 09 FF FF FF FF"), 7);
+    assert_eq!(message(&mut unit, 1, 254, &hex("80 FF 09 FF FF FF FF FF")).0, 8);
 }
 
 #[test]

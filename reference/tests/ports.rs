@@ -68,6 +68,16 @@ fn numbers_10_and_11_read_with_the_count() {
                 assert_eq!(given == 10, !named, "{ports} ports, {function} {byte:02X}");
                 assert_eq!(given == 11, named && !own, "{ports} ports, {function} {byte:02X} from {tool}");
             }
+            for function in [131, 133] {
+                let expected =
+                    match (is_port(from) && is_port(to) && from != to, tool == 1 || from == tool || to == tool) {
+                        (false, _) => 10,
+                        (true, false) => 11,
+                        (true, true) => 0,
+                    };
+                let given = message(&mut unit.clone(), tool, TOOL, &[function, byte, 9, 0, 0, 0, 0, 0]).0;
+                assert_eq!(given, expected, "{ports} ports, {function} {byte:02X} from {tool}");
+            }
             let given = message(&mut unit.clone(), tool, TOOL, &command(64, byte, 0, &[])).0;
             let expected = if !is_port(to) {
                 10

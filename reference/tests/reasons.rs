@@ -59,7 +59,7 @@ fn a_pairs_reason() {
 fn what_crosses_stays_the_same() {
     let mut unit = None;
     let mut met = [0; 7];
-    for call in generate(111, 8000) {
+    for call in [111, 112].into_iter().flat_map(|seed| generate(seed, 8000)) {
         let before = unit.clone();
         let answer = apply(&mut unit, &call).expect("a unit");
         let (Call::Frame { port, id, .. }, Answer::Frame(Ok(given)), Some(before)) = (&call, &answer, before) else {

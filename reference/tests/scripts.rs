@@ -35,6 +35,12 @@ fn ports() {
     check(include_str!("../scripts/ports.txt"), include_str!("../scripts/ports.out"));
 }
 
+/// Sizes, entries, losses and their resets.
+#[test]
+fn parameters() {
+    check(include_str!("../scripts/parameters.txt"), include_str!("../scripts/parameters.out"));
+}
+
 /// The old box's hole: the port number one up.
 #[test]
 fn one_up() {
@@ -51,7 +57,8 @@ fn recorded() {
     script += include_str!("../scripts/unit.txt");
     script += include_str!("../scripts/one_up.txt");
     script += include_str!("../scripts/ports.txt");
-    for call in sweep().iter().chain(&generate(128, 9000)) {
+    script += include_str!("../scripts/parameters.txt");
+    for call in sweep().iter().chain(&generate(1325, 9000)) {
         script += &(write_call(call) + "\n");
     }
     script += "T 1";

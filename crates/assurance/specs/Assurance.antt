@@ -5,9 +5,11 @@ use Prim.Native.Nat.{ℕ}
 use Rattle.made.specs.Made.{Powered}
 use Rattle.demand_1.specs.Demand1.{Demand1}
 use Rattle.demand_1.specs.Literals.{Literals}
+use Rattle.demand_1.specs.Parameters.{Parameters}
 use Rattle.demand_2.specs.Demand2.{Demand2}
 use Rattle.demand_3.specs.Demand3.{EveryList}
 use Rattle.tallies.specs.Tallies.{EveryCount}
+use Rattle.loss_counts.specs.LossCounts.{EveryLoss}
 use Rattle.assurance.specs.Examples.{Examples}
 
 pub record Assurance : Type 0 where
@@ -17,5 +19,8 @@ pub record Assurance : Type 0 where
   pub demand-3 : {w u : List ℕ} {name preferred count r : ℕ} → Powered w name preferred count r u → EveryList w u name preferred count r
   -- document 02, ticket 7
   pub counts : {w u : List ℕ} {name preferred count r : ℕ} → Powered w name preferred count r u → (r ≡ 2 → ⊥) → EveryCount u name preferred count
+  -- document 02, ticket 8
+  pub losses : {w u : List ℕ} {name preferred count r : ℕ} → Powered w name preferred count r u → (r ≡ 2 → ⊥) → EveryLoss u count
+  pub parameters : Parameters
   pub literals : Literals
   pub examples : Examples

@@ -36,12 +36,12 @@ three = frame 0x0CF00400
 abbrev pub calls : List Call
 calls = FrameIn 1 0x18FEF121 [] ∷ FrameIn 1 0x18FEF122 [] ∷ FrameIn 1 0x0CF00400 [] ∷ TakeOut 2 ∷ TakeOut 2 ∷ TakeOut 2 ∷ []
 
--- "Before P5 the unit is Claimed at an address no example uses, all pairs are cleared and all queues empty"
+-- "Before P5 the unit is Claimed at an address no example uses, all pairs are cleared and all queues empty"; nothing is lost yet
 abbrev pub with : List Filter → Model
 with pairs = record {
   rest = record { own = record { claim = Claimed; address = 0x90; preferred = 0x90; name = 1; ports = 4 }; pairs = pairs; table = replicate 254 Free };
   queues = replicate 4 idle;
-  seen = record {};
+  seen = record { losses = replicate 13 0 };
 }
 
 abbrev pub beforeP5 : Model
@@ -53,11 +53,11 @@ afterP5 = with (record { mode = pass; entries = 65265 ∷ [] } ∷ replicate 11 
 
 -- what a frame from port 1 with no bytes is answered
 abbrev pub frameIn : Model → ℕ → FrameAnswer
-frameIn m id = frameAnswer 4 1221 m 1 id []
+frameIn m id = frameAnswer 4 1234 m 1 id []
 
 -- "Unless said, the tool is on port 1 with requester 21 and the buffer is long enough"
 abbrev pub message : Model → ℕ → List ℕ → Replied
-message m port payload = messaged 4 1221 1785 (m .rest) port 0x21 payload
+message m port payload = messaged 4 1234 1785 (m .rest) port 0x21 payload
 
 abbrev pub create : List ℕ
 create = 0x06 ∷ 0x12 ∷ 0x01 ∷ 0xF1 ∷ 0xFE ∷ 0x00 ∷ 0xFF ∷ 0xFF ∷ []

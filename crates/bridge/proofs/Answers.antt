@@ -16,7 +16,7 @@ use Rattle.bridge.specs.declared.UnitAnswer.{UnitAnswer}
 use Rattle.unit.specs.Model.{Model, modelOf, queueOn, recordLength, withOwn, withRest}
 use Rattle.unit.specs.Own.{consumes, isClaiming, moved}
 use Rattle.refusals.specs.Refusals.{lengthRefusal, takeRefusal, quietRefusal}
-use Rattle.bridge.specs.Calls.{Call, FrameIn, TakeOut, Message, Start, Quiet, ReadUnit, ReadCounts, frameOf, refusal, restAfter, asks, sends, performed, next, takeAnswer, unitAnswer, countsRefused, countsAnswer, Calling, TakingOut, Quieting, Reading, Counting}
+use Rattle.bridge.specs.Calls.{Call, FrameIn, TakeOut, Message, Start, Quiet, ReadUnit, ReadCounts, frameOf, refusal, restAfter, lossesAfter, asks, sends, performed, next, takeAnswer, unitAnswer, countsRefused, countsAnswer, Calling, TakingOut, Quieting, Reading, Counting}
 use Rattle.record.specs.Steps.{RowTaking}
 use Rattle.unit.proofs.Own.{own-ports}
 use Rattle.unit.proofs.Ports.{each-none, each-one}
@@ -67,7 +67,7 @@ module _ {ports : ℕ} {words : List ℕ} {port n : ℕ} (e : n ≡ takeRefusal 
   }
 
   pub taken : {after : List ℕ} {r : Taken} → length after ≡ length words → n ≡ 0 → RowTaking ports words after (port - 1) r → TakingOut ports words after port (TakeAnswer.Took r)
-  unfolding takeAnswer refusal performed restAfter asks sends
+  unfolding takeAnswer refusal performed restAfter lossesAfter asks sends
   taken long z T =
       let goes = take-goes ports (length words) port (sym e ∙ z) in
       record {
@@ -105,7 +105,7 @@ module _ {ports : ℕ} {words : List ℕ} where
     pub quieted : {after : List ℕ} {u : Unit} → isClaiming (modelOf ports words .rest .own .claim) ≡ true → length after ≡ length words
         → u ≡ moved (modelOf ports words .rest .own) Claimed (modelOf ports words .rest .own .address)
         → modelOf ports after ≡ withRest (modelOf ports words) (withOwn (modelOf ports words .rest) u) → Quieting ports words after 0
-    unfolding quietRefusal refusal performed restAfter asks sends
+    unfolding quietRefusal refusal performed restAfter lossesAfter asks sends
     quieted t long u state =
         let e : 0 ≡ quietRefusal ports (length words) (modelOf ports words .rest .own) = rw (eq-eqb (length words) (recordLength ports) full, t) in
         record {
@@ -127,7 +127,7 @@ module _ {ports : ℕ} {words : List ℕ} where
       two z = omega arith
 
   pub unit-read : {own : Unit} → length words ≡ recordLength ports → own ≡ modelOf ports words .rest .own → Reading ports words (UnitAnswer.Told own)
-  unfolding lengthRefusal unitAnswer refusal performed restAfter asks sends
+  unfolding lengthRefusal unitAnswer refusal performed restAfter lossesAfter asks sends
   unit-read full o =
       let e : 0 ≡ lengthRefusal ports (length words) = rw (eq-eqb (length words) (recordLength ports) full) in
       record {
@@ -142,7 +142,7 @@ module _ {ports : ℕ} {words : List ℕ} {port n : ℕ} (e : n ≡ takeRefusal 
   counts-refused h = record { call = call-refused (λ z. h (e ∙ z)); answer = rw (← e, ne-eqb n 0 h) }
 
   pub counts-read : {t : Tally} → n ≡ 0 → t ≡ queueOn (modelOf ports words) (port - 1) .tally → Counting ports words port (record { refusal = 0; tally = t })
-  unfolding countsAnswer refusal performed restAfter asks sends
+  unfolding countsAnswer refusal performed restAfter lossesAfter asks sends
   counts-read z h = record {
     call = call-done (sym e ∙ z) refl (rw (each-none ports (modelOf ports words .queues)));
     answer = rw (← e, eq-eqb n 0 z, h);

@@ -11,7 +11,7 @@ use Rattle.message_answers.specs.declared.MessageAnswer.{MessageAnswer}
 use Rattle.unit.specs.Model.{modelOf}
 use Rattle.message_answers.specs.Messages.{Replied, performedBy, Untouched}
 use Rattle.message_answers.specs.Messages.{nothingTold}
-use Rattle.bridge.specs.Calls.{silentReply, messaged, Message, refusal, restAfter, asks, sends, performed, Calling, Messaging}
+use Rattle.bridge.specs.Calls.{silentReply, messaged, Message, refusal, restAfter, lossesAfter, asks, sends, performed, Calling, Messaging}
 use Rattle.refusals.specs.Refusals.{messageRefusal}
 use Rattle.message_answers.specs.Steps.{Replying}
 use Rattle.unit.proofs.Ports.{each-none}
@@ -23,7 +23,7 @@ module _ (ports : ℕ) (words lent : List ℕ) (port requester : ℕ) (payload :
   outcome = messaged ports (length words) (length lent) (modelOf ports words .rest) port requester payload
 
   done : {after back : List ℕ} {Still : ℕ → Type 0} {r : MessageAnswer} → outcome .number ≡ 0 → length after ≡ length words → Replying ports words after lent back outcome Still r → Calling ports words after (Message port requester payload (length lent))
-  unfolding refusal performed restAfter asks sends
+  unfolding refusal performed restAfter lossesAfter asks sends
   done z long S = call-done z long (S .state ∙ rw (each-none ports (modelOf ports words .queues)))
 
   undone : {after back : List ℕ} {Still : ℕ → Type 0} {r : MessageAnswer} → (outcome .number ≡ 0 → ⊥) → Replying ports words after lent back outcome Still r → Calling ports words after (Message port requester payload (length lent))

@@ -17,18 +17,18 @@ use Rattle.bridge.specs.declared.StartAnswer.{StartAnswer}
 use Rattle.unit.specs.declared.Unit.{Unit}
 use Rattle.forwarding.specs.declared.Share.{Share}
 use Rattle.claims.specs.declared.Acted.{Acted as Done}
-use Rattle.unit.specs.Ports.{each, mask}
-use Rattle.unit.specs.Model.{modelOf, recordLength, queueOn, rowAt, withQueues}
+use Rattle.unit.specs.Ports.{each, inTurn, mask}
+use Rattle.unit.specs.Model.{Model, modelOf, recordLength, queueOn, rowAt}
 use Rattle.unit.specs.Own.{startChecks, consumes, framesSent}
 use Rattle.refusals.specs.Refusals.{frameRefusal, startRefusal}
 use Rattle.checks.specs.Checks.{first}
-use Rattle.bridge.specs.Calls.{frameOf, offered, refusal, restAfter, asks, sends, performed, frameRefused, framePassed, frameAnswer, startRefused, startAnswer, Framing, Starting}
-use Rattle.forwarding.specs.Forwarding.{verdict, sentIf, losesOwn}
+use Rattle.bridge.specs.Calls.{frameOf, offered, refusal, restAfter, lossesAfter, asks, sends, performed, frameRefused, framePassed, frameAnswer, startRefused, startAnswer, Framing, Starting}
+use Rattle.forwarding.specs.Forwarding.{verdict, sentIf, loses, losesOwn, lostFrom, lostOwn}
 use Rattle.claims.specs.Claims.{Acted, frameActed, started}
-use Rattle.forwarding.specs.Steps.{forwardedTo, sharesTo, Forwarding, announcedTo, unsentTo, Announcing}
+use Rattle.forwarding.specs.Steps.{changedTo, forwardedTo, sharesTo, Forwarding, announcedTo, unsentTo, Announcing}
 use Rattle.claims.specs.Steps.{Acting}
 use Rattle.bridge.specs.Steps.{Sharing, Responding, Passing}
-use Rattle.unit.proofs.Ports.{each-at, each-same, each-twice, mask-same, mask-none, total-none, digits-none}
+use Rattle.unit.proofs.Ports.{each-at, each-same, each-twice, turn-same, turn-none, mask-same, mask-none, total-none, digits-none}
 use Rattle.record.proofs.Regions.{queues-long}
 use Rattle.bridge.proofs.Answers.{call-refused, call-done}
 
@@ -49,16 +49,20 @@ module _ {ports : ℕ} {words after : List ℕ} (port : ℕ) (f : Frame) (r : Re
   unfolding framePassed offered unsentTo announcedTo
   consumed h R = record {
     answer = rw (h, mask-none ports, total-none ports, digits-none ports, R .event, R .unsent);
-    state = rw h (R .state);
+    state = rw (h, turn-none (lostFrom ports (port - 1)) ports (modelOf ports words .seen .losses)) (R .state);
   }
 
   -- ---- a frame that is carried on
-  module _ {mid : List ℕ} {s : Share} (h : consumes (modelOf ports words .rest .own) (f .id) ≡ false) (F : Forwarding ports words mid (verdict ports (modelOf ports words .rest .pairs) (port - 1) (pgnOf (f .id))) f s) (R : Responding ports mid after (frameActed (modelOf ports mid .rest) port false f) r) where
+  module _ {mid : List ℕ} {s : Share} (h : consumes (modelOf ports words .rest .own) (f .id) ≡ false) (F : Forwarding ports words mid (port - 1) (verdict ports (modelOf ports words .rest .pairs) (port - 1) (pgnOf (f .id))) f s) (R : Responding ports mid after (frameActed (modelOf ports mid .rest) port false f) r) where
     -- what forwarding does at port q
     abbrev change : ℕ → Queued → Queued
     change q x = sentAll x (sentIf (verdict ports (modelOf ports words .rest .pairs) (port - 1) (pgnOf (f .id)) q) f)
 
-    forwarded : modelOf ports mid ≡ withQueues (modelOf ports words) (each change ports (modelOf ports words .queues))
+    -- and whether the frame is lost there
+    abbrev lostThere : ℕ → Bool
+    lostThere q = loses (verdict ports (modelOf ports words .rest .pairs) (port - 1) (pgnOf (f .id)) q) (rowAt (modelOf ports words) q)
+
+    forwarded : modelOf ports mid ≡ changedTo ports (modelOf ports words) change lostThere (lostFrom ports (port - 1))
     unfolding forwardedTo
     forwarded = F .state
 
@@ -96,6 +100,17 @@ module _ {ports : ℕ} {words after : List ℕ} (port : ℕ) (f : Frame) (r : Re
         (λ q x. sym (sent-append x (sentIf (verdict ports (modelOf ports words .rest .pairs) (port - 1) (pgnOf (f .id)) q) f) (framesSent (done .sent))))
         ports (modelOf ports words .queues)
 
+    losses-are : inTurn (λ q. losesOwn (done .sent) (rowAt (modelOf ports mid) q)) (λ q. lostOwn ports) ports (modelOf ports mid .seen .losses)
+        ≡ inTurn (λ q. losesOwn (done .sent) (joinedTo q)) (λ q. lostOwn ports) ports (inTurn lostThere (lostFrom ports (port - 1)) ports (modelOf ports words .seen .losses))
+    losses-are =
+        turn-same (λ q. losesOwn (done .sent) (rowAt (modelOf ports mid) q)) (λ q. losesOwn (done .sent) (joinedTo q)) (λ q. lostOwn ports) ports (modelOf ports mid .seen .losses)
+        (λ q l. ap (losesOwn (done .sent)) (row-then q l))
+        ∙ ap (λ (m : Model). inTurn (λ q. losesOwn (done .sent) (joinedTo q)) (λ q. lostOwn ports) ports (m .seen .losses)) forwarded
+
+    -- the record's parts after both
+    abbrev put : List Queued → List ℕ → Model
+    put queues losses = record { rest = done .rest; queues = queues; seen = record { losses = losses } }
+
     pub carried : Passing ports words after port f (record { refusal = 0; consumed = false; accepted = s .accepted; lost = s .lost; event = r .event; unsent = r .unsent; compared = s .compared; reasons = s .reasons })
     unfolding framePassed offered sharesTo announcedTo
     carried = record {
@@ -103,14 +118,15 @@ module _ {ports : ℕ} {words after : List ℕ} (port : ℕ) (f : Frame) (r : Re
       state =
           rw h
           ((rw rest-still at (R .state))
-          ∙ rw forwarded (ap (λ queues. record { rest = done .rest; queues = queues; seen = modelOf ports words .seen }) queues-are));
+          ∙ ap (put (each (λ q x. sentAll x (framesSent (done .sent))) ports (modelOf ports mid .queues))) losses-are
+          ∙ ap (λ queues. put queues (inTurn (λ q. losesOwn (done .sent) (joinedTo q)) (λ q. lostOwn ports) ports (inTurn lostThere (lostFrom ports (port - 1)) ports (modelOf ports words .seen .losses)))) (rw forwarded queues-are));
     }
 
 -- ---- a frame that is not refused: for the unit or for others, as `consumed` says
 pub kept-still : {ports : ℕ} {words : List ℕ} {port : ℕ} {b : Bool} {f : Frame} → b ≡ true → Sharing ports words words port b f (record { accepted = 0; lost = 0; reasons = 0; compared = 0 })
 kept-still h = record { kept = λ _. (refl, refl); sent = λ g. absurd (true≢false (sym h ∙ g)) }
 
-pub shared : {ports : ℕ} {words mid : List ℕ} {port pgn : ℕ} {b : Bool} {f : Frame} {s : Share} → b ≡ false → pgn ≡ pgnOf (f .id) → Forwarding ports words mid (verdict ports (modelOf ports words .rest .pairs) (port - 1) pgn) f s → Sharing ports words mid port b f s
+pub shared : {ports : ℕ} {words mid : List ℕ} {port pgn : ℕ} {b : Bool} {f : Frame} {s : Share} → b ≡ false → pgn ≡ pgnOf (f .id) → Forwarding ports words mid (port - 1) (verdict ports (modelOf ports words .rest .pairs) (port - 1) pgn) f s → Sharing ports words mid port b f s
 shared h g F = record { kept = λ k. absurd (true≢false (sym k ∙ h)); sent = λ _. rw g at F }
 
 pub passed : {ports : ℕ} {words mid after : List ℕ} (port : ℕ) (f : Frame) (b : Bool) (s : Share) (r : Response) → b ≡ consumes (modelOf ports words .rest .own) (f .id) → Sharing ports words mid port b f s
@@ -131,7 +147,7 @@ module _ {ports : ℕ} {words : List ℕ} (port id : ℕ) (bytes : List ℕ) {n 
   }
 
   pub frame-passed : {after : List ℕ} {f : Frame} {r : FrameAnswer} → n ≡ 0 → length after ≡ length words → f ≡ frameOf id bytes → Passing ports words after port f r → Framing ports words after port id bytes r
-  unfolding frameAnswer refusal performed restAfter asks sends
+  unfolding frameAnswer refusal performed restAfter lossesAfter asks sends
   frame-passed z long g P = record {
     call = call-done (sym e ∙ z) long (rw g at (P .state));
     answer = rw (← e, eq-eqb n 0 z) (rw g at (P .answer));
@@ -163,7 +179,7 @@ module _ (ports : ℕ) (words : List ℕ) where
 
     pub start-done : {mid after : List ℕ} {d : Done} {u : ℕ} {own : Unit} → n ≡ 0 → length after ≡ length words → Acting ports words mid (started (modelOf ports words .rest)) d
         → Announcing ports mid after (d .sent) u → own ≡ modelOf ports after .rest .own → Starting ports words after (record { refusal = 0; unsent = u; claim = own .claim })
-    unfolding startAnswer refusal performed restAfter asks sends announcedTo unsentTo
+    unfolding startAnswer refusal performed restAfter lossesAfter asks sends announcedTo unsentTo
     start-done z long A B o = record {
       call = call-done (number ∙ z) long (responded A B .state);
       answer = rw (number, eq-eqb n 0 z, responded A B .unsent, o, responded A B .state);

@@ -2,7 +2,7 @@
 -- `next` is fed the calls' arguments alone. `lent` is the length of the record that was lent.
 -- Assumes nothing.
 use Prim.Native.Nat.{ℕ, _+_, _-_, _*_}
-use mathlib.Core.Bool.{false, cond}
+use mathlib.Core.Bool.{Bool, false, cond}
 use mathlib.Core.Path.{_≡_}
 use mathlib.Core.List.{List, [], _++_}
 use mathlib.Core.Option.{Option, none, some}
@@ -19,11 +19,11 @@ use Rattle.queue.specs.Queue.{size, priority, takenOf, queueNext, idle, blockLe
 use Rattle.address_claims.specs.declared.Event.{Event}
 use Rattle.network_message.specs.Decoding.{decoded}
 use Rattle.unit.specs.declared.Claim.the-variants.{Unstarted, Claimed}
-use Rattle.unit.specs.Ports.{each, mask, total, digits}
+use Rattle.unit.specs.Ports.{each, inTurn, mask, total, digits}
 use Rattle.unit.specs.Count.{portsOf}
 use Rattle.unit.specs.Model.{Rest, Model, queueOn, rowAt, withOwn, withPairs, rowsFrom, modelOf}
 use Rattle.unit.specs.Own.{consumes, moved, framesSent}
-use Rattle.forwarding.specs.Forwarding.{sentIf, accepts, loses, losesOwn, silent, verdict}
+use Rattle.forwarding.specs.Forwarding.{sentIf, accepts, loses, losesOwn, lostFrom, lostOwn, silent, verdict}
 use Rattle.claims.specs.Claims.{Acted, frameActed, started}
 pub use Rattle.claims.specs.Claims.{frameOf}
 use Rattle.message_answers.specs.declared.MessageAnswer.{MessageAnswer}
@@ -53,7 +53,7 @@ offered ports rest p id q = cond (consumes (rest .own) id) silent (verdict ports
 -- ---- a message
 -- nothing is written for 1 to 8
 abbrev pub silentReply : ℕ → List Filter → Replied
-silentReply number pairs = record { number = number; pairs = pairs; pgn = 0; written = λ seen. []; told = nothingTold }
+silentReply number pairs = record { number = number; pairs = pairs; losses = λ losses. losses; pgn = 0; written = λ seen. []; told = nothingTold }
 
 unfoldable pub messaged : ℕ → ℕ → ℕ → Rest → ℕ → ℕ → List ℕ → Replied
 messaged ports lent lentReply rest port requester payload =
@@ -109,12 +109,38 @@ sends ports rest Quiet q = []
 sends ports rest ReadUnit q = []
 sends ports rest (ReadCounts port) q = []
 
--- each queue by itself: frames join under rule 3, or a take is made under rule 4, and what is accepted and taken is counted
+-- ---- document 02, ticket 8: what is lost, and counted
+-- whether a frame is lost at port q, and whether the unit's own frame is lost there after it
+abbrev pub lostAt : ℕ → Model → ℕ → Frame → ℕ → Bool
+lostAt ports m port f q = loses (offered ports (m .rest) (port - 1) (f .id) q) (rowAt m q)
+
+abbrev pub unsentAt : ℕ → Model → ℕ → Frame → ℕ → Bool
+unsentAt ports m port f q =
+    losesOwn (frameDone (m .rest) port f .sent) (joinAll size (rowAt m q) (sentIf (offered ports (m .rest) (port - 1) (f .id) q) f))
+
+abbrev pub startUnsentAt : Model → ℕ → Bool
+startUnsentAt m q = losesOwn (started (m .rest) .sent) (rowAt m q)
+
+-- the counters: a frame's losses, then the unit's own
+abbrev pub frameLosses : ℕ → Model → ℕ → Frame → List ℕ
+frameLosses ports m port f =
+    inTurn (λ q. unsentAt ports m port f q) (λ q. lostOwn ports) ports (inTurn (λ q. lostAt ports m port f q) (lostFrom ports (port - 1)) ports (m .seen .losses))
+
+unfoldable pub lossesAfter : ℕ → ℕ → Model → Call → List ℕ
+lossesAfter ports lent m (FrameIn port id bytes) = frameLosses ports m port (frameOf id bytes)
+lossesAfter ports lent m (TakeOut port) = m .seen .losses
+lossesAfter ports lent m (Message port requester payload lentReply) = messaged ports lent lentReply (m .rest) port requester payload .losses (m .seen .losses)
+lossesAfter ports lent m Start = inTurn (λ q. startUnsentAt m q) (λ q. lostOwn ports) ports (m .seen .losses)
+lossesAfter ports lent m Quiet = m .seen .losses
+lossesAfter ports lent m ReadUnit = m .seen .losses
+lossesAfter ports lent m (ReadCounts port) = m .seen .losses
+
+-- ---- each queue by itself: frames join under rule 3, or a take is made under rule 4, and what is accepted and taken is counted
 unfoldable pub performed : ℕ → ℕ → Model → Call → Model
 performed ports lent m k = record {
   rest = restAfter ports lent (m .rest) k;
   queues = each (λ q x. queueNext (asks k) q x (sends ports (m .rest) k q)) ports (m .queues);
-  seen = m .seen;
+  seen = record { losses = lossesAfter ports lent m k };
 }
 
 -- a refused call changes nothing
@@ -141,12 +167,9 @@ framePassed ports m port f = record {
   refusal = 0;
   consumed = consumes (m .rest .own) (f .id);
   accepted = mask (λ q. accepts (offered ports (m .rest) (port - 1) (f .id) q) (rowAt m q)) ports;
-  lost = mask (λ q. loses (offered ports (m .rest) (port - 1) (f .id) q) (rowAt m q)) ports;
+  lost = mask (λ q. lostAt ports m port f q) ports;
   event = frameDone (m .rest) port f .event;
-  unsent =
-      mask
-      (λ q. losesOwn (frameDone (m .rest) port f .sent) (joinAll size (rowAt m q) (sentIf (offered ports (m .rest) (port - 1) (f .id) q) f)))
-      ports;
+  unsent = mask (λ q. unsentAt ports m port f q) ports;
   compared = total (λ q. offered ports (m .rest) (port - 1) (f .id) q .compared) ports;
   reasons = digits (λ q. reasonNumber (offered ports (m .rest) (port - 1) (f .id) q .reason)) ports;
 }
@@ -180,7 +203,7 @@ startRefused number = record { refusal = number; unsent = 0; claim = Unstarted }
 unfoldable pub startAnswer : ℕ → ℕ → Model → StartAnswer
 startAnswer ports lent m =
     cond (eqb (startRefusal ports lent (m .rest .own)) 0)
-    (record { refusal = 0; unsent = mask (λ q. losesOwn (started (m .rest) .sent) (rowAt m q)) ports; claim = started (m .rest) .rest .own .claim })
+    (record { refusal = 0; unsent = mask (λ q. startUnsentAt m q) ports; claim = started (m .rest) .rest .own .claim })
     (startRefused (startRefusal ports lent (m .rest .own)))
 
 -- the unit, its number of ports among the rest

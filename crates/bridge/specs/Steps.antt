@@ -15,12 +15,12 @@ use Rattle.forwarding.specs.Steps.{Forwarding, announcedTo, unsentTo}
 use Rattle.claims.specs.Claims.{Acted}
 use Rattle.bridge.specs.declared.FrameAnswer.{FrameAnswer}
 use Rattle.bridge.specs.declared.Response.{Response}
-use Rattle.bridge.specs.Calls.{frameDone, frameSends, framePassed}
+use Rattle.bridge.specs.Calls.{frameDone, frameSends, frameLosses, framePassed}
 
 -- a frame for others was forwarded, one for the unit was not
 pub record Sharing (ports : ℕ) (before after : List ℕ) (port : ℕ) (consumed : Bool) (f : Frame) (r : Share) : Type 0 where
   pub kept : consumed ≡ true → (after ≡ before) × (r ≡ record { accepted = 0; lost = 0; reasons = 0; compared = 0 })
-  pub sent : consumed ≡ false → Forwarding ports before after (verdict ports (modelOf ports before .rest .pairs) (port - 1) (pgnOf (f .id))) f r
+  pub sent : consumed ≡ false → Forwarding ports before after (port - 1) (verdict ports (modelOf ports before .rest .pairs) (port - 1) (pgnOf (f .id))) f r
 
 -- the event, and the ports where the unit's own frame was lost
 pub record Responding (ports : ℕ) (before after : List ℕ) (a : Acted) (r : Response) : Type 0 where
@@ -33,7 +33,7 @@ abbrev pub framed : ℕ → Model → ℕ → Frame → Model
 framed ports m port f = record {
   rest = frameDone (m .rest) port f .rest;
   queues = each (λ q x. sentAll x (frameSends ports (m .rest) port f q)) ports (m .queues);
-  seen = m .seen;
+  seen = record { losses = frameLosses ports m port f };
 }
 
 pub record Passing (ports : ℕ) (before after : List ℕ) (port : ℕ) (f : Frame) (r : FrameAnswer) : Type 0 where

@@ -16,6 +16,6 @@ abbrev pub first : List Check → ℕ
 first [] = 0
 first (c ∷ cs) = cond (c .applies) (c .number) (first cs)
 
--- "9 to 17 write eight bytes, the acknowledgment", and 22 (document 02, ticket 2): the numbers that write one
+-- "9 to 17 write eight bytes, the acknowledgment", and 22 and 23 (document 02, tickets 2 and 8): the numbers that write one
 abbrev pub acknowledges : ℕ → Bool
-acknowledges number = (leb 9 number && leb number 17) || eqb number 22
+acknowledges number = (leb 9 number && leb number 17) || (eqb number 22 || eqb number 23)

@@ -6,14 +6,14 @@ use mathlib.Core.List.{List, [], _∷_, _++_}
 use Prim.Native.Nat.{ℕ, _-_, _≤_}
 use native.Mathlib.Omega.{arith}
 use borrow.Author.Tests.{eqb-true, eqb-false, not-true}
-use lib.ListN.{length, drop, getD}
+use lib.ListN.{length, drop}
 use lib.Dec.{eqb, ltb, leb}
 use Rattle.network_message.specs.declared.Command.{Command}
-use Rattle.network_message.specs.declared.Command.the-variants.{Refused, Request, Add, Delete, Clear, Create, AddressList}
+use Rattle.network_message.specs.declared.Command.the-variants.{Refused, Request, Add, Delete, Clear, Create, AddressList, Parameter, Reset, PairParameter, PairReset}
 use Rattle.checks.specs.Checks.{acknowledges}
 use Rattle.checks.proofs.FirstNumber.{first-in}
 use Rattle.network_message.specs.Decoding.{functionOf, decoded}
-use Rattle.replies.specs.Replies.{controlOf, acknowledgment, listReply, addressReply}
+use Rattle.replies.specs.Replies.{controlOf, acknowledgment}
 use Rattle.bridge.specs.declared.FrameAnswer.{FrameAnswer}
 use Rattle.bridge.specs.declared.TakeAnswer.{TakeAnswer}
 use Rattle.message_answers.specs.declared.MessageAnswer.{MessageAnswer}
@@ -40,21 +40,20 @@ use Rattle.unit.specs.Model.{queueOn, rowAt}
 use Rattle.forwarding.specs.Forwarding.{losesOwn}
 use Rattle.claims.specs.Claims.{started}
 use Rattle.bridge.specs.Calls.{frameOf}
-use Rattle.filter.specs.Filter.{Filter, clear}
+use Rattle.filter.specs.Filter.{Filter}
 use Rattle.entries.specs.Entries.{entriesOf}
-use Rattle.network_message.specs.Decoding.{pairOf, between, longest}
+use Rattle.network_message.specs.Decoding.{between}
 use Rattle.network_message.specs.Commands.{Good}
 use Rattle.network_message.proofs.Decoding.{decoded-good}
 use Rattle.filter_commands.specs.declared.pairs.Question.the-variants.{IsCleared, IsNotCleared, WouldPass, Lacks}
 use Rattle.filter_commands.specs.declared.pairs.Change.{Change}
 use Rattle.filter_commands.specs.declared.pairs.Change.the-variants.{Adds, Deletes, Clears, Creates}
-use Rattle.unit.specs.Model.{pairAt}
 use Rattle.checks.specs.Ports.{noPort}
 use Rattle.unit.specs.Own.{isClaimed}
 use Rattle.list_commands.specs.declared.Absent.{Absent}
 use Rattle.list_commands.specs.Commands.{listChecks, listRefusal, commanded}
 use Rattle.filter_commands.specs.Pairs.{holdsOf}
-use Rattle.message_answers.specs.Messages.{changedBy, replied}
+use Rattle.message_answers.specs.Messages.{changedBy, replied, resetAt}
 use Rattle.unit.proofs.Count.{count-four}
 use Rattle.unit.proofs.Own.{own-ports}
 use Rattle.refusals.proofs.Checks.{message-goes}
@@ -208,8 +207,11 @@ module _ (ports : ℕ) (rest : Rest) (requester : ℕ) (payload : List ℕ) (see
   told-fits : (n : ℕ) (pairs : List Filter) (t : Absent) → ((n ≡ 0 → ⊥) → acknowledges n ≡ true) → Fits payload requester (acknowledged n requester payload pairs t) seen
   told-fits n pairs t h = record { quiet = λ z a. absurd (true≢false (sym (h z) ∙ a)); told = λ _. (refl, refl) }
 
-  done-fits : (bytes : List ℕ) → Fits payload requester (replied bytes (rest .pairs)) seen
+  done-fits : (bytes : Seen → List ℕ) → Fits payload requester (replied bytes (rest .pairs)) seen
   done-fits bytes = record { quiet = λ z. absurd (z refl); told = λ a. absurd (true≢false (sym a)) }
+
+  reset-fits : (i : ℕ) → Fits payload requester (resetAt i requester payload (rest .pairs)) seen
+  reset-fits i = record { quiet = λ z. absurd (z refl); told = λ a. absurd (true≢false (sym a)) }
 
   changed-fits : (change : Change) (from to start end : ℕ) → Fits payload requester (changedBy ports rest requester payload change from to start end) seen
   changed-fits change from to start end =
@@ -219,12 +221,16 @@ module _ (ports : ℕ) (rest : Rest) (requester : ℕ) (payload : List ℕ) (see
   performed-fits : (c : Command) → Good ports payload c → Fits payload requester (performedBy ports rest requester payload c) seen
   unfolding performedBy
   performed-fits (Refused number entry) g = told-fits number (rest .pairs) _ (λ _. g)
-  performed-fits (Request from to) g = done-fits (listReply (pairOf payload) (getD (rest .pairs) (pairAt ports (from - 1) (to - 1)) clear))
+  performed-fits (Request from to) g = done-fits _
   performed-fits (Add from to start end) g = changed-fits Adds from to start end
   performed-fits (Delete from to start end) g = changed-fits Deletes from to start end
   performed-fits (Clear from to) g = changed-fits Clears from to 2 2
   performed-fits (Create from to passing start end) g = changed-fits (Creates passing) from to start end
-  performed-fits (AddressList port) g = done-fits (addressReply port (rest .own .address) (rest .table))
+  performed-fits (AddressList port) g = done-fits _
+  performed-fits (Parameter parameter) g = done-fits _
+  performed-fits Reset g = reset-fits _
+  performed-fits (PairParameter from to parameter) g = done-fits _
+  performed-fits (PairReset from to) g = reset-fits _
 
   messaged-fits : (lent lentReply port : ℕ) → Fits payload requester (messaged ports lent lentReply rest port requester payload) seen
   unfolding messaged messageRefusal

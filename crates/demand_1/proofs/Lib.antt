@@ -2,3 +2,4 @@ pub mod Told
 pub mod Numbers
 pub mod Demand1
 pub mod Literals
+pub mod Parameters

@@ -1,11 +1,11 @@
 -- The number of the first check that applies is given exactly so; and the numbers of a message, which the unit finds in three steps, are one table. Assumes nothing.
 use mathlib.Core.Path.{_≡_, refl, sym, ap, _∙_}
 use mathlib.Core.Logic.{_↔_}
-use mathlib.Core.Bool.{Bool, true, false, cond, not, _&&_, _||_, true≢false}
+use mathlib.Core.Bool.{Bool, true, false, cond, not, _&&_, _||_, or-true, or-false, true≢false}
 use mathlib.Core.List.{List, [], _∷_, _++_}
 use Prim.Native.Nat.{ℕ}
 use native.Mathlib.Omega.{arith}
-use borrow.Author.Tests.{ltb-true, not-false}
+use borrow.Author.Tests.{eqb-true, ltb-true, not-false}
 use lib.ListN.{length}
 use lib.Dec.{eqb, ltb, leb}
 use Rattle.checks.proofs.Tests.{both}
@@ -16,7 +16,7 @@ use Rattle.entries.specs.Entries.{listed}
 use Rattle.filter_commands.specs.Changes.{wouldPass, lacks}
 use Rattle.network_message.specs.declared.Command.{Command}
 use Rattle.network_message.specs.declared.Command.the-variants.{Refused}
-use Rattle.network_message.specs.Decoding.{isKnown, namesPorts, mayName, hasGoodBody, wrongEntry, hasWrongMode, entriesStart, refusalOf, judged, commandOf, decoded, longest}
+use Rattle.network_message.specs.Decoding.{isKnown, namesPorts, mayName, holdsParameter, hasGoodBody, wrongEntry, hasWrongMode, entriesStart, refusalOf, judged, commandOf, decoded, longest}
 use Rattle.network_message.proofs.Passing.{by-function}
 use Rattle.unit.specs.Model.{Rest}
 use Rattle.checks.specs.Ports.{noPort}
@@ -28,7 +28,7 @@ use Rattle.message_answers.specs.Messages.{Replied, performedBy}
 use Rattle.bridge.specs.Calls.{silentReply, messaged}
 use Rattle.refusals.specs.Refusals.{messageRefusal}
 use Rattle.demand_1.proofs.Told.{wrong-is}
-use Rattle.demand_1.specs.Demand1.{function, from, to, entries, aNamedPair, messageNumbers, noneApplies, Given, Exact}
+use Rattle.demand_1.specs.Demand1.{function, from, to, parameter, asksParameter, resets, entries, aNamedPair, messageNumbers, noneApplies, Given, Exact}
 
 -- ---- the first check that applies
 -- no number is 0
@@ -96,17 +96,49 @@ early false false false true e r pairs = refl
 early false false false false true r pairs = refl
 early false false false false false r pairs = refl
 
+-- 23: 9 is held, so that a reset of any other is refused whether it is held or not; by the function
+pub held-is : (payload : List ℕ)
+    → not (holdsParameter (function payload) (parameter payload)) ≡ asksParameter payload && (not (listed (parameter payload) (1 ∷ 2 ∷ 3 ∷ 9 ∷ [])) || (resets payload && not (eqb (parameter payload) 9)))
+unfolding holdsParameter listed
+held-is payload = go (eqb 128 f) (eqb 130 f) (eqb 131 f) (eqb 133 f) refl refl refl refl
+  where
+    f : ℕ
+    f = function payload
+
+    p : ℕ
+    p = parameter payload
+
+    held : Bool
+    held = listed p (1 ∷ 2 ∷ 3 ∷ 9 ∷ [])
+
+    nine : (t : Bool) → eqb p 9 ≡ t → not held || not t ≡ not t
+    nine true e = rw (eqb-true p 9 e)
+    nine false e = or-true (not held)
+
+    go : (a b c d : Bool) → eqb 128 f ≡ a → eqb 130 f ≡ b → eqb 131 f ≡ c → eqb 133 f ≡ d
+        → not (cond (a || (c || false)) held (cond (b || (d || false)) (eqb p 9) true)) ≡ (a || (b || (c || (d || false)))) && (not held || ((b || (d || false)) && not (eqb p 9)))
+    go true true c d x y z w = absurd (omega (arith, eqb-true 128 f x, eqb-true 130 f y))
+    go true false c true x y z w = absurd (omega (arith, eqb-true 128 f x, eqb-true 133 f w))
+    go true false c false x y z w = sym (or-false (not held))
+    go false true true d x y z w = absurd (omega (arith, eqb-true 130 f y, eqb-true 131 f z))
+    go false true false d x y z w = sym (nine (eqb p 9) refl)
+    go false false true true x y z w = absurd (omega (arith, eqb-true 131 f z, eqb-true 133 f w))
+    go false false true false x y z w = sym (or-false (not held))
+    go false false false true x y z w = sym (nine (eqb p 9) refl)
+    go false false false false x y z w = refl
+
 module _ (ports : ℕ) (rest : Rest) (requester : ℕ) (payload : List ℕ) where
   -- from the payload
-  late : (f g h i w j : Bool) (n : ℕ) (k : Command) → performedBy ports rest requester payload (cond (eqb (cond f 9 (cond g 10 (cond h 11 (cond i 12 (cond w 22 (cond j 13 0)))))) 0) k (Refused (cond f 9 (cond g 10 (cond h 11 (cond i 12 (cond w 22 (cond j 13 0)))))) n)) .number ≡ cond f 9 (cond g 10 (cond h 11 (cond i 12 (cond w 22 (cond j 13 (performedBy ports rest requester payload k .number))))))
+  late : (f g h p i w j : Bool) (n : ℕ) (k : Command) → performedBy ports rest requester payload (cond (eqb (cond f 9 (cond g 10 (cond h 11 (cond p 23 (cond i 12 (cond w 22 (cond j 13 0))))))) 0) k (Refused (cond f 9 (cond g 10 (cond h 11 (cond p 23 (cond i 12 (cond w 22 (cond j 13 0))))))) n)) .number ≡ cond f 9 (cond g 10 (cond h 11 (cond p 23 (cond i 12 (cond w 22 (cond j 13 (performedBy ports rest requester payload k .number)))))))
   unfolding performedBy
-  late true g h i w j n k = refl
-  late false true h i w j n k = refl
-  late false false true i w j n k = refl
-  late false false false true w j n k = refl
-  late false false false false true j n k = refl
-  late false false false false false true n k = refl
-  late false false false false false false n k = refl
+  late true g h p i w j n k = refl
+  late false true h p i w j n k = refl
+  late false false true p i w j n k = refl
+  late false false false true i w j n k = refl
+  late false false false false true w j n k = refl
+  late false false false false false true j n k = refl
+  late false false false false false false true n k = refl
+  late false false false false false false false n k = refl
 
   -- 14 to 17, from the lists
   abbrev lists : ℕ
@@ -128,10 +160,14 @@ module _ (ports : ℕ) (rest : Rest) (requester : ℕ) (payload : List ℕ) wher
       (λ e. rw e)
       (λ _ e. rw e)
       (λ e. rw e)
+      (λ e. rw e)
+      (λ e. rw e)
+      (λ e. rw e)
+      (λ e. rw e)
 
-  below-known : (f g h i w j : Bool) (m n : ℕ) → (f ≡ false → m ≡ n) → cond f 9 (cond g 10 (cond h 11 (cond i 12 (cond w 22 (cond j 13 m))))) ≡ cond f 9 (cond g 10 (cond h 11 (cond i 12 (cond w 22 (cond j 13 n)))))
-  below-known true g h i w j m n e = refl
-  below-known false g h i w j m n e = rw (e refl)
+  below-known : (f g h p i w j : Bool) (m n : ℕ) → (f ≡ false → m ≡ n) → cond f 9 (cond g 10 (cond h 11 (cond p 23 (cond i 12 (cond w 22 (cond j 13 m)))))) ≡ cond f 9 (cond g 10 (cond h 11 (cond p 23 (cond i 12 (cond w 22 (cond j 13 n))))))
+  below-known true g h p i w j m n e = refl
+  below-known false g h p i w j m n e = rw (e refl)
 
   pub message-number : (lent lentReply port : ℕ) → messaged ports lent lentReply rest port requester payload .number ≡ first (messageNumbers ports lent lentReply rest port requester payload)
   unfolding messaged messageRefusal decoded judged refusalOf
@@ -139,9 +175,10 @@ module _ (ports : ℕ) (rest : Rest) (requester : ℕ) (payload : List ℕ) wher
       let f = not (isKnown (function payload)) in
       let g = not (namesPorts ports (function payload) (from payload) (to payload)) in
       let h = not (mayName ports port (function payload) (from payload) (to payload)) in
+      let p = not (holdsParameter (function payload) (parameter payload)) in
       let i = not (hasGoodBody (function payload) payload) in
       let w = not (eqb (wrongEntry (function payload) payload) 0) in
       let j = hasWrongMode (function payload) payload in
       let k = commandOf (function payload) (from payload) (to payload) payload in
       early (noPort ports port) (notLong ports lent || ltb lentReply longest) (not (isClaimed (rest .own .claim))) (not (leb 8 (length payload) && leb (length payload) longest)) (ltb 253 requester) (performedBy ports rest requester payload (decoded ports port payload)) (rest .pairs)
-      ∙ rw (late f g h i w j (judged ports port (function payload) (from payload) (to payload) payload .entry) k ∙ below-known f g h i w j (performedBy ports rest requester payload k .number) lists (λ e. by-lists (not-false (isKnown (function payload)) e)), wrong-is payload)
+      ∙ rw (late f g h p i w j (judged ports port (function payload) (from payload) (to payload) payload .entry) k ∙ below-known f g h p i w j (performedBy ports rest requester payload k .number) lists (λ e. by-lists (not-false (isKnown (function payload)) e)), wrong-is payload, held-is payload)

@@ -24,7 +24,7 @@ use Rattle.filter_commands.specs.declared.pairs.Change.the-variants.{Adds, Dele
 use Rattle.filter_commands.specs.Pairs.{holdsOf}
 use Rattle.network_message.specs.declared.Command.{Command}
 use Rattle.network_message.specs.declared.Command.the-variants.{Refused, Request, Add, Delete, Clear, Create, AddressList}
-use Rattle.network_message.specs.Decoding.{isKnown, namesPorts, mayName, hasGoodBody, hasWrongMode, entriesStart, entriesEnd, between, wrongIn, wrongEntry, payloadChecks, refusalOf, judged, commandOf, decoded}
+use Rattle.network_message.specs.Decoding.{isKnown, namesPorts, mayName, holdsParameter, parameterOf, hasGoodBody, hasWrongMode, entriesStart, entriesEnd, between, wrongIn, wrongEntry, payloadChecks, refusalOf, judged, commandOf, decoded}
 use Rattle.network_message.specs.Commands.{Ports, Good}
 use Rattle.network_message.proofs.Passing.{by-function}
 use Rattle.network_message.proofs.Decoding.{decoded-good}
@@ -167,19 +167,24 @@ module _ (words payload : List ℕ) where
   nothing-telling : (n : ℕ) → (n ≡ 22 → ⊥) → (n ≡ 17 → ⊥) → Telling n nothingTold
   nothing-telling n a b = ((λ e. absurd (a e)), (λ e. absurd (b e)), (λ _ _. refl))
 
+  -- where it is done
+  told-nothing : Telling 0 nothingTold
+  told-nothing = nothing-telling 0 (λ z. omega arith) (λ z. omega arith)
+
   -- a payload that is refused
   module _ (port : ℕ) where
     abbrev number : ℕ
     number = refusalOf ports port (function payload) (from payload) (to payload) payload
 
-    applies : (a b c d e f : Bool) → _≡_ {A = ℕ} (cond a 9 (cond b 10 (cond c 11 (cond d 12 (cond e 22 (cond f 13 0)))))) 22 → e ≡ true
-    applies true b c d e f h = absurd (omega arith)
-    applies false true c d e f h = absurd (omega arith)
-    applies false false true d e f h = absurd (omega arith)
-    applies false false false true e f h = absurd (omega arith)
-    applies false false false false true f h = refl
-    applies false false false false false true h = absurd (omega arith)
-    applies false false false false false false h = absurd (omega arith)
+    applies : (a b c p d e f : Bool) → _≡_ {A = ℕ} (cond a 9 (cond b 10 (cond c 11 (cond p 23 (cond d 12 (cond e 22 (cond f 13 0))))))) 22 → e ≡ true
+    applies true b c p d e f h = absurd (omega arith)
+    applies false true c p d e f h = absurd (omega arith)
+    applies false false true p d e f h = absurd (omega arith)
+    applies false false false true d e f h = absurd (omega arith)
+    applies false false false false true e f h = absurd (omega arith)
+    applies false false false false false true f h = refl
+    applies false false false false false false true h = absurd (omega arith)
+    applies false false false false false false false h = absurd (omega arith)
 
     -- what is told with it
     abbrev entry : ℕ
@@ -188,7 +193,7 @@ module _ (words payload : List ℕ) where
     refused-telling : (number ≡ 0 → ⊥) → Telling number (wrongTold entry)
     unfolding refusalOf
     refused-telling z = (
-      (λ e. rw (eq-eqb number 22 e) (wrong-first payload (applies (not (isKnown (function payload))) (not (namesPorts ports (function payload) (from payload) (to payload))) (not (mayName ports port (function payload) (from payload) (to payload))) (not (hasGoodBody (function payload) payload)) (not (eqb (wrongEntry (function payload) payload) 0)) (hasWrongMode (function payload) payload) e))),
+      (λ e. rw (eq-eqb number 22 e) (wrong-first payload (applies (not (isKnown (function payload))) (not (namesPorts ports (function payload) (from payload) (to payload))) (not (mayName ports port (function payload) (from payload) (to payload))) (not (holdsParameter (function payload) (parameterOf payload))) (not (hasGoodBody (function payload) payload)) (not (eqb (wrongEntry (function payload) payload) 0)) (hasWrongMode (function payload) payload) e))),
       (λ e. absurd (not-of (λ n. not (eqb n 17)) (first-in (λ n. not (eqb n 17)) (payloadChecks ports port (function payload) (from payload) (to payload) payload) refl z) refl e)),
       (λ a _. rw (ne-eqb number 22 a)),
     )
@@ -221,12 +226,16 @@ module _ (words payload : List ℕ) where
     unfolding performedBy listRefusal listChecks absentTold
     command-telling known =
         by-function (λ c. Good ports payload c → Told-by c) (function payload) (from payload) (to payload) payload known
-        (λ e g. nothing-telling 0 (λ z. omega arith) (λ z. omega arith))
+        (λ e g. told-nothing)
         (λ e g. rw (entries-by 2 (rw e)) (changed-telling Adds (g .0)))
         (λ e g. rw (entries-by 2 (rw e)) (changed-telling Deletes (g .0)))
-        (λ e g. nothing-telling 0 (λ z. omega arith) (λ z. omega arith))
+        (λ e g. told-nothing)
         (λ pass e g. rw (entries-by 3 (rw e)) (changed-telling (Creates pass) (g .0)))
-        (λ e g. nothing-telling 0 (λ z. omega arith) (λ z. omega arith))
+        (λ e g. told-nothing)
+        (λ e g. told-nothing)
+        (λ e g. told-nothing)
+        (λ e g. told-nothing)
+        (λ e g. told-nothing)
 
     is-known : (b : Bool) (m : ℕ) → cond (not b) 9 m ≡ 0 → b ≡ true
     is-known true m e = refl

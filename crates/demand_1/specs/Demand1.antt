@@ -86,6 +86,16 @@ to payload = toOf (pairOf payload)
 abbrev pub entries : List ℕ → List ℕ
 entries payload = entriesOf (between (entriesStart (function payload)) (entriesEnd (entriesStart (function payload)) payload) payload)
 
+-- document 02, ticket 8: "128 .. and 130 are the general request .. and reset", 131 and 133 a pair's; the parameter stands in byte 3
+abbrev pub asksParameter : List ℕ → Bool
+asksParameter payload = listed (function payload) (128 ∷ 130 ∷ 131 ∷ 133 ∷ [])
+
+abbrev pub resets : List ℕ → Bool
+resets payload = listed (function payload) (130 ∷ 133 ∷ [])
+
+abbrev pub parameter : List ℕ → ℕ
+parameter payload = getD payload 2 0
+
 -- whether a test holds of a pair that it names
 abbrev pub aNamedPair : ℕ → Rest → List ℕ → (Filter → Bool) → Bool
 aNamedPair ports rest payload test = anyNamed ports (ports - 1) test (from payload) (to payload) (rest .pairs)
@@ -100,6 +110,7 @@ messageNumbers ports lent lentReply rest port requester payload =
     ∷ check (not (isKnown (function payload))) 9
     ∷ check (not (namesPorts ports (function payload) (from payload) (to payload))) 10
     ∷ check (not (mayName ports port (function payload) (from payload) (to payload))) 11
+    ∷ check (asksParameter payload && (not (listed (parameter payload) (1 ∷ 2 ∷ 3 ∷ 9 ∷ [])) || (resets payload && not (eqb (parameter payload) 9)))) 23
     ∷ check (not (hasGoodBody (function payload) payload)) 12
     ∷ check (listed (function payload) (2 ∷ 3 ∷ 6 ∷ []) && not (every isPgn (entries payload))) 22
     ∷ check (hasWrongMode (function payload) payload) 13
@@ -132,7 +143,7 @@ Unchanged r words after = (r ≡ 0 → ⊥) → after ≡ words
 -- refusal changes nothing is not about it": 2 changes not a word, 27 leaves a fresh unit of four ports
 pub record ByPowerOn (words after : List ℕ) (name preferred r : ℕ) : Type 0 where
   pub kept : r ≡ 2 → after ≡ words
-  pub four : r ≡ 27 → (length after ≡ 1221) × (portsOf after ≡ 4) × (modelOf 4 after ≡ fresh 4 name preferred)
+  pub four : r ≡ 27 → (length after ≡ 1234) × (portsOf after ≡ 4) × (modelOf 4 after ≡ fresh 4 name preferred)
 
 -- "and writes the acknowledgment or nothing": eight bytes for the numbers that write one, nothing for the others, and the answer says which
 pub record Writes (lent back payload : List ℕ) (requester : ℕ) (r : MessageAnswer) : Type 0 where

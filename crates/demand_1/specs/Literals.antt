@@ -48,9 +48,9 @@ pub record Literals : Type 0 where
   -- "a list of at most 32 PGNs", "one queue of at most 32 frames"; the published length of the record, with four ports and with 2 to 8
   pub list : listSize ≡ 32
   pub queue : size ≡ 32
-  pub record-words : (lent : ℕ) → notLong 4 lent ≡ not (eqb lent 1221)
+  pub record-words : (lent : ℕ) → notLong 4 lent ≡ not (eqb lent 1234)
   pub lengths : recordLength 2 ∷ recordLength 3 ∷ recordLength 4 ∷ recordLength 5 ∷ recordLength 6 ∷ recordLength 7 ∷ recordLength 8 ∷ []
-      ≡ 731 ∷ 942 ∷ 1221 ∷ 1568 ∷ 1983 ∷ 2466 ∷ 3017 ∷ []
+      ≡ 734 ∷ 949 ∷ 1234 ∷ 1589 ∷ 2014 ∷ 2509 ∷ 3074 ∷ []
   -- "Bits 28 to 26 are the priority, 25 the extended data page, 24 the data page, 23 to 16 PF, 15 to 8 PS, 7 to 0 the source address"
   pub priority : (id : ℕ) → priorityOf id ≡ id / 2 ^ 26 % 8
   pub extended : (id : ℕ) → extendedDataPageOf id ≡ id / 2 ^ 25 % 2
@@ -70,7 +70,7 @@ pub record Literals : Type 0 where
       ≡ eqb (id % 256) 255 || (eqb (id % 256) 254 && not (eqb (pgnOf id) 59904 || (eqb (pgnOf id) 60928 && eqb (id / 2 ^ 8 % 256) 255)))
   -- "payload not 8 to 1,785 bytes", "function not listed", "Create mode not 0 or 1"
   pub long : longest ≡ 1785
-  pub known : (function : ℕ) → isKnown function ≡ listed function (0 ∷ 2 ∷ 3 ∷ 4 ∷ 6 ∷ 64 ∷ [])
+  pub known : (function : ℕ) → isKnown function ≡ listed function (0 ∷ 2 ∷ 3 ∷ 4 ∷ 6 ∷ 64 ∷ 128 ∷ 130 ∷ 131 ∷ 133 ∷ [])
   pub mode : (function : ℕ) (payload : List ℕ) → hasWrongMode function payload ≡ eqb function 6 && ltb 1 (getD payload 2 0)
   pub function : (payload : List ℕ) → functionOf payload ≡ getD payload 0 0
   pub pair : (payload : List ℕ) → pairOf payload ≡ getD payload 1 0
@@ -84,8 +84,8 @@ pub record Literals : Type 0 where
   pub longer : (function pair : ℕ) (bytes : List ℕ) → eqb function 6 ≡ false → 6 < length bytes → entries (function ∷ pair ∷ bytes) ≡ entriesOf bytes
   pub longer-create : (pair mode : ℕ) (bytes : List ℕ) → 5 < length bytes → entries (6 ∷ pair ∷ mode ∷ bytes) ≡ entriesOf bytes
   pub next-entry : (a b c : ℕ) (bytes : List ℕ) → entriesOf (a ∷ b ∷ c ∷ bytes) ≡ threeBytes a b c ∷ entriesOf bytes
-  -- "9 to 17 write eight bytes, the acknowledgment with first byte 1 (2 for number 11)", 22 too; "0, the function, FF, FF, the requester's address, 00, ED, 00"
-  pub told : (n : ℕ) → acknowledges n ≡ (leb 9 n && leb n 17) || eqb n 22
+  -- "9 to 17 write eight bytes, the acknowledgment with first byte 1 (2 for number 11)", 22 and 23 too; "0, the function, FF, FF, the requester's address, 00, ED, 00"
+  pub told : (n : ℕ) → acknowledges n ≡ (leb 9 n && leb n 17) || (eqb n 22 || eqb n 23)
   pub control : (n : ℕ) → controlOf n ≡ cond (eqb n 0) 0 (cond (eqb n 11) 2 1)
   pub acknowledged : (control function requester : ℕ)
       → acknowledgment control function requester ≡ control ∷ function ∷ 0xFF ∷ 0xFF ∷ requester ∷ 0x00 ∷ 0xED ∷ 0x00 ∷ []

@@ -1,17 +1,16 @@
 -- What a message does to a pair: as it was, where the payload does not name it; changed, where it does and the command may be done. By the kind of the
 -- command. Assumes nothing.
 use mathlib.Core.Path.{_≡_, refl, sym, _∙_}
-use mathlib.Core.Bool.{Bool, true, false, cond, not, _&&_, _||_, true≢false}
+use mathlib.Core.Bool.{Bool, true, false, cond, not, _&&_, _||_}
 use mathlib.Core.List.{List}
 use Prim.Native.Nat.{ℕ, _-_, _≤_}
 use borrow.Author.Tests.{eqb-true, eq-eqb}
 use lib.ListN.{length, getD}
 use lib.Dec.{eqb}
 use Rattle.filter.specs.Filter.{Filter, clear}
-use Rattle.entries.specs.Entries.{listed, entriesOf}
+use Rattle.entries.specs.Entries.{listed}
 use Rattle.network_message.specs.declared.Command.{Command}
-use Rattle.network_message.specs.declared.Command.the-variants.{Refused, Request, Add, Delete, Clear, Create, AddressList}
-use Rattle.network_message.specs.Decoding.{functionOf, pairOf, fromOf, toOf, between, decoded}
+use Rattle.network_message.specs.Decoding.{functionOf, pairOf, fromOf, toOf, decoded}
 use Rattle.network_message.specs.Commands.{reaches, Ports, Good}
 use Rattle.network_message.proofs.Passing.{answered-by, by-function}
 use Rattle.checks.specs.Ports.{isPort}
@@ -27,65 +26,61 @@ use Rattle.refusals.specs.Refusals.{messageRefusal}
 use Rattle.bridge.specs.Calls.{messaged}
 use Rattle.refusals.proofs.Checks.{message-goes}
 use Rattle.list_commands.proofs.Ranks.{names-is, target, target-pair, target-rank, target-at}
-use Rattle.demand_2.specs.Demand2.{namesPair, Outside}
-use Rattle.demand_2.proofs.Pairs.{changed-pair}
+use Rattle.demand_2.specs.Demand2.{namesPair, Unnamed}
+use Rattle.demand_2.proofs.Pairs.{pair-is, changed-pair}
 
--- ---- what a decoded command changes is what the payload's bytes name
--- whether a command may change the pair from a to b
-abbrev changes : ℕ → Command → ℕ → ℕ → Bool
-changes ports (Refused number entry) a b = false
-changes ports (Request from to) a b = false
-changes ports (Add from to start end) a b = eqb a from && reaches ports from to b
-changes ports (Delete from to start end) a b = eqb a from && reaches ports from to b
-changes ports (Clear from to) a b = eqb a from && reaches ports from to b
-changes ports (Create from to passing start end) a b = eqb a from && reaches ports from to b
-changes ports (AddressList port) a b = false
-
-not-reached : (ports a b from to : ℕ) → (eqb a from && (eqb to 15 || eqb b to)) ≡ false → (eqb a from && reaches ports from to b) ≡ false
+-- ---- what is reached is what the payload's bytes name
+reached-named : (ports a b from to : ℕ) → (eqb a from && reaches ports from to b) ≡ true → (eqb a from && (eqb to 15 || eqb b to)) ≡ true
 unfolding reaches
-not-reached ports a b from to = go (eqb a from) (eqb to 15)
+reached-named ports a b from to = go (eqb a from) (eqb to 15)
   where
-    go : (x y : Bool) → (x && (y || eqb b to)) ≡ false → (x && cond y (isPort ports b && not (eqb b from)) (eqb b to)) ≡ false
-    go false y h = refl
-    go true true h = absurd (true≢false h)
+    go : (x y : Bool) → (x && cond y (isPort ports b && not (eqb b from)) (eqb b to)) ≡ true → (x && (y || eqb b to)) ≡ true
+    go false y h = h
+    go true true h = refl
     go true false h = h
 
-unnamed : (ports a b port : ℕ) (payload : List ℕ) → namesPair payload a b ≡ false → changes ports (decoded ports port payload) a b ≡ false
-unfolding decoded listed
-unnamed ports a b port payload h =
-    answered-by ports port (functionOf payload) (fromOf (pairOf payload)) (toOf (pairOf payload)) payload (λ c. changes ports c a b ≡ false) (λ n _ _. refl)
-    (λ P. by-function (λ c. changes ports c a b ≡ false) (functionOf payload) (fromOf (pairOf payload)) (toOf (pairOf payload)) payload (P .known)
-    (λ e. refl)
-    (λ e. not-reached ports a b (fromOf (pairOf payload)) (toOf (pairOf payload)) (rw e at h))
-    (λ e. not-reached ports a b (fromOf (pairOf payload)) (toOf (pairOf payload)) (rw e at h))
-    (λ e. not-reached ports a b (fromOf (pairOf payload)) (toOf (pairOf payload)) (rw e at h))
-    (λ _ e. not-reached ports a b (fromOf (pairOf payload)) (toOf (pairOf payload)) (rw e at h))
-    (λ e. refl))
+not-reached : (ports a b from to : ℕ) → (eqb a from && (eqb to 15 || eqb b to)) ≡ false → (eqb a from && reaches ports from to b) ≡ false
+not-reached ports a b from to h = go (eqb a from && reaches ports from to b) refl
+  where
+    go : (t : Bool) → (eqb a from && reaches ports from to b) ≡ t → t ≡ false
+    go true e = sym (reached-named ports a b from to e) ∙ h
+    go false e = refl
 
--- and a word outside the blocks of those pairs is one that the command leaves as it was
-module _ (ports : ℕ) (payload : List ℕ) (n : ℕ) where
-  beside : (from to : ℕ) → Ports ports from to → ((a b : ℕ) → IsPair ports a b → (eqb a from && reaches ports from to b) ≡ true → Outside ports a b n) → Beside ports from to n
-  beside from to ps H k l e =
+-- and a word that is not named is one that the command leaves as it was
+module _ (ports : ℕ) (payload : List ℕ) (n : ℕ) (H : Unnamed ports payload n) where
+  abbrev from : ℕ
+  from = fromOf (pairOf payload)
+
+  abbrev to : ℕ
+  to = toOf (pairOf payload)
+
+  beside : Ports ports from to → ((b : ℕ) → (eqb from from && (eqb to 15 || eqb b to)) ≡ true → namesPair payload from b ≡ true) → Beside ports from to n
+  beside ps is-named k l e =
       let b = target ports from k (ps .least) (ps .most) l in
       let P = target-pair ports from k (ps .least) (ps .most) l in
       let reached : reaches ports from to b ≡ true = sym (names-is ports from b P to) ∙ rw (target-rank ports from k (ps .least) (ps .most) l) e in
-      rw (target-at ports from k (ps .least) (ps .most) l) at (H from b P (rw (eq-eqb from from refl) reached))
+      rw (target-at ports from k (ps .least) (ps .most) l)
+      at (H .block from b P (is-named b (reached-named ports from b from to (rw (eq-eqb from from refl) reached))))
 
-  untouched-by : (c : Command) → Good ports payload c → ((a b : ℕ) → IsPair ports a b → changes ports c a b ≡ true → Outside ports a b n) → Untouched ports c n
-  untouched-by (Refused number entry) g H = tt
-  untouched-by (Request from to) g H = tt
-  untouched-by (Add from to start end) g H = beside from to (g .0) H
-  untouched-by (Delete from to start end) g H = beside from to (g .0) H
-  untouched-by (Clear from to) g H = beside from to g H
-  untouched-by (Create from to passing start end) g H = beside from to (g .0) H
-  untouched-by (AddressList port) g H = tt
-
-  pub untouched : (port : ℕ) → 8 ≤ length payload → ((a b : ℕ) → IsPair ports a b → namesPair payload a b ≡ true → Outside ports a b n) → Untouched ports (decoded ports port payload) n
-  untouched port long H = untouched-by (decoded ports port payload) (decoded-good ports port payload long) (λ a b P e. H a b P (go a b e (namesPair payload a b) refl))
+  pub untouched : (port : ℕ) → ports ≤ 8 → 8 ≤ length payload → Untouched ports (decoded ports port payload) n
+  unfolding decoded listed pairCount
+  untouched port few long =
+      answered-by ports port (functionOf payload) from to payload (λ c. Good ports payload c → Untouched ports c n) (λ _ _ _ _. tt)
+      (λ P. by-function (λ c. Good ports payload c → Untouched ports c n) (functionOf payload) from to payload (P .known)
+      (λ e g. tt)
+      (λ e g. beside (g .0) (λ b h. rw e h))
+      (λ e g. beside (g .0) (λ b h. rw e h))
+      (λ e g. beside g (λ b h. rw e h))
+      (λ _ e g. beside (g .0) (λ b h. rw e h))
+      (λ e g. tt)
+      (λ e g. tt)
+      (λ e g. H .general (rw e))
+      (λ e g. tt)
+      (λ e g. H .counter from to (pair-is few (g .0) (g .1)) (rw e itself)))
+      (decoded-good ports port payload long)
     where
-      go : (a b : ℕ) → changes ports (decoded ports port payload) a b ≡ true → (t : Bool) → namesPair payload a b ≡ t → namesPair payload a b ≡ true
-      go a b e true h = h
-      go a b e false h = absurd (true≢false (sym e ∙ unnamed ports a b port payload h))
+      itself : (eqb from from && eqb to to) ≡ true
+      itself = rw (eq-eqb from from refl, eq-eqb to to refl)
 
 -- a command on the pairs
 module _ (ports : ℕ) (change : Change) (xs : List ℕ) (from to : ℕ) (pairs : List Filter) (long : length pairs ≡ pairCount ports) (low : 1 ≤ from) (high : from ≤ ports) (a b : ℕ) (P : IsPair ports a b) where
@@ -112,15 +107,31 @@ module _ (ports : ℕ) (rest : Rest) (long : length (rest .pairs) ≡ pairCount 
   changed-other : (change : Change) (xs : List ℕ) (from to : ℕ) → Ports ports from to → (eqb a from && reaches ports from to b) ≡ false → here (commanded ports change xs from to (rest .pairs)) ≡ here (rest .pairs)
   changed-other change xs from to ps e = commanded-other ports change xs from to (rest .pairs) long (ps .least) (ps .most) a b P e
 
-  performed-other : (requester : ℕ) (payload : List ℕ) (c : Command) → Good ports payload c → changes ports c a b ≡ false → here (performedBy ports rest requester payload c .pairs) ≡ here (rest .pairs)
-  unfolding performedBy
-  performed-other requester payload (Refused number entry) g e = refl
-  performed-other requester payload (Request from to) g e = refl
-  performed-other requester payload (Add from to start end) g e = changed-other Adds (entriesOf (between start end payload)) from to (g .0) e
-  performed-other requester payload (Delete from to start end) g e = changed-other Deletes (entriesOf (between start end payload)) from to (g .0) e
-  performed-other requester payload (Clear from to) g e = changed-other Clears (entriesOf (between 2 2 payload)) from to g e
-  performed-other requester payload (Create from to passing start end) g e = changed-other (Creates passing) (entriesOf (between start end payload)) from to (g .0) e
-  performed-other requester payload (AddressList port) g e = refl
+  performed-other : (port requester : ℕ) (payload : List ℕ) → 8 ≤ length payload → namesPair payload a b ≡ false → here (performedBy ports rest requester payload (decoded ports port payload) .pairs) ≡ here (rest .pairs)
+  unfolding performedBy decoded listed
+  performed-other port requester payload least h =
+      answered-by ports port (functionOf payload) from to payload Still (λ _ _ _ _. refl)
+      (λ P. by-function Still (functionOf payload) from to payload (P .known)
+      (λ e g. refl)
+      (λ e g. changed-other Adds _ from to (g .0) (not-reached ports a b from to (rw e at h)))
+      (λ e g. changed-other Deletes _ from to (g .0) (not-reached ports a b from to (rw e at h)))
+      (λ e g. changed-other Clears _ from to g (not-reached ports a b from to (rw e at h)))
+      (λ passing e g. changed-other (Creates passing) _ from to (g .0) (not-reached ports a b from to (rw e at h)))
+      (λ e g. refl)
+      (λ e g. refl)
+      (λ e g. refl)
+      (λ e g. refl)
+      (λ e g. refl))
+      (decoded-good ports port payload least)
+    where
+      from : ℕ
+      from = fromOf (pairOf payload)
+
+      to : ℕ
+      to = toOf (pairOf payload)
+
+      Still : Command → Type 0
+      Still c = Good ports payload c → here (performedBy ports rest requester payload c .pairs) ≡ here (rest .pairs)
 
   pub messaged-other : (lent lentReply port requester : ℕ) (payload : List ℕ) → namesPair payload a b ≡ false → here (messaged ports lent lentReply rest port requester payload .pairs) ≡ here (rest .pairs)
   unfolding messaged
@@ -132,7 +143,5 @@ module _ (ports : ℕ) (rest : Rest) (long : length (rest .pairs) ≡ pairCount 
       go : (t : Bool) → eqb n 0 ≡ t → here (messaged ports lent lentReply rest port requester payload .pairs) ≡ here (rest .pairs)
       go true z =
           rw z
-          (performed-other requester payload (decoded ports port payload)
-          (decoded-good ports port payload (message-goes ports lent lentReply rest port requester (length payload) (eqb-true n 0 z) .2))
-          (unnamed ports a b port payload e))
+          (performed-other port requester payload (message-goes ports lent lentReply rest port requester (length payload) (eqb-true n 0 z) .2) e)
       go false z = rw z

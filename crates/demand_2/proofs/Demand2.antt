@@ -36,11 +36,12 @@ use Rattle.record.proofs.Regions.{queues-long}
 use Rattle.list_commands.proofs.PairLoop.{pairs-long}
 use Rattle.bridge.proofs.Laws.{not-offered-back, not-sent-back, not-accepted-back, lost-at}
 use Rattle.list_commands.specs.Commands.{IsPair}
-use Rattle.demand_2.specs.Demand2.{unitIn, restOf, pairOn, NotBack, namesPair, Outside, OnlyNamed, SameTo, listOf, MayCreate, Demand2}
+use Rattle.demand_2.specs.Demand2.{unitIn, restOf, pairOn, counterOn, generalCounter, NotBack, Unnamed, OnlyNamed, SameTo, listOf, MayCreate, Demand2}
 use Rattle.made.proofs.Made.{framing, messaging}
 use Rattle.demand_2.proofs.Permanent.{crossing}
 use Rattle.demand_2.proofs.Reasons.{reasons}
 use Rattle.demand_2.proofs.Pairs.{unit-in, pair-in}
+use Rattle.demand_2.proofs.Counters.{counter-unnamed, general-unnamed}
 use Rattle.demand_2.proofs.Commands.{untouched, messaged-other}
 use Rattle.demand_2.proofs.Privacy.{messaged-told}
 use Rattle.demand_2.proofs.RoundTrip.{request-reported, tool-port, sent-back}
@@ -91,7 +92,7 @@ module _ {words payload lent after back : List ℕ} {port requester : ℕ} {r : 
   outcome = messaged (portsOf words) (length words) (length lent) (restOf words) port requester payload
 
   -- a message that 1 to 8 refuse changes no word at all
-  message-words : (n : ℕ) → ((a b : ℕ) → IsPair (portsOf words) a b → namesPair payload a b ≡ true → Outside (portsOf words) a b n) → getD after n 0 ≡ getD words n 0
+  message-words : (n : ℕ) → Unnamed (portsOf words) payload n → getD after n 0 ≡ getD words n 0
   unfolding refusal messaged
   message-words n H = go (eqb number 0) refl
     where
@@ -102,7 +103,7 @@ module _ {words payload lent after back : List ℕ} {port requester : ℕ} {r : 
       silent z = rw z
 
       go : (t : Bool) → eqb number 0 ≡ t → getD after n 0 ≡ getD words n 0
-      go true z = M .others n (untouched (portsOf words) payload n port (message-goes (portsOf words) (length words) (length lent) (restOf words) port requester (length payload) (eqb-true number 0 z) .2) H)
+      go true z = M .others n (untouched (portsOf words) payload n H port (ports-bounds words .1) (message-goes (portsOf words) (length words) (length lent) (restOf words) port requester (length payload) (eqb-true number 0 z) .2))
       go false z = ap (λ (w : List ℕ). getD w n 0) (M .call .refused (λ e. eqb-false number 0 z (sym (silent z) ∙ e)))
 
   message-named : OnlyNamed words port payload after
@@ -112,6 +113,8 @@ module _ {words payload lent after back : List ℕ} {port requester : ℕ} {r : 
       still : modelOf (portsOf words) after ≡ unitIn words → OnlyNamed words port payload after
       still s = record {
         pairs = λ a b P e. pair-in after (M .call .count) a b ∙ ap (λ (w : Model). getD (w .rest .pairs) (pairAt (portsOf words) (a - 1) (b - 1)) clear) s;
+        losses = λ a b P e. message-words (counterOn (portsOf words) a b) (counter-unnamed (portsOf words) payload a b P e);
+        general = λ e. message-words (generalCounter (portsOf words)) (general-unnamed (portsOf words) payload e);
         others = message-words;
         long = M .call .long;
         own = ap (λ (w : Model). w .rest .own) (unit-in after (M .call .count) ∙ s);
@@ -125,6 +128,8 @@ module _ {words payload lent after back : List ℕ} {port requester : ℕ} {r : 
             pair-in after (M .call .count) a b
             ∙ ap (λ (w : Model). getD (w .rest .pairs) (pairAt (portsOf words) (a - 1) (b - 1)) clear) s
             ∙ messaged-other (portsOf words) (restOf words) (pairs-long (portsOf words) words) a b P (length words) (length lent) port requester payload e;
+        losses = λ a b P e. message-words (counterOn (portsOf words) a b) (counter-unnamed (portsOf words) payload a b P e);
+        general = λ e. message-words (generalCounter (portsOf words)) (general-unnamed (portsOf words) payload e);
         others = message-words;
         long = M .call .long;
         own = ap (λ (w : Model). w .rest .own) (unit-in after (M .call .count) ∙ s);
@@ -143,7 +148,7 @@ module _ {words other payload lent after back after₂ back₂ : List ℕ} {p re
   same-told : (r ≡ r₂) × (back ≡ back₂)
   same-told =
       let t = messaged-told p words other same S requester payload least most (length words) (length lent) in
-      (M .answer ∙ rw (t .0, t .1, t .2 (unitIn words .seen), t .3, long) (sym (N .answer)), M .written ∙ rw (t .2 (unitIn words .seen), long) (sym (N .written)))
+      (M .answer ∙ rw (t .0, t .1, t .2, t .3, long) (sym (N .answer)), M .written ∙ rw (t .2, long) (sym (N .written)))
 
 -- ---- the round trip
 module _ {words payload lent after back other lent₂ after₂ back₂ : List ℕ} {port requester port₂ requester₂ a b : ℕ} {r r₂ : MessageAnswer}

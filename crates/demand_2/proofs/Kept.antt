@@ -19,7 +19,7 @@ use Rattle.filter_commands.proofs.Laws.{clear-sound, added-sound, deleted-sound
 use Rattle.queue.specs.declared.Frame.{Frame}
 use Rattle.addresses.specs.declared.Place.the-variants.{Free}
 use Rattle.network_message.specs.declared.Command.{Command}
-use Rattle.network_message.specs.declared.Command.the-variants.{Refused, Request, Add, Delete, Clear, Create, AddressList}
+use Rattle.network_message.specs.declared.Command.the-variants.{Refused, Request, Add, Delete, Clear, Create, AddressList, Parameter, Reset, PairParameter, PairReset}
 use Rattle.network_message.specs.Decoding.{between, decoded}
 use Rattle.network_message.specs.Commands.{Ports, Holding, Good}
 use Rattle.network_message.proofs.Decoding.{decoded-good}
@@ -139,6 +139,10 @@ module _ (ports : ℕ) (rest : Rest) (all : All ports (rest .pairs)) where
   performed-all requester payload (Clear from to) g = commanded-all ports (rest .pairs) all Clears (entriesOf (between 2 2 payload)) refl from to g
   performed-all requester payload (Create from to passing start end) g = commanded-all ports (rest .pairs) all (Creates passing) (entriesOf (between start end payload)) (entries-pgns (g .1)) from to (g .0)
   performed-all requester payload (AddressList port) g = all
+  performed-all requester payload (Parameter parameter) g = all
+  performed-all requester payload Reset g = all
+  performed-all requester payload (PairParameter from to parameter) g = all
+  performed-all requester payload (PairReset from to) g = all
 
   messaged-all : (lent lentReply port requester : ℕ) (payload : List ℕ) → All ports (messaged ports lent lentReply rest port requester payload .pairs)
   unfolding messaged

@@ -1,6 +1,7 @@
 pub mod Permanent
 pub mod Reasons
 pub mod Pairs
+pub mod Counters
 pub mod Commands
 pub mod Privacy
 pub mod RoundTrip

@@ -44,7 +44,7 @@ pair-is {ports} {from} {to} few ps one = record {
 }
 
 -- places among the pairs that are equal are from the same port
-row-is : (ports : ℕ) {a b j k : ℕ} → j < ports - 1 → k < ports - 1 → 1 ≤ a → 1 ≤ b → firstPair ports a + j ≡ firstPair ports b + k → a ≡ b
+pub row-is : (ports : ℕ) {a b j k : ℕ} → j < ports - 1 → k < ports - 1 → 1 ≤ a → 1 ≤ b → firstPair ports a + j ≡ firstPair ports b + k → a ≡ b
 row-is ports {a} {b} {j} {k} l m one other e =
     elim (decLt a b) [
       | yes h ↦ absurd (omega (arith, later a b one h))

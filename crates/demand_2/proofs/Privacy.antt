@@ -17,7 +17,7 @@ use Rattle.addresses.specs.declared.Place.the-variants.{Free, Held}
 use Rattle.addresses.specs.Table.{heldOn}
 use Rattle.addresses.proofs.Listed.{list-same}
 use Rattle.network_message.specs.declared.Command.{Command}
-use Rattle.network_message.specs.declared.Command.the-variants.{Refused, Request, Add, Delete, Clear, Create, AddressList}
+use Rattle.network_message.specs.declared.Command.the-variants.{Refused, Request, Add, Delete, Clear, Create, AddressList, Parameter, Reset, PairParameter, PairReset}
 use Rattle.network_message.specs.Decoding.{allPorts, between, decoded}
 use Rattle.network_message.specs.Commands.{Named, named, reaches, Own, Ports, Good}
 use Rattle.replies.specs.Replies.{addressReply}
@@ -28,6 +28,7 @@ use Rattle.unit.specs.Count.{portsOf}
 use Rattle.unit.specs.Model.{Model, Rest, Seen, pairAt, modelOf}
 use Rattle.filter_commands.specs.declared.pairs.Question.the-variants.{Lacks}
 use Rattle.filter_commands.specs.Pairs.{holdsOf}
+use Rattle.parameters.specs.Parameters.{pairParameter}
 use Rattle.list_commands.specs.Commands.{IsPair, firstPair, names, anyBelow, anyNamed, firstBelow, holdsAt, absentIn, absentAt, listRefusal, listChecks}
 use Rattle.list_commands.proofs.Ranks.{names-is, target, target-pair, target-rank, target-at}
 use Rattle.list_commands.proofs.Searching.{first-found, refused-17}
@@ -36,8 +37,9 @@ use Rattle.bridge.specs.Calls.{silentReply, messaged}
 use Rattle.refusals.specs.Refusals.{messageRefusal}
 use Rattle.refusals.proofs.Checks.{message-goes}
 use Rattle.unit.proofs.Count.{ports-bounds}
-use Rattle.demand_2.specs.Demand2.{restOf, SameTo}
+use Rattle.demand_2.specs.Demand2.{unitIn, restOf, SameTo}
 use Rattle.demand_2.proofs.Pairs.{unit-in, pair-in, pair-is}
+use Rattle.demand_2.proofs.Counters.{losses-in}
 
 -- ---- an address that is held on p in the one is held on p in the other
 held-is : (p : ℕ) (u : Place) → heldOn p u ≡ true → (name : ℕ) × (u ≡ Held p name)
@@ -57,10 +59,6 @@ held-same p u v h = go (heldOn p u) (heldOn p v) refl refl
     go false false e f = refl
     go true false e f = let k = held-is p u e in absurd (true≢false (sym (is-held p (k .0) v (h (k .0) .0 (k .1))) ∙ f))
     go false true e f = let k = held-is p v f in absurd (true≢false (sym (is-held p (k .0) u (h (k .0) .1 (k .1))) ∙ e))
-
--- what is told: the number, the PGN, the bytes and which entry was wrong
-abbrev pub Told : Replied → Replied → Type 0
-Told r s = (r .number ≡ s .number) × (r .pgn ≡ s .pgn) × ((seen : Seen) → r .written seen ≡ s .written seen) × (r .told ≡ s .told)
 
 -- ---- a question to the pairs from a port
 any-same : (s t : ℕ → Bool) (n : ℕ) → ((k : ℕ) → k < n → s k ≡ t k) → anyBelow s n ≡ anyBelow t n
@@ -130,8 +128,21 @@ module _ (p : ℕ) (words other : List ℕ) (same : portsOf words ≡ portsOf ot
   abbrev y : Rest
   y = modelOf (portsOf words) other .rest
 
+  abbrev seen : Seen
+  seen = unitIn words .seen
+
+  abbrev seen₂ : Seen
+  seen₂ = modelOf (portsOf words) other .seen
+
+  -- what is told: the number, the PGN, the bytes and which entry was wrong
+  abbrev pub Told : Replied → Replied → Type 0
+  Told r s = (r .number ≡ s .number) × (r .pgn ≡ s .pgn) × (r .written seen ≡ s .written seen₂) × (r .told ≡ s .told)
+
   pair-same : (a b : ℕ) → IsPair ports a b → (a ≡ p) ⊎ (b ≡ p) → getD (x .pairs) (pairAt ports (a - 1) (b - 1)) clear ≡ getD (y .pairs) (pairAt ports (a - 1) (b - 1)) clear
-  pair-same a b P h = S .pairs a b P h ∙ pair-in other (sym same) a b
+  pair-same a b P h = S .pairs a b P h .0 ∙ pair-in other (sym same) a b
+
+  losses-same : (a b : ℕ) → IsPair ports a b → (a ≡ p) ⊎ (b ≡ p) → getD (seen .losses) (pairAt ports (a - 1) (b - 1)) 0 ≡ getD (seen₂ .losses) (pairAt ports (a - 1) (b - 1)) 0
+  losses-same a b P h = sym (losses-in words refl a b P) ∙ S .pairs a b P h .1 ∙ losses-in other (sym same) a b P
 
   claim-same : x .own .claim ≡ y .own .claim
   claim-same = S .claim ∙ ap (λ (m : Model). m .rest .own .claim) (unit-in other (sym same))
@@ -149,29 +160,37 @@ module _ (p : ℕ) (words other : List ℕ) (same : portsOf words ≡ portsOf ot
       let r = target-rank ports from k (ps .least) (ps .most) l in
       rw (target-at ports from k (ps .least) (ps .most) l) at (pair-same from b P (own b (sym (names-is ports from b P to) ∙ rw r e)))
 
-  -- the pair of a Request
-  own-pair : (from to : ℕ) → Ports ports from to → to ≤ ports → Own ports p (Named.pairs from to) → getD (x .pairs) (pairAt ports (from - 1) (to - 1)) clear ≡ getD (y .pairs) (pairAt ports (from - 1) (to - 1)) clear
+  -- one pair that is named: its list and its counter
+  own-pair : (from to : ℕ) → Ports ports from to → to ≤ ports → Own ports p (Named.pairs from to)
+      → (getD (x .pairs) (pairAt ports (from - 1) (to - 1)) clear ≡ getD (y .pairs) (pairAt ports (from - 1) (to - 1)) clear)
+      × (getD (seen .losses) (pairAt ports (from - 1) (to - 1)) 0 ≡ getD (seen₂ .losses) (pairAt ports (from - 1) (to - 1)) 0)
   unfolding reaches
   own-pair from to ps h own =
       let few = ports-bounds words .1 in
-      pair-same from to (pair-is few ps h) (own to (rw (ne-eqb to allPorts (λ e. omega arith), eq-eqb to to refl)))
+      let P = pair-is few ps h in
+      let mine = own to (rw (ne-eqb to allPorts (λ e. omega arith), eq-eqb to to refl)) in
+      (pair-same from to P mine, losses-same from to P mine)
 
   -- ---- what is told of each command
   module _ (requester : ℕ) (payload : List ℕ) where
     changed-told : (change : Change) (from to start end : ℕ) → Ports ports from to → Own ports p (Named.pairs from to) → Told (changedBy ports x requester payload change from to start end) (changedBy ports y requester payload change from to start end)
     changed-told change from to start end ps own =
         let n = refused-same ports (x .pairs) (y .pairs) from to (own-agree from to ps own) change (entriesOf (between start end payload)) in
-        (n, refl, (λ seen. rw n), told-same ports (x .pairs) (y .pairs) from to (own-agree from to ps own) change (entriesOf (between start end payload)))
+        (n, refl, rw n, told-same ports (x .pairs) (y .pairs) from to (own-agree from to ps own) change (entriesOf (between start end payload)))
 
-    performed-told : (c : Command) → Good ports payload c → Own ports p (named c) → Told (performedBy ports x requester payload c) (performedBy ports y requester payload c)
-    unfolding performedBy named addressReply
-    performed-told (Refused number entry) g own = (refl, refl, (λ seen. refl), refl)
-    performed-told (Request from to) g own = (refl, refl, (λ seen. rw (own-pair from to (g .0) (g .1) own)), refl)
-    performed-told (Add from to start end) g own = changed-told Adds from to start end (g .0) own
-    performed-told (Delete from to start end) g own = changed-told Deletes from to start end (g .0) own
-    performed-told (Clear from to) g own = changed-told Clears from to 2 2 g own
-    performed-told (Create from to passing start end) g own = changed-told (Creates passing) from to start end (g .0) own
-    performed-told (AddressList q) g own = (refl, refl, (λ seen. rw (own, address-same, list-same p (y .own .address) (x .table) (y .table) (λ a l. held-same p (getD (x .table) a Free) (getD (y .table) a Free) (λ name. place-same a name l)))), refl)
+    performed-told : 2 ≤ p → (c : Command) → Good ports payload c → Own ports p (named c) → Told (performedBy ports x requester payload c) (performedBy ports y requester payload c)
+    unfolding performedBy named addressReply pairParameter
+    performed-told least (Refused number entry) g own = (refl, refl, refl, refl)
+    performed-told least (Request from to) g own = (refl, refl, rw (own-pair from to (g .0) (g .1) own .0), refl)
+    performed-told least (Add from to start end) g own = changed-told Adds from to start end (g .0) own
+    performed-told least (Delete from to start end) g own = changed-told Deletes from to start end (g .0) own
+    performed-told least (Clear from to) g own = changed-told Clears from to 2 2 g own
+    performed-told least (Create from to passing start end) g own = changed-told (Creates passing) from to start end (g .0) own
+    performed-told least (AddressList q) g own = (refl, refl, rw (own, address-same, list-same p (y .own .address) (x .table) (y .table) (λ a l. held-same p (getD (x .table) a Free) (getD (y .table) a Free) (λ name. place-same a name l))), refl)
+    performed-told least (Parameter parameter) g own = absurd (omega (arith, least, own))
+    performed-told least Reset g own = (refl, refl, refl, refl)
+    performed-told least (PairParameter from to parameter) g own = let mine = own-pair from to (g .0) (g .1) own in (refl, refl, rw (mine .0, mine .1), refl)
+    performed-told least (PairReset from to) g own = (refl, refl, refl, refl)
 
     refusal-same : (lent lentReply : ℕ) → messageRefusal ports lent lentReply x p requester (length payload) ≡ messageRefusal ports lent lentReply y p requester (length payload)
     unfolding messageRefusal
@@ -187,7 +206,7 @@ module _ (p : ℕ) (words other : List ℕ) (same : portsOf words ≡ portsOf ot
 
         go : (t : Bool) → eqb n 0 ≡ t → Told (cond t (performedBy ports x requester payload (decoded ports p payload)) (silentReply n (x .pairs))) (cond t (performedBy ports y requester payload (decoded ports p payload)) (silentReply n (y .pairs)))
         go true z =
-            performed-told (decoded ports p payload)
+            performed-told least (decoded ports p payload)
             (decoded-good ports p payload (message-goes ports lent lentReply y p requester (length payload) (eqb-true n 0 z) .2))
             (decoded-own ports p payload least most (ports-bounds words .1))
-        go false z = (refl, refl, (λ seen. refl), refl)
+        go false z = (refl, refl, refl, refl)

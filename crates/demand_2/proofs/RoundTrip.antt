@@ -12,14 +12,14 @@ use lib.Dec.{eqb}
 use Rattle.identifier.specs.Identifier.{isPgn}
 use Rattle.filter.specs.Filter.{Filter, clear, reportedMode, isCleared}
 use Rattle.pgn_list.specs.PgnList.{listSize}
-use Rattle.entries.specs.Entries.{every}
+use Rattle.entries.specs.Entries.{every, listed}
 use Rattle.filter_commands.specs.Changes.{wouldPass, Sound}
 use Rattle.pgn_list.proofs.Lists.{add-different}
 use Rattle.entries.proofs.Reported.{pgns-small, reported-back}
 use Rattle.filter_commands.proofs.Laws.{restored}
 use Rattle.network_message.specs.declared.judging.Judged.{Judged}
 use Rattle.network_message.specs.declared.Command.the-variants.{Refused, Request}
-use Rattle.network_message.specs.Decoding.{functionOf, pairOf, fromOf, toOf, isPair, allPorts, mayName, judged, commandOf, answered, decoded, longest}
+use Rattle.network_message.specs.Decoding.{functionOf, pairOf, fromOf, toOf, isPair, allPorts, isGeneral, mayName, judged, commandOf, answered, decoded, longest}
 use Rattle.checks.specs.Ports.{isPort}
 use Rattle.checks.proofs.Ports.{port-bounds}
 use Rattle.network_message.specs.Commands.{reaches}
@@ -162,7 +162,7 @@ goes ports other lent lentReply port requester n l b p c q least most =
 
 -- a tool that may name the pair
 may-name : (ports port a b : ℕ) → (port ≡ 1) ⊎ ((a ≡ port) ⊎ (b ≡ port)) → mayName ports port 6 a b ≡ true
-unfolding mayName
+unfolding mayName isGeneral listed
 may-name ports port a b =
     ⊎-elim (λ e. rw (eq-eqb port 1 e)) (⊎-elim (λ e. rw (eq-eqb a port e) (last (eqb port 1) (eqb b port))) (λ e. rw (eq-eqb b port e) (or-true (eqb port 1))))
   where

@@ -1,11 +1,11 @@
 -- Demand 2, by the contracts of the functions alone. About any records: no frame goes back, claims and requests cross, what crosses is told with its reason, a
--- command changes the pairs that it names, a tool sees its own. About records that calls from power-on led to: a list that is reported and sent back is that
--- list. Proved in proofs/Demand2.antt. The quoted words are the customer's.
+-- command changes the pairs and the counter that it names, a tool sees its own. About records that calls from power-on led to: a list that is reported and
+-- sent back is that list. Proved in proofs/Demand2.antt. The quoted words are the customer's.
 use mathlib.Core.Path.{_≡_}
 use mathlib.Core.Logic.{_⊎_, _↔_}
 use mathlib.Core.Bool.{Bool, true, false, not, _&&_, _||_, cond}
 use mathlib.Core.List.{List, [], _∷_}
-use Prim.Native.Nat.{ℕ, _+_, _-_, _*_, _/_, _%_, _≤_, _<_}
+use Prim.Native.Nat.{ℕ, _+_, _-_, _*_, _/_, _%_, _≤_, _<_, min}
 use lib.ListN.{length, take, drop, getD}
 use lib.Dec.{eqb, ltb}
 use Rattle.identifier.specs.Identifier.{pgnOf}
@@ -21,7 +21,7 @@ use Rattle.message_answers.specs.declared.MessageAnswer.{MessageAnswer}
 use Rattle.unit.specs.declared.Claim.the-variants.{Claimed}
 use Rattle.unit.specs.Ports.{bitAt, digitAt}
 use Rattle.unit.specs.Count.{portsOf}
-use Rattle.unit.specs.Model.{Model, Rest, rowAt, pairAt, pairsFrom, modelOf}
+use Rattle.unit.specs.Model.{Model, Rest, rowAt, pairAt, pairsFrom, lossesFrom, modelOf}
 use Rattle.bridge.specs.Calls.{frameOf}
 use Rattle.unit.specs.Own.{framesSent}
 use Rattle.list_commands.specs.Commands.{IsPair}
@@ -39,6 +39,17 @@ restOf words = unitIn words .rest
 -- the filter of the pair from port a to port b
 abbrev pub pairOn : List ℕ → ℕ → ℕ → Filter
 pairOn words a b = getD (restOf words .pairs) (pairAt (portsOf words) (a - 1) (b - 1)) clear
+
+-- document 02, ticket 8: the word that counts the losses of the pair from port a to port b, and the one behind them all, which counts in general
+abbrev pub counterOn : ℕ → ℕ → ℕ → ℕ
+counterOn ports a b = lossesFrom ports + pairAt ports (a - 1) (b - 1)
+
+abbrev pub generalCounter : ℕ → ℕ
+generalCounter ports = lossesFrom ports + ports * (ports - 1)
+
+-- what a pair's counter tells, whatever its word holds: losses "stay at 64,255"
+abbrev pub lossesOn : List ℕ → ℕ → ℕ → ℕ
+lossesOn words a b = min (getD words (counterOn (portsOf words) a b) 0) 64255
 
 -- ---- "No frame is sent back to its arrival port."
 -- The row there is as it was, but for the unit's own frame, which asks no pair; and the arrival port is never named as accepted or lost.
@@ -87,15 +98,30 @@ abbrev pub namesPair : List ℕ → ℕ → ℕ → Bool
 namesPair payload a b =
     listed (getD payload 0 0) (2 ∷ 3 ∷ 4 ∷ 6 ∷ []) && (eqb a (getD payload 1 0 / 16) && (eqb (getD payload 1 0 % 16) 15 || eqb b (getD payload 1 0 % 16)))
 
+-- "A reset touches the named counter only": 133 names the pair's, 130 the general one. No other function changes a counter.
+abbrev pub resetsPair : List ℕ → ℕ → ℕ → Bool
+resetsPair payload a b = eqb (getD payload 0 0) 133 && (eqb a (getD payload 1 0 / 16) && eqb b (getD payload 1 0 % 16))
+
+abbrev pub resetsGeneral : List ℕ → Bool
+resetsGeneral payload = eqb (getD payload 0 0) 130
+
 -- word n of the record lies outside the block of the pair from a to b
 abbrev pub Outside : ℕ → ℕ → ℕ → ℕ → Type 0
 Outside ports a b n =
     (n < pairsFrom ports + filterLength * pairAt ports (a - 1) (b - 1)) ⊎ (pairsFrom ports + filterLength * pairAt ports (a - 1) (b - 1) + filterLength ≤ n)
 
+-- word n is in no block of a pair that a payload names, and is no counter that it resets
+pub record Unnamed (ports : ℕ) (payload : List ℕ) (n : ℕ) : Type 0 where
+  pub block : (a b : ℕ) → IsPair ports a b → namesPair payload a b ≡ true → Outside ports a b n
+  pub counter : (a b : ℕ) → IsPair ports a b → resetsPair payload a b ≡ true → n ≡ counterOn ports a b → ⊥
+  pub general : resetsGeneral payload ≡ true → n ≡ generalCounter ports → ⊥
+
 pub record OnlyNamed (words : List ℕ) (port : ℕ) (payload after : List ℕ) : Type 0 where
   pub pairs : (a b : ℕ) → IsPair (portsOf words) a b → namesPair payload a b ≡ false → pairOn after a b ≡ pairOn words a b
-  -- word for word: every word outside the blocks of the pairs that are named is as it was, those too that no rule reads
-  pub others : (n : ℕ) → ((a b : ℕ) → IsPair (portsOf words) a b → namesPair payload a b ≡ true → Outside (portsOf words) a b n) → getD after n 0 ≡ getD words n 0
+  pub losses : (a b : ℕ) → IsPair (portsOf words) a b → resetsPair payload a b ≡ false → getD after (counterOn (portsOf words) a b) 0 ≡ getD words (counterOn (portsOf words) a b) 0
+  pub general : resetsGeneral payload ≡ false → getD after (generalCounter (portsOf words)) 0 ≡ getD words (generalCounter (portsOf words)) 0
+  -- word for word: every word but the blocks of the pairs and the counter that are named is as it was, those too that no rule reads
+  pub others : (n : ℕ) → Unnamed (portsOf words) payload n → getD after n 0 ≡ getD words n 0
   pub long : length after ≡ length words
   -- nor does it change anything else
   pub own : restOf after .own ≡ restOf words .own
@@ -107,7 +133,8 @@ pub record OnlyNamed (words : List ℕ) (port : ℕ) (payload after : List ℕ) 
 pub record SameTo (p : ℕ) (x y : List ℕ) : Type 0 where
   pub claim : restOf x .own .claim ≡ restOf y .own .claim
   pub address : restOf x .own .address ≡ restOf y .own .address
-  pub pairs : (a b : ℕ) → IsPair (portsOf x) a b → (a ≡ p) ⊎ (b ≡ p) → pairOn x a b ≡ pairOn y a b
+  -- "Demand 2's privacy rule lets a tool's answers depend on its own pairs' counters too" (document 02, ticket 8), on no other: the general functions are 11 for it
+  pub pairs : (a b : ℕ) → IsPair (portsOf x) a b → (a ≡ p) ⊎ (b ≡ p) → (pairOn x a b ≡ pairOn y a b) × (lossesOn x a b ≡ lossesOn y a b)
   -- an address is held on p under a NAME in the one exactly if in the other
   pub table : (a name : ℕ) → a < 254 → (getD (restOf x .table) a Free ≡ Held p name) ↔ (getD (restOf y .table) a Free ≡ Held p name)
 

@@ -274,6 +274,42 @@ fn full_counts(record: &[u64]) {
     short_counts(record, b"counts of 5, 9 words", 5);
 }
 
+// Losses, parameter 9: of the pair from 2 to 1, and in general.
+fn losses(record: &mut [u64]) {
+    message(
+        record,
+        b"lost from 2 to 1",
+        1,
+        b"\x83\x21\x09\xFF\xFF\xFF\xFF\xFF",
+    );
+    message(
+        record,
+        b"lost in general",
+        1,
+        b"\x80\xFF\x09\xFF\xFF\xFF\xFF\xFF",
+    );
+}
+
+// Five were lost, and now the unit's claim at three ports, which no pair counts. A reset touches one counter; entries are none to reset.
+fn full_losses(record: &mut [u64]) {
+    start(record);
+    quiet(record);
+    losses(record);
+    message(
+        record,
+        b"reset from 2 to 1",
+        1,
+        b"\x85\x21\x09\xFF\xFF\xFF\xFF\xFF",
+    );
+    losses(record);
+    message(
+        record,
+        b"reset of entries",
+        1,
+        b"\x85\x21\x03\xFF\xFF\xFF\xFF\xFF",
+    );
+}
+
 // The preferred address is held under a lower NAME before Start.
 fn is_lost(record: &mut [u64]) {
     power_on(record, 0x90);
@@ -308,7 +344,7 @@ fn wrong_counts(record: &mut [u64]) {
 
 // A unit of eight ports: a frame from the last at the other seven, and a port that is not there.
 fn eight_ports() {
-    let mut space = [0u64; 3017];
+    let mut space = [0u64; 3074];
     let record: &mut [u64] = &mut space;
     power_on_ports(record, b"power-on, 8 ports", 8);
     unit(record);
@@ -380,6 +416,7 @@ fn main() {
     power_on(record, 0x90);
     full(record);
     full_counts(record);
+    full_losses(record);
     is_lost(record);
     is_taken_over(record);
     wrong_counts(record);

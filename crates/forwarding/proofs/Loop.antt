@@ -1,11 +1,13 @@
 -- The loops over the ports: where any such loop stands after n ports, and one more; then a frame by any question that is asked of a port, and the unit's own. Assumes nothing.
-use mathlib.Core.Path.{_≡_, refl, ap, _∙_}
-use mathlib.Core.Bool.{Bool, cond}
+use mathlib.Core.Path.{_≡_, refl, sym, ap, _∙_}
+use mathlib.Core.Bool.{Bool, true, false, true≢false, cond}
 use mathlib.Core.List.{List, [], _∷_}
-use Prim.Native.Nat.{ℕ, _+_, _*_, _^_, _≤_, _<_}
-use native.Mathlib.Nat.{add-zero, pow-succ', pow-le-pow-right}
+use Prim.Native.Nat.{ℕ, _+_, _*_, _/_, _%_, _^_, _≤_, _<_}
+use native.Mathlib.Nat.{add-zero, pow-suc, pow-succ', pow-le-pow-right, div-one, div-div-eq-div-mul}
 use native.Mathlib.Numerals.{add-one}
 use native.Mathlib.Omega.{arith}
+use borrow.Author.Tests.{eq-eqb, ne-eqb}
+use lib.Dec.{eqb}
 use lib.ListN.{length}
 use Rattle.filter.specs.declared.Asked.{Asked}
 use Rattle.filter.specs.Filter.{reasonNumber}
@@ -15,29 +17,29 @@ use Rattle.queue.specs.declared.Frame.{Frame}
 use Rattle.queue.specs.Queue.{Queued, sentAll, idle}
 use Rattle.unit.specs.declared.Sent.the-variants.{One}
 use Rattle.forwarding.specs.declared.Share.{Share}
-use Rattle.unit.specs.Ports.{each, mask, digits, total}
-use Rattle.unit.specs.Model.{Rest, modelOf, queueOn, rowAt, withQueue, withQueues, recordLength}
-use Rattle.forwarding.specs.Forwarding.{sentIf, accepts, loses, losesOwn}
-use Rattle.forwarding.specs.Steps.{changedTo, share, forwardedTo, sharesTo, Sending, Forwarding, announcedTo, unsentTo, OwnJoining, Announcing}
-use Rattle.unit.proofs.Ports.{each-later, each-step, mask-step, digits-step, digits-small, total-step, mask-small, choice-small, each-none, mask-none}
+use Rattle.unit.specs.Ports.{each, inTurn, mask, bitAt, digits, total}
+use Rattle.unit.specs.Model.{Rest, Model, modelOf, queueOn, rowAt, withQueue, withQueues, withLosses, recordLength}
+use Rattle.forwarding.specs.Forwarding.{silent, sentIf, accepts, loses, losesOwn, lostFrom, lostOwn}
+use Rattle.forwarding.specs.Steps.{changedTo, share, forwardedTo, sharesTo, Losing, LosingAll, Sending, Offering, Forwarding, announcedTo, unsentTo, OwnJoining, Announcing}
+use Rattle.unit.proofs.Ports.{each-later, each-step, turn-step, turn-same, turn-none, mask-bit, mask-step, digits-step, digits-small, total-step, mask-small, choice-small, each-none, mask-none}
 use Rattle.record.proofs.Regions.{queues-long}
 use Rattle.unit.specs.declared.Sent.{Sent}
 
 -- ---- any loop over the ports
--- where it stands: each of the first n queues is changed by itself, and the bit is the next port's
-pub record Along (ports : ℕ) (start : List ℕ) (change : ℕ → Queued → Queued) (words : List ℕ) (bit n : ℕ) : Type 0 where
+-- where it stands: each of the first n queues is changed by itself, what is lost there is counted, and the bit is the next port's
+pub record Along (ports : ℕ) (start : List ℕ) (change : ℕ → Queued → Queued) (lost : ℕ → Bool) (count : ℕ → List ℕ → List ℕ) (words : List ℕ) (bit n : ℕ) : Type 0 where
   pub few : ports ≤ 8
   pub whole : length words ≡ recordLength ports
   pub within : n ≤ ports
   pub weight : bit ≡ 2 ^ n
-  pub state : modelOf ports words ≡ changedTo n (modelOf ports start) change
+  pub state : modelOf ports words ≡ changedTo n (modelOf ports start) change lost count
 
-module _ {ports : ℕ} {start : List ℕ} {change : ℕ → Queued → Queued} where
-  along-start : ports ≤ 8 → length start ≡ recordLength ports → Along ports start change start 1 0
-  unfolding each
+module _ {ports : ℕ} {start : List ℕ} {change : ℕ → Queued → Queued} {lost : ℕ → Bool} {count : ℕ → List ℕ → List ℕ} where
+  along-start : ports ≤ 8 → length start ≡ recordLength ports → Along ports start change lost count start 1 0
+  unfolding each inTurn
   along-start few h = record { few = few; whole = h; within = omega arith; weight = refl; state = refl }
 
-  module _ {words : List ℕ} {bit n : ℕ} (A : Along ports start change words bit n) where
+  module _ {words : List ℕ} {bit n : ℕ} (A : Along ports start change lost count words bit n) where
     rest-still : modelOf ports words .rest ≡ modelOf ports start .rest
     rest-still = rw (A .state)
 
@@ -48,13 +50,17 @@ module _ {ports : ℕ} {start : List ℕ} {change : ℕ → Queued → Queued} w
     row-still : rowAt (modelOf ports words) n ≡ rowAt (modelOf ports start) n
     row-still = ap (λ (x : Queued). x .row) queue-still
 
-    along-more : {after : List ℕ} → n < ports → length after ≡ recordLength ports → modelOf ports after ≡ withQueue (modelOf ports words) n (change n (queueOn (modelOf ports words) n)) → Along ports start change after (2 * bit) (n + 1)
+    along-more : {after : List ℕ} → n < ports → length after ≡ recordLength ports
+        → modelOf ports after ≡ withLosses (withQueue (modelOf ports words) n (change n (queueOn (modelOf ports words) n))) (cond (lost n) (count n (modelOf ports words .seen .losses)) (modelOf ports words .seen .losses))
+        → Along ports start change lost count after (2 * bit) (n + 1)
     along-more more h e = record {
       few = A .few;
       whole = h;
       within = omega arith;
       weight = rw (A .weight, add-one n, pow-succ' 2 n);
-      state = (rw (A .state) at e) ∙ ap (withQueues (modelOf ports start)) (each-step change n (modelOf ports start .queues) idle (omega (arith, queues-long ports start)));
+      state =
+          (rw (A .state) at e)
+          ∙ rw (each-step change n (modelOf ports start .queues) idle (omega (arith, queues-long ports start)), turn-step lost count n (modelOf ports start .seen .losses));
     }
 
     pub bit-small : n < ports → bit ≤ 128
@@ -68,7 +74,7 @@ module _ {ports : ℕ} {start : List ℕ} {change : ℕ → Queued → Queued} w
 
 -- ---- a forwarded frame, by any question
 pub record Going (ports : ℕ) (start : List ℕ) (question : ℕ → Asked) (f : Frame) (words : List ℕ) (accepted lost reasons compared bit weight n : ℕ) : Type 0 where
-  pub along : Along ports start (λ q x. sentAll x (sentIf (question q) f)) words bit n
+  pub along : Along ports start (λ q x. sentAll x (sentIf (question q) f)) (λ q. false) (λ q l. l) words bit n
   pub place : weight ≡ 16 ^ n
   pub answer : record { accepted = accepted; lost = lost; reasons = reasons; compared = compared } ≡ sharesTo n (modelOf ports start) question
   pub small : compared ≤ listSize * n
@@ -84,9 +90,8 @@ module _ {ports : ℕ} {start : List ℕ} {question : ℕ → Asked} {f : Frame}
   going-start few h = record { along = along-start few h; place = refl; answer = refl; small = omega arith }
 
   pub going-done : {words : List ℕ} {accepted lost reasons compared bit weight n : ℕ} → n ≡ ports → Going ports start question f words accepted lost reasons compared bit weight n
-      → Forwarding ports start words question f (record { accepted = accepted; lost = lost; reasons = reasons; compared = compared })
-  unfolding forwardedTo
-  going-done e G = record { answer = rw e at (G .answer); state = rw e at (G .along .state) }
+      → Offering ports start words question f (record { accepted = accepted; lost = lost; reasons = reasons; compared = compared })
+  going-done e G = record { answer = rw e at (G .answer); state = (rw e at (G .along .state)) ∙ ap (withLosses (withQueues (modelOf ports start) (each (λ q x. sentAll x (sentIf (question q) f)) ports (modelOf ports start .queues)))) (turn-none (λ q l. l) ports (modelOf ports start .seen .losses)) }
 
   module _ {words after : List ℕ} {accepted lost reasons compared bit weight n : ℕ} {r : Share} (G : Going ports start question f words accepted lost reasons compared bit weight n) (S : Sending ports words after (question n) n bit weight f r) (more : n < ports) where
     share-is : r ≡ share (2 ^ n) (16 ^ n) (question n) (rowAt (modelOf ports start) n)
@@ -141,7 +146,7 @@ module _ {ports : ℕ} {start : List ℕ} {question : ℕ → Asked} {f : Frame}
 
 -- ---- the unit's own frame
 pub record Telling (ports : ℕ) (start : List ℕ) (f : Frame) (words : List ℕ) (lost bit n : ℕ) : Type 0 where
-  pub along : Along ports start (λ q x. sentAll x (f ∷ [])) words bit n
+  pub along : Along ports start (λ q x. sentAll x (f ∷ [])) (λ q. losesOwn (One f) (rowAt (modelOf ports start) q)) (λ q. lostOwn ports) words bit n
   pub answer : lost ≡ unsentTo n (modelOf ports start) (One f)
 
 module _ {ports : ℕ} {start : List ℕ} {f : Frame} where
@@ -157,7 +162,12 @@ module _ {ports : ℕ} {start : List ℕ} {f : Frame} where
     pub telling-more : length after ≡ recordLength ports → Telling ports start f after (lost + r) (2 * bit) (n + 1)
     unfolding unsentTo
     telling-more h = record {
-      along = along-more (T .along) more h (J .state);
+      along =
+          along-more (T .along) more h
+          (J .state
+          ∙ ap
+          (λ row. withLosses (withQueue (modelOf ports words) n (sentAll (queueOn (modelOf ports words) n) (f ∷ []))) (cond (losesOwn (One f) row) (lostOwn ports (modelOf ports words .seen .losses)) (modelOf ports words .seen .losses)))
+          (row-still (T .along)));
       answer =
           let e : r ≡ cond (losesOwn (One f) (rowAt (modelOf ports start) n)) (2 ^ n) 0 = rw (row-still (T .along), T .along .weight) at (J .answer) in
           rw (T .answer, e, mask-step);
@@ -175,5 +185,86 @@ pub told-nothing : {ports : ℕ} {words : List ℕ} {s : Sent} → s ≡ Sent.No
 unfolding announcedTo unsentTo
 told-nothing {ports} {words} e = record {
   answer = rw (e, mask-none ports);
-  state = rw (e, each-none ports (modelOf ports words .queues));
+  state = rw (e, each-none ports (modelOf ports words .queues), turn-none (λ q. lostOwn ports) ports (modelOf ports words .seen .losses));
 }
+
+-- ---- what is lost is counted
+-- nowhere, where the set is empty; else at the set's ports, which are those that lose
+module _ {ports : ℕ} {before mid : List ℕ} {question : ℕ → Asked} {f : Frame} {s : Share} (O : Offering ports before mid question f s) where
+  lost-is : (q : ℕ) → q < ports → bitAt (s .lost) q ≡ loses (question q) (rowAt (modelOf ports before) q)
+  unfolding sharesTo
+  lost-is q h = rw (O .answer) (mask-bit (λ q. loses (question q) (rowAt (modelOf ports before) q)) ports q h)
+
+  pub lost-home : {p : ℕ} → p < ports → question p ≡ silent → bitAt (s .lost) p ≡ false
+  lost-home {p} h e = lost-is p h ∙ rw e refl
+
+  none-lost : s .lost ≡ 0 → (q : ℕ) → q < ports → loses (question q) (rowAt (modelOf ports before) q) ≡ false
+  none-lost z q h = sym (lost-is q h) ∙ rw z ((rw (mask-none ports) at (mask-bit (λ q. false) ports q h)))
+
+  pub forwarded-none : (p : ℕ) → s .lost ≡ 0 → Forwarding ports before mid p question f s
+  unfolding forwardedTo
+  forwarded-none p z = record {
+    answer = O .answer;
+    state =
+        O .state
+        ∙ ap (withLosses (withQueues (modelOf ports before) (each (λ q x. sentAll x (sentIf (question q) f)) ports (modelOf ports before .queues))))
+        (sym (turn-same (λ q. loses (question q) (rowAt (modelOf ports before) q)) (λ q. false) (lostFrom ports p) ports (modelOf ports before .seen .losses) (none-lost z) ∙ turn-none (lostFrom ports p) ports (modelOf ports before .seen .losses)));
+  }
+
+  pub forwarded-lost : {p : ℕ} {after : List ℕ} → LosingAll ports mid after p (λ q. bitAt (s .lost) q) → Forwarding ports before after p question f s
+  unfolding forwardedTo
+  forwarded-lost {p} L = record {
+    answer = O .answer;
+    state =
+        L .state
+        ∙ ap (λ (m : Model). withLosses m (inTurn (λ q. bitAt (s .lost) q) (lostFrom ports p) ports (m .seen .losses))) (O .state)
+        ∙ ap (withLosses (withQueues (modelOf ports before) (each (λ q x. sentAll x (sentIf (question q) f)) ports (modelOf ports before .queues))))
+        (turn-same (λ q. bitAt (s .lost) q) (λ q. loses (question q) (rowAt (modelOf ports before) q)) (lostFrom ports p) ports (modelOf ports before .seen .losses) lost-is);
+  }
+
+-- the loop over a set of ports: where it stands
+pub record Counted (ports : ℕ) (start : List ℕ) (p lost : ℕ) (words : List ℕ) (set n : ℕ) : Type 0 where
+  pub whole : length words ≡ recordLength ports
+  pub within : n ≤ ports
+  pub left : set ≡ lost / 2 ^ n
+  pub state : modelOf ports words ≡ withLosses (modelOf ports start) (inTurn (λ q. bitAt lost q) (lostFrom ports p) n (modelOf ports start .seen .losses))
+
+module _ {ports : ℕ} {start : List ℕ} {p lost : ℕ} where
+  pub counted-start : length start ≡ recordLength ports → Counted ports start p lost start lost 0
+  unfolding inTurn
+  counted-start h = record { whole = h; within = omega arith; left = sym (div-one lost); state = refl }
+
+  pub counted-done : {words : List ℕ} {set n : ℕ} → n ≡ ports → Counted ports start p lost words set n → LosingAll ports start words p (λ q. bitAt lost q)
+  counted-done e C = record { state = rw e at (C .state) }
+
+  module _ {words : List ℕ} {set n : ℕ} (C : Counted ports start p lost words set n) (more : n < ports) where
+    -- the next port's bit is the lowest that is left
+    bit-is : bitAt lost n ≡ eqb (set % 2) 1
+    unfolding bitAt
+    bit-is = rw (C .left) refl
+
+    -- no loss where the frame came from
+    pub counted-away : bitAt lost p ≡ false → set % 2 ≡ 1 → p ≡ n → ⊥
+    counted-away home odd e = true≢false (sym (bit-is ∙ eq-eqb (set % 2) 1 odd) ∙ ap (bitAt lost) (sym e) ∙ home)
+
+    next-left : set / 2 ≡ lost / 2 ^ (n + 1)
+    next-left = rw (C .left, add-one n, pow-suc 2 n) (div-div-eq-div-mul lost (2 ^ n) 2)
+
+    pub counted-more : {after : List ℕ} → length after ≡ recordLength ports → set % 2 ≡ 1 → Losing ports words after p n → Counted ports start p lost after (set / 2) (n + 1)
+    counted-more h odd L = record {
+      whole = h;
+      within = omega arith;
+      left = next-left;
+      state =
+          L .state
+          ∙ ap (λ (m : Model). withLosses m (lostFrom ports p n (m .seen .losses))) (C .state)
+          ∙ ap (withLosses (modelOf ports start)) (sym (turn-step (λ q. bitAt lost q) (lostFrom ports p) n (modelOf ports start .seen .losses) ∙ rw (bit-is ∙ eq-eqb (set % 2) 1 odd) refl));
+    }
+
+    pub counted-passed : (set % 2 ≡ 1 → ⊥) → Counted ports start p lost words (set / 2) (n + 1)
+    counted-passed even = record {
+      whole = C .whole;
+      within = omega arith;
+      left = next-left;
+      state = C .state ∙ ap (withLosses (modelOf ports start)) (sym (turn-step (λ q. bitAt lost q) (lostFrom ports p) n (modelOf ports start .seen .losses) ∙ rw (bit-is ∙ ne-eqb (set % 2) 1 even) refl));
+    }

@@ -1,5 +1,5 @@
 -- A frame at one port, by the way that the code went. Assumes nothing.
-use mathlib.Core.Path.{_≡_, sym}
+use mathlib.Core.Path.{_≡_, refl, sym, ap, _∙_}
 use mathlib.Core.Bool.{Bool, true, false, not, cond}
 use mathlib.Core.List.{List, []}
 use mathlib.Core.Logic.{inl, inr, ⊎-elim}
@@ -9,15 +9,17 @@ use native.Mathlib.Omega.{arith}
 use borrow.Author.Tests.{eq-eqb, ne-eqb, lt-ltb, le-ltb}
 use lib.Seq.{set-getD}
 use Rattle.filter.specs.declared.Asked.{Asked}
-use Rattle.filter.specs.Filter.{crosses, reasonNumber, blockSize as filterLength}
+use Rattle.filter.specs.Filter.{Filter, crosses, reasonNumber, blockSize as filterLength}
 use Rattle.queue.specs.declared.Frame.{Frame}
-use Rattle.queue.specs.Queue.{idle}
+use Rattle.queue.specs.Queue.{size, idle, joined}
+use Rattle.losses.specs.Losses.{oneMore}
+use Rattle.delivery.specs.Row.{room}
 use Rattle.unit.specs.Count.{pairCount}
-use Rattle.unit.specs.Model.{Model, modelOf, queueOn, rowAt, withQueue, pairsFrom, pairAt}
+use Rattle.unit.specs.Model.{Model, modelOf, queueOn, rowAt, withQueue, withLosses, pairsFrom, pairAt, generalAt}
 use Rattle.unit.proofs.Count.{pair-below}
-use Rattle.forwarding.specs.Forwarding.{verdict}
-use Rattle.record.specs.Steps.{PairAsking, RowJoining}
-use Rattle.forwarding.specs.Steps.{Sending, Standing, OwnJoining}
+use Rattle.forwarding.specs.Forwarding.{silent, verdict, countedAt, lostFrom, lostOwn}
+use Rattle.record.specs.Steps.{PairAsking, RowJoining, LossesChanging}
+use Rattle.forwarding.specs.Steps.{Losing, Joining, Sending, Standing, OwnJoining}
 
 queue-same : (m : Model) (q : ℕ) → m ≡ withQueue m q (queueOn m q)
 queue-same m q = rw (set-getD (m .queues) q idle)
@@ -32,6 +34,36 @@ told-small weight d h l = le-trans (mul-le-mul-right d h) (mul-le-mul-left (2 ^ 
 verdict-is : {ports : ℕ} {before : List ℕ} {p q pgn : ℕ} {v : Asked} → (p ≡ q → ⊥) → PairAsking ports before p q pgn v → verdict ports (modelOf ports before .rest .pairs) p pgn q ≡ v
 unfolding verdict
 verdict-is {ports} {before} {p} {q} ne P = rw (ne-eqb p q ne) (sym (P .answer))
+
+-- the arrival port is not asked
+pub verdict-home : (ports : ℕ) (pairs : List Filter) (p pgn : ℕ) → verdict ports pairs p pgn p ≡ silent
+unfolding verdict
+verdict-home ports pairs p pgn = rw (eq-eqb p p refl) refl
+
+-- one more in the counter in place i of a model
+abbrev more : ℕ → Model → Model
+more i m = withLosses m (countedAt i (m .seen .losses))
+
+abbrev both : ℕ → ℕ → ℕ → Model → Model
+both ports p q m = withLosses m (lostFrom ports p q (m .seen .losses))
+
+-- a frame that waits was joined and nothing is counted
+abbrev came : ℕ → Model → ℕ → ℕ → Frame → Bool → Model
+came ports m p q f b = withLosses (withQueue m q (joined (queueOn m q) f)) (cond b (m .seen .losses) (lostFrom ports p q (m .seen .losses)))
+
+module _ {ports : ℕ} {before after : List ℕ} {p q : ℕ} {f : Frame} {w : Bool} where
+  pub joined-waits : w ≡ true → RowJoining ports before after q f w → Joining ports before after p q f true
+  joined-waits h R = record { answer = sym h ∙ R .answer; state = R .state ∙ ap (came ports (modelOf ports before) p q f) (sym h ∙ R .answer) }
+
+  pub joined-lost : {end : List ℕ} → w ≡ false → RowJoining ports before after q f w → Losing ports after end p q → Joining ports before end p q f false
+  joined-lost h R L = record {
+    answer = sym h ∙ R .answer;
+    state = L .state ∙ ap (both ports p q) (R .state) ∙ ap (came ports (modelOf ports before) p q f) (sym h ∙ R .answer);
+  }
+
+-- counted in two places, the second after the first
+pub lost-both : {ports : ℕ} {before between after : List ℕ} {p q : ℕ} → LossesChanging ports before between (pairAt ports p q) oneMore → LossesChanging ports between after (generalAt ports) oneMore → Losing ports before after p q
+lost-both {ports} {p = p} {q = q} C D = record { state = D .state ∙ ap (more (generalAt ports)) (C .state) }
 
 module _ {ports : ℕ} {before : List ℕ} {p q bit weight : ℕ} (pgn : ℕ) {f : Frame} where
   -- the arrival port
@@ -83,5 +115,12 @@ module _ {ports p at n : ℕ} (port : p < ports) (L : Standing ports p at n) whe
     stand-next = ⊎-elim (λ l. inl (omega (arith, l .0), omega (arith, l .1))) (λ l. inr (omega (arith, l .0), omega (arith, l .1))) L
 
 -- the unit's own frame
-pub own-joined : {ports : ℕ} {before after : List ℕ} {q bit : ℕ} {f : Frame} {w : Bool} (b : Bool) → w ≡ b → RowJoining ports before after q f w → OwnJoining ports before after q bit f (cond (not b) bit 0)
-own-joined b h J = record { answer = rw (← (J .answer), h); state = J .state }
+abbrev own-came : ℕ → Model → ℕ → Frame → Bool → Model
+own-came ports m q f b = withLosses (withQueue m q (joined (queueOn m q) f)) (cond (not b) (lostOwn ports (m .seen .losses)) (m .seen .losses))
+
+module _ {ports : ℕ} {before after : List ℕ} {q bit : ℕ} {f : Frame} {w : Bool} where
+  pub own-waits : w ≡ true → RowJoining ports before after q f w → OwnJoining ports before after q bit f 0
+  own-waits h R = record { answer = ap (λ b. cond (not b) bit 0) (sym h ∙ R .answer); state = R .state ∙ ap (own-came ports (modelOf ports before) q f) (sym h ∙ R .answer) }
+
+  pub own-lost : {end : List ℕ} → w ≡ false → RowJoining ports before after q f w → LossesChanging ports after end (generalAt ports) oneMore → OwnJoining ports before end q bit f bit
+  own-lost h R D = record { answer = ap (λ b. cond (not b) bit 0) (sym h ∙ R .answer); state = D .state ∙ ap (more (generalAt ports)) (R .state) ∙ ap (own-came ports (modelOf ports before) q f) (sym h ∙ R .answer) }

@@ -1,9 +1,9 @@
--- Document 01, "Forwarding", rules 2, 3 and 5, at each port by itself.
+-- Document 01, "Forwarding", rules 2, 3 and 5, at each port by itself; and what is counted of the frames that are lost there.
 -- Assumes nothing.
 use Prim.Native.Nat.{ℕ}
 use mathlib.Core.Bool.{Bool, false, not, _&&_, cond}
 use mathlib.Core.List.{List, [], _∷_}
-use lib.ListN.{getD}
+use lib.ListN.{getD, set}
 use lib.Dec.{eqb}
 use Rattle.delivery.specs.Row.{room}
 use Rattle.filter.specs.declared.Reason.{Reason}
@@ -11,8 +11,9 @@ use Rattle.filter.specs.declared.Asked.{Asked}
 use Rattle.filter.specs.Filter.{Filter, clear, crosses, asked}
 use Rattle.queue.specs.declared.Frame.{Frame}
 use Rattle.queue.specs.Queue.{size}
+use Rattle.losses.specs.Losses.{oneMore}
 use Rattle.unit.specs.declared.Sent.{Sent}
-use Rattle.unit.specs.Model.{pairAt}
+use Rattle.unit.specs.Model.{pairAt, generalAt}
 
 -- ---- rule 2, and what rule 5 counts: what is answered for port q
 -- where no pair is asked: nothing crosses and nothing is compared
@@ -37,3 +38,16 @@ loses v row = crosses (v .reason) && not (room size row)
 abbrev pub losesOwn : Sent → List Frame → Bool
 losesOwn Sent.Nothing row = false
 losesOwn (Sent.One f) row = not (room size row)
+
+-- ---- document 02, ticket 8: losses count "one for each frame and lost port"
+-- one more in the counter in place i
+abbrev pub countedAt : ℕ → List ℕ → List ℕ
+countedAt i losses = set losses i (oneMore (getD losses i 0))
+
+-- a frame from port p is lost at port q: for the pair, and in general
+abbrev pub lostFrom : ℕ → ℕ → ℕ → List ℕ → List ℕ
+lostFrom ports p q losses = countedAt (generalAt ports) (countedAt (pairAt ports p q) losses)
+
+-- "the unit's own lost frames count in general only"
+abbrev pub lostOwn : ℕ → List ℕ → List ℕ
+lostOwn ports losses = countedAt (generalAt ports) losses

@@ -1,26 +1,47 @@
 -- The contracts of the loops over the ports: what each does to the model of a record, at one port and at all.
 -- Assumes nothing.
 use Prim.Native.Nat.{ℕ, _+_, _-_, _*_, _≤_, _<_}
-use mathlib.Core.Bool.{cond}
+use mathlib.Core.Bool.{Bool, cond}
 use mathlib.Core.Logic.{_⊎_}
 use mathlib.Core.Path.{_≡_}
 use mathlib.Core.List.{List, [], _∷_}
+use Rattle.delivery.specs.Row.{room}
 use Rattle.filter.specs.declared.Asked.{Asked}
 use Rattle.filter.specs.Filter.{reasonNumber, blockSize as filterLength}
 use Rattle.pgn_list.specs.PgnList.{listSize}
 use Rattle.queue.specs.declared.Frame.{Frame}
-use Rattle.queue.specs.Queue.{Queued, sentAll}
+use Rattle.queue.specs.Queue.{Queued, size, sentAll, joined}
 use Rattle.unit.specs.declared.Sent.{Sent}
-use Rattle.unit.specs.Ports.{each, mask, digits, total}
-use Rattle.unit.specs.Model.{Model, queueOn, rowAt, withQueue, withQueues, pairsFrom, pairAt, modelOf}
+use Rattle.unit.specs.Ports.{each, inTurn, mask, digits, total}
+use Rattle.unit.specs.Model.{Model, queueOn, rowAt, withQueue, withQueues, withLosses, pairsFrom, pairAt, modelOf}
 use Rattle.unit.specs.Count.{pairCount}
 use Rattle.unit.specs.Own.{framesSent}
 use Rattle.forwarding.specs.declared.Share.{Share}
-use Rattle.forwarding.specs.Forwarding.{verdict, sentIf, accepts, loses, losesOwn}
+use Rattle.forwarding.specs.Forwarding.{verdict, sentIf, accepts, loses, losesOwn, lostFrom, lostOwn}
 
--- ---- any change of the queues at the first n ports, each by itself
-abbrev pub changedTo : ℕ → Model → (ℕ → Queued → Queued) → Model
-changedTo n m change = withQueues m (each change n (m .queues))
+-- ---- any change of the queues at the first n ports, each by itself, and what is counted where a frame is lost
+abbrev pub changedTo : ℕ → Model → (ℕ → Queued → Queued) → (ℕ → Bool) → (ℕ → List ℕ → List ℕ) → Model
+changedTo n m change lost count = record {
+  rest = m .rest;
+  queues = each change n (m .queues);
+  seen = record { losses = inTurn lost count n (m .seen .losses) };
+}
+
+-- ---- a frame from port p was lost at port q, and at those that a test holds of
+pub record Losing (ports : ℕ) (before after : List ℕ) (p q : ℕ) : Type 0 where
+  pub state : modelOf ports after ≡ withLosses (modelOf ports before) (lostFrom ports p q (modelOf ports before .seen .losses))
+
+pub record LosingAll (ports : ℕ) (before after : List ℕ) (p : ℕ) (lost : ℕ → Bool) : Type 0 where
+  pub state : modelOf ports after ≡ withLosses (modelOf ports before) (inTurn lost (lostFrom ports p) ports (modelOf ports before .seen .losses))
+
+-- ---- a frame from port p joins port q's queue, or is lost there
+abbrev pub joinedFrom : ℕ → Model → ℕ → ℕ → Frame → Model
+joinedFrom ports m p q f =
+    withLosses (withQueue m q (joined (queueOn m q) f)) (cond (room size (rowAt m q)) (m .seen .losses) (lostFrom ports p q (m .seen .losses)))
+
+pub record Joining (ports : ℕ) (before after : List ℕ) (p q : ℕ) (f : Frame) (r : Bool) : Type 0 where
+  pub answer : r ≡ room size (rowAt (modelOf ports before) q)
+  pub state : modelOf ports after ≡ joinedFrom ports (modelOf ports before) p q f
 
 -- ---- a frame, by any question that is asked of a port: where port q answered v, and where the first n ports answered `question`
 abbrev pub share : ℕ → ℕ → Asked → List Frame → Share
@@ -47,8 +68,9 @@ abbrev pub Standing : ℕ → ℕ → ℕ → ℕ → Type 0
 Standing ports p at n =
     ((n ≤ p) × (at ≡ pairsFrom ports + filterLength * ((ports - 1) * p + n))) ⊎ ((p < n) × (at + filterLength ≡ pairsFrom ports + filterLength * ((ports - 1) * p + n)))
 
-unfoldable pub forwardedTo : ℕ → Model → (ℕ → Asked) → Frame → Model
-forwardedTo n m question f = changedTo n m (λ q x. sentAll x (sentIf (question q) f))
+unfoldable pub forwardedTo : ℕ → Model → ℕ → (ℕ → Asked) → Frame → Model
+forwardedTo ports m p question f =
+    changedTo ports m (λ q x. sentAll x (sentIf (question q) f)) (λ q. loses (question q) (rowAt m q)) (lostFrom ports p)
 
 unfoldable pub sharesTo : ℕ → Model → (ℕ → Asked) → Share
 sharesTo n m question = record {
@@ -58,13 +80,18 @@ sharesTo n m question = record {
   compared = total (λ q. question q .compared) n;
 }
 
-pub record Forwarding (ports : ℕ) (before after : List ℕ) (question : ℕ → Asked) (f : Frame) (r : Share) : Type 0 where
+-- every queue by itself, nothing counted yet
+pub record Offering (ports : ℕ) (before after : List ℕ) (question : ℕ → Asked) (f : Frame) (r : Share) : Type 0 where
   pub answer : r ≡ sharesTo ports (modelOf ports before) question
-  pub state : modelOf ports after ≡ forwardedTo ports (modelOf ports before) question f
+  pub state : modelOf ports after ≡ withQueues (modelOf ports before) (each (λ q x. sentAll x (sentIf (question q) f)) ports (modelOf ports before .queues))
 
--- ---- the unit's own frame, at the first n ports
+pub record Forwarding (ports : ℕ) (before after : List ℕ) (p : ℕ) (question : ℕ → Asked) (f : Frame) (r : Share) : Type 0 where
+  pub answer : r ≡ sharesTo ports (modelOf ports before) question
+  pub state : modelOf ports after ≡ forwardedTo ports (modelOf ports before) p question f
+
+-- ---- the unit's own frame
 unfoldable pub announcedTo : ℕ → Model → Sent → Model
-announcedTo n m s = changedTo n m (λ q x. sentAll x (framesSent s))
+announcedTo ports m s = changedTo ports m (λ q x. sentAll x (framesSent s)) (λ q. losesOwn s (rowAt m q)) (λ q. lostOwn ports)
 
 unfoldable pub unsentTo : ℕ → Model → Sent → ℕ
 unsentTo n m s = mask (λ q. losesOwn s (rowAt m q)) n
@@ -72,7 +99,10 @@ unsentTo n m s = mask (λ q. losesOwn s (rowAt m q)) n
 -- at port q
 pub record OwnJoining (ports : ℕ) (before after : List ℕ) (q bit : ℕ) (f : Frame) (r : ℕ) : Type 0 where
   pub answer : r ≡ cond (losesOwn (Sent.One f) (rowAt (modelOf ports before) q)) bit 0
-  pub state : modelOf ports after ≡ withQueue (modelOf ports before) q (sentAll (queueOn (modelOf ports before) q) (f ∷ []))
+  pub state : modelOf ports after
+      ≡ withLosses
+      (withQueue (modelOf ports before) q (sentAll (queueOn (modelOf ports before) q) (f ∷ [])))
+      (cond (losesOwn (Sent.One f) (rowAt (modelOf ports before) q)) (lostOwn ports (modelOf ports before .seen .losses)) (modelOf ports before .seen .losses))
 
 pub record Announcing (ports : ℕ) (before after : List ℕ) (s : Sent) (r : ℕ) : Type 0 where
   pub answer : r ≡ unsentTo ports (modelOf ports before) s

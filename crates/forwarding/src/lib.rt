@@ -2,13 +2,15 @@
 use queue::Frame;
 use unit::Sent;
 ghost use mathlib.Core.Path.{_≡_};
+ghost use mathlib.Core.Bool.{false};
 ghost use Prim.Native.Nat.{ℕ, _+_, _*_, _^_, _≤_, _<_};
 ghost use lib.ListN.{length};
-ghost use Rattle.queue.specs.Queue.{blockLength as queueLength};
 ghost use Rattle.filter.specs.Filter.{blockSize as filterLength};
+ghost use Rattle.queue.specs.Queue.{blockLength as queueLength};
+ghost use Rattle.unit.specs.Ports.{bitAt};
 ghost use Rattle.unit.specs.Model.{modelOf, recordLength, rowsFrom};
 ghost use Rattle.forwarding.specs.Forwarding.{verdict};
-ghost use Rattle.forwarding.specs.Steps.{SendingAt, Forwarding, Announcing, OwnJoining};
+ghost use Rattle.forwarding.specs.Steps.{Losing, LosingAll, Joining, SendingAt, Offering, Forwarding, Announcing, OwnJoining};
 
 // What came of a frame: accepted and lost ports as masks, bit p - 1 for port p; the reasons, four bits a port, port p's from bit 4(p - 1); the entries
 // compared.
@@ -17,6 +19,30 @@ pub struct Share {
     pub lost: u32,
     pub reasons: u64,
     pub compared: u32,
+}
+
+// A frame from one port was lost at another: one more for the pair and in general.
+fn count_loss(words: &mut [u64], ports: usize, from: usize, to: usize)
+    requires { ⌜ (ports ≤ 8) × (length (now words) ≡ recordLength ports) × (from < ports) × (to < ports) × (from ≡ to → ⊥) ⌝ }
+    ensures { λ _. ⌜ Losing ports (now (words .entry)) (now (words .exit)) from to ⌝ }
+{
+    let pair = record::pair_at(ports, from, to);
+    record::count_loss(words, ports, pair);
+    let general = record::general_at(ports);
+    record::count_loss(words, ports, general);
+}
+
+// A frame from one port joins the queue of another, or is lost there and counted.
+pub fn join(words: &mut [u64], ports: usize, from: usize, to: usize, f: Frame) -> bool
+    requires { ⌜ (ports ≤ 8) × (length (now words) ≡ recordLength ports) × (from < ports) × (to < ports) × (from ≡ to → ⊥) ⌝ }
+    ensures { λ r. ⌜ Joining ports (now (words .entry)) (now (words .exit)) from to f r ⌝ }
+{
+    let waits = record::join_row(words, to, f);
+    if waits {
+        return true;
+    }
+    count_loss(words, ports, from, to);
+    false
 }
 
 // A frame from one port at another: the pair, whose filter begins at a word, is asked, and the frame joins where it is permitted.
@@ -53,10 +79,11 @@ fn send(words: &mut [u64], at: usize, to: usize, bit: u32, weight: u64, pgn: u32
     }
 }
 
-// A frame from one port at every other, along the filters of the pairs from it; the port itself has none.
-pub fn forward(words: &mut [u64], ports: usize, from: usize, pgn: u32, f: Frame) -> Share
+// A frame from one port at every other, along the filters of the pairs from it; the port itself has none. What is lost is not counted here, so that the
+// way of a loss takes no register in the loop.
+fn offer(words: &mut [u64], ports: usize, from: usize, pgn: u32, f: Frame) -> Share
     requires { ⌜ (ports ≤ 8) × (length (now words) ≡ recordLength ports) × (from < ports) ⌝ }
-    ensures { λ r. ⌜ Forwarding ports (now (words .entry)) (now (words .exit)) (verdict ports (modelOf ports (now (words .entry)) .rest .pairs) from pgn) f r ⌝ }
+    ensures { λ r. ⌜ Offering ports (now (words .entry)) (now (words .exit)) (verdict ports (modelOf ports (now (words .entry)) .rest .pairs) from pgn) f r ⌝ }
 {
     let mut accepted: u32 = 0;
     let mut lost: u32 = 0;
@@ -87,15 +114,45 @@ pub fn forward(words: &mut [u64], ports: usize, from: usize, pgn: u32, f: Frame)
     }
 }
 
-// The unit's own frame at one port: its bit where the frame is lost there, else 0.
-fn join_own(words: &mut [u64], to: usize, bit: u32, f: Frame) -> u32
-    requires { ⌜ rowsFrom + queueLength * to + queueLength ≤ length (now words) ⌝ }
-    ensures { λ r. ⌜ ((ports : ℕ) → to < ports → OwnJoining ports (now (words .entry)) (now (words .exit)) to bit f r) ⌝ }
+// A frame from one port was lost at those of a set, bit p - 1 for port p: each loss is counted.
+fn count_losses(words: &mut [u64], ports: usize, from: usize, lost: u32)
+    requires { ⌜ (ports ≤ 8) × (length (now words) ≡ recordLength ports) × (from < ports) × (bitAt lost from ≡ false) ⌝ }
+    ensures { λ _. ⌜ LosingAll ports (now (words .entry)) (now (words .exit)) from (λ q. bitAt lost q) ⌝ }
+{
+    let mut set = lost;
+    let mut to: usize = 0;
+    while to < ports {
+        if set % 2 == 1 {
+            count_loss(words, ports, from, to);
+        }
+        set = set / 2;
+        to += 1;
+    }
+}
+
+// A frame from one port at every other, and what is lost there counted.
+pub fn forward(words: &mut [u64], ports: usize, from: usize, pgn: u32, f: Frame) -> Share
+    requires { ⌜ (ports ≤ 8) × (length (now words) ≡ recordLength ports) × (from < ports) ⌝ }
+    ensures { λ r. ⌜ Forwarding ports (now (words .entry)) (now (words .exit)) from (verdict ports (modelOf ports (now (words .entry)) .rest .pairs) from pgn) f r ⌝ }
+{
+    let s = offer(words, ports, from, pgn, f);
+    if s.lost != 0 {
+        count_losses(words, ports, from, s.lost);
+    }
+    s
+}
+
+// The unit's own frame at one port: its bit where the frame is lost there, which is counted in general, else 0.
+fn join_own(words: &mut [u64], ports: usize, to: usize, bit: u32, f: Frame) -> u32
+    requires { ⌜ (ports ≤ 8) × (length (now words) ≡ recordLength ports) × (to < ports) ⌝ }
+    ensures { λ r. ⌜ OwnJoining ports (now (words .entry)) (now (words .exit)) to bit f r ⌝ }
 {
     let waits = record::join_row(words, to, f);
     if waits {
         return 0;
     }
+    let general = record::general_at(ports);
+    record::count_loss(words, ports, general);
     bit
 }
 
@@ -108,7 +165,7 @@ fn join_all(words: &mut [u64], ports: usize, f: Frame) -> u32
     let mut bit: u32 = 1;
     let mut port: usize = 0;
     while port < ports {
-        lost += join_own(words, port, bit, f);
+        lost += join_own(words, ports, port, bit, f);
         bit = 2 * bit;
         port += 1;
     }

@@ -17,10 +17,10 @@ use Rattle.unit.specs.Own.{consumes}
 use Rattle.checks.specs.Ports.{noPort}
 use Rattle.refusals.specs.Refusals.{frameRefusal, lengthRefusal}
 use Rattle.forwarding.specs.Forwarding.{silent, verdict}
-use Rattle.forwarding.specs.Steps.{announcedTo, Announcing}
+use Rattle.forwarding.specs.Steps.{Joining, announcedTo, Announcing}
 use Rattle.claims.specs.Claims.{frameOf, isClaim, frameActed}
 use Rattle.claims.specs.Steps.{Acting}
-use Rattle.record.specs.Steps.{PairAsking, RowJoining}
+use Rattle.record.specs.Steps.{PairAsking}
 use Rattle.frame_parts.specs.Parts.{Changing, turnedAway, arrival, pairRefusal, askedOf, askAnswer, PartAsking, joinAnswer, joinedModel, PartJoining, actAnswer, PartActing, announceAnswer, PartAnnouncing}
 use Rattle.unit.proofs.Own.{own-ports}
 use Rattle.claims.proofs.Count.{acted-ports}
@@ -83,7 +83,7 @@ module _ {ports : ℕ} {words : List ℕ} (from to : ℕ) (f : Frame) {n : ℕ} 
   unfolding joinAnswer joinedModel
   join-self z s = record { answer = rw (← e, z, eq-eqb from to s); change = changed (sym e ∙ z) refl (rw (eq-eqb from to s)) (rw (eq-eqb from to s)) }
 
-  pub joined : {after : List ℕ} {w : Bool} → n ≡ 0 → (from ≡ to → ⊥) → length after ≡ length words → RowJoining ports words after (to - 1) f w → PartJoining ports words after from to f (record { refusal = 0; accepted = w })
+  pub joined : {after : List ℕ} {w : Bool} → n ≡ 0 → (from ≡ to → ⊥) → length after ≡ length words → Joining ports words after (from - 1) (to - 1) f w → PartJoining ports words after from to f (record { refusal = 0; accepted = w })
   unfolding joinAnswer joinedModel
   joined z h long J = record { answer = rw (← e, z, ne-eqb from to h, J .answer); change = changed (sym e ∙ z) long (rw (ne-eqb from to h) (J .state)) (rw (ne-eqb from to h)) }
 

@@ -12,7 +12,7 @@ use Rattle.delivery.specs.Row.{room}
 use Rattle.filter.specs.declared.Asked.{Asked}
 use Rattle.pgn_list.specs.PgnList.{listSize}
 use Rattle.queue.specs.declared.Frame.{Frame}
-use Rattle.queue.specs.Queue.{size, joined}
+use Rattle.queue.specs.Queue.{size}
 use Rattle.address_claims.specs.declared.Event.{Event}
 use Rattle.unit.specs.declared.Sent.{Sent}
 use Rattle.frame_parts.specs.declared.Arrival.{Arrival}
@@ -21,13 +21,13 @@ use Rattle.frame_parts.specs.declared.JoinAnswer.{JoinAnswer}
 use Rattle.frame_parts.specs.declared.ActAnswer.{ActAnswer}
 use Rattle.frame_parts.specs.declared.AnnounceAnswer.{AnnounceAnswer}
 use Rattle.unit.specs.Count.{portsOf}
-use Rattle.unit.specs.Model.{Rest, Model, queueOn, rowAt, withRest, withQueue, modelOf}
+use Rattle.unit.specs.Model.{Rest, Model, rowAt, withRest, modelOf}
 use Rattle.unit.specs.Own.{consumes}
 use Rattle.checks.specs.Ports.{noPort}
 use Rattle.refusals.specs.Refusals.{frameRefusal, lengthRefusal}
 use Rattle.forwarding.specs.Forwarding.{silent, verdict}
 use Rattle.claims.specs.Claims.{frameOf, isClaim, Acted, frameActed}
-use Rattle.forwarding.specs.Steps.{announcedTo, unsentTo}
+use Rattle.forwarding.specs.Steps.{joinedFrom, announcedTo, unsentTo}
 
 -- a part that changes the record: refused, or the model is changed
 pub record Changing (ports : ℕ) (before after : List ℕ) (refusal : ℕ) (then : Model) : Type 0 where
@@ -70,19 +70,19 @@ pub record PartAsking (ports : ℕ) (words : List ℕ) (from to id : ℕ) (r : A
   pub answer : r ≡ askAnswer ports (length words) (modelOf ports words .rest) from to id
   pub small : r .compared ≤ listSize
 
--- ---- send a frame to one port (rule 3): the arrival port is no target
+-- ---- send a frame to one port (rule 3), where a loss is counted: the arrival port is no target
 unfoldable pub joinAnswer : ℕ → ℕ → Model → ℕ → ℕ → Frame → JoinAnswer
 joinAnswer ports lent m from to f = record {
   refusal = pairRefusal ports lent from to (f .id) (f .len);
   accepted = eqb (pairRefusal ports lent from to (f .id) (f .len)) 0 && (not (eqb from to) && room size (rowAt m (to - 1)));
 }
 
-unfoldable pub joinedModel : Model → ℕ → ℕ → Frame → Model
-joinedModel m from to f = cond (eqb from to) m (withQueue m (to - 1) (joined (queueOn m (to - 1)) f))
+unfoldable pub joinedModel : ℕ → Model → ℕ → ℕ → Frame → Model
+joinedModel ports m from to f = cond (eqb from to) m (joinedFrom ports m (from - 1) (to - 1) f)
 
 pub record PartJoining (ports : ℕ) (before after : List ℕ) (from to : ℕ) (f : Frame) (r : JoinAnswer) : Type 0 where
   pub answer : r ≡ joinAnswer ports (length before) (modelOf ports before) from to f
-  pub change : Changing ports before after (pairRefusal ports (length before) from to (f .id) (f .len)) (joinedModel (modelOf ports before) from to f)
+  pub change : Changing ports before after (pairRefusal ports (length before) from to (f .id) (f .len)) (joinedModel ports (modelOf ports before) from to f)
 
 -- ---- act on a claim or request
 unfoldable pub actAnswer : ℕ → Acted → ActAnswer

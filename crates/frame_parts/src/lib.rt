@@ -123,7 +123,7 @@ pub fn ask(words: &[u64], from: u32, to: u32, id: u32) -> AskAnswer
     }
 }
 
-// Sends a frame from one port to another, asking no pair. The arrival port is no target.
+// Sends a frame from one port to another, asking no pair; a loss is counted for the pair and in general. The arrival port is no target.
 pub fn join(words: &mut [u64], from: u32, to: u32, f: Frame) -> JoinAnswer
     ensures { λ r. ⌜ PartJoining (portsOf (now (words .entry))) (now (words .entry)) (now (words .exit)) from to f r ⌝ }
 {
@@ -141,8 +141,9 @@ pub fn join(words: &mut [u64], from: u32, to: u32, f: Frame) -> JoinAnswer
             accepted: false,
         };
     }
+    let p = from as usize - 1;
     let q = to as usize - 1;
-    let accepted = record::join_row(words, q, f);
+    let accepted = forwarding::join(words, ports as usize, p, q, f);
     JoinAnswer {
         refusal: 0,
         accepted,

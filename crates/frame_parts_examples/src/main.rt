@@ -16,9 +16,15 @@ const ADDRESS: u32 = 0x50;
 const FRAMES: u64 = 3000;
 
 // The lengths of a record with two ports and with eight.
-const TWO_PORTS: usize = Unit::QUEUES_AT + queue::BLOCK_LENGTH * 2 + filter::BLOCK_SIZE * 2;
+const TWO_PORTS: usize = Unit::QUEUES_AT
+    + queue::BLOCK_LENGTH * 2
+    + filter::BLOCK_SIZE * 2
+    + losses::COUNTER_LENGTH * 3;
 
-const EIGHT_PORTS: usize = Unit::QUEUES_AT + queue::BLOCK_LENGTH * 8 + filter::BLOCK_SIZE * 56;
+const EIGHT_PORTS: usize = Unit::QUEUES_AT
+    + queue::BLOCK_LENGTH * 8
+    + filter::BLOCK_SIZE * 56
+    + losses::COUNTER_LENGTH * 57;
 
 // What came of a frame at one port.
 struct Crossing {

@@ -6,13 +6,13 @@
    bytes may be handed in as NULL, 0; any other may not.
 
    Platform: x86-64 Linux, the System V calling convention, any linker for ELF. Needed are memcpy and memset and nothing else: no heap, no call of the operating
-   system, no data outside the record. SSE registers and the red zone are used. Some 21 KB of code and constants, 9,768 bytes of record for four ports, at most 1.2 KB
+   system, no data outside the record. SSE registers and the red zone are used. Some 21 KB of code and constants, 9,872 bytes of record for four ports, at most 1.2 KB
    of stack, 7 KB in a call on a plan. For other platforms there is no proved library today; the project's reference/, in safe Rust, is an unproved stand-in.
    docs/INTEGRATION.md has the loop of a box, interrupts, locking and stack.
 
    An answer is lent storage of the length given below, in words; another length is number 2. On a refusal it is left as it was (deorasaeng_message says
-   where not). Where several numbers apply the lowest is given, so 1 stands before 2 and 2 before every other; but 22 stands directly after 12, and at deorasaeng_start 18
-   before 8.
+   where not). Where several numbers apply the lowest is given, so 1 stands before 2 and 2 before every other; but 23 stands directly after 11, 22 directly after 12, and at
+   deorasaeng_start 18 before 8.
    A unit has the number of ports that its power-on was given, four where none was: every call reads it in the record. Ports are 1 to that number. Ports in an answer
    are a mask of eight bits: bit p - 1 for port p. */
 #ifndef DEORASAENG_H
@@ -25,9 +25,9 @@
 extern "C" {
 #endif
 
-/* The version of this interface. A version may add functions, numbers, and words at the end of an answer, whose published length then grows: a call that lends
-   the old length is refused with 2. So callers are compiled again with the header of the library that they link. */
-#define DEORASAENG_VERSION 7
+/* The version of this interface. A version may add functions, numbers, and words at the end of an answer or of the record, whose published length then grows: a
+   call that lends the old length is refused with 2. So callers are compiled again with the header of the library that they link. */
+#define DEORASAENG_VERSION 8
 
 /* What a function gives back: 0 for done, else why the call is refused. */
 enum deorasaeng_number {
@@ -51,6 +51,7 @@ enum deorasaeng_number {
     DEORASAENG_PGN_ABSENT = 17,          /* Delete: a PGN absent from a named pair */
     DEORASAENG_WRONG_STATE = 18,         /* Start not in Unstarted, Quiet not in Claiming */
     DEORASAENG_WRONG_ENTRY = 22,         /* an entry is no PGN */
+    DEORASAENG_WRONG_PARAMETER = 23,     /* parameter not held, or not one to reset */
     DEORASAENG_WRONG_PORT_COUNT = 27,    /* port count not 2 to 8 */
     DEORASAENG_WRONG_PLAN = 28,          /* a number outside the plan or its range, or one asked or listed that is no PGN */
     DEORASAENG_TWO_PATHS = 29            /* two paths between some segments, or two ports of a unit on one */
@@ -66,7 +67,7 @@ enum deorasaeng_number {
 
 /* Published lengths: of the record of a unit with four ports, of one port's queue in it and of one pair's list, in words; of a reply buffer at least, and of a
    frame's bytes, in bytes. */
-#define DEORASAENG_RECORD_WORDS 1221
+#define DEORASAENG_RECORD_WORDS 1234
 #define DEORASAENG_QUEUE_WORDS 75
 #define DEORASAENG_PAIR_WORDS 34
 #define DEORASAENG_REPLY_BYTES 1785
@@ -78,12 +79,12 @@ enum deorasaeng_number {
 
 /* The length of the record of a unit with another number of ports, in words, and of one with any number: a constant where `ports` is one. For a number that is not 2 to
    8 it is four's, which is what power-on is to be lent then. */
-#define DEORASAENG_RECORD_WORDS_2 731
-#define DEORASAENG_RECORD_WORDS_3 942
-#define DEORASAENG_RECORD_WORDS_5 1568
-#define DEORASAENG_RECORD_WORDS_6 1983
-#define DEORASAENG_RECORD_WORDS_7 2466
-#define DEORASAENG_RECORD_WORDS_8 3017
+#define DEORASAENG_RECORD_WORDS_2 734
+#define DEORASAENG_RECORD_WORDS_3 949
+#define DEORASAENG_RECORD_WORDS_5 1589
+#define DEORASAENG_RECORD_WORDS_6 2014
+#define DEORASAENG_RECORD_WORDS_7 2509
+#define DEORASAENG_RECORD_WORDS_8 3074
 #define DEORASAENG_RECORD_WORDS_FOR(ports)                                                  \
     ((ports) == 2 ? DEORASAENG_RECORD_WORDS_2 : (ports) == 3 ? DEORASAENG_RECORD_WORDS_3 :  \
      (ports) == 5 ? DEORASAENG_RECORD_WORDS_5 : (ports) == 6 ? DEORASAENG_RECORD_WORDS_6 :  \
@@ -191,7 +192,7 @@ enum deorasaeng_event {
     DEORASAENG_BEATEN = 7
 };
 
-/* Power-on of a unit with four ports: every pair cleared, every queue and the address table empty, every count 0, the unit Unstarted. Whatever the record held.
+/* Power-on of a unit with four ports: every pair cleared, every queue and the address table empty, every count 0, losses too, the unit Unstarted. Whatever the record held.
    Number 2. */
 uint32_t deorasaeng_power_on(uint64_t *record, size_t record_len, uint64_t name, uint32_t preferred);
 
@@ -208,8 +209,8 @@ uint32_t deorasaeng_frame(uint64_t *record, size_t record_len, uint32_t port, ui
 uint32_t deorasaeng_take(uint64_t *record, size_t record_len, uint32_t port, uint64_t *answer, size_t answer_len, uint8_t *bytes,
                          size_t bytes_len);
 
-/* A network message to the unit, handed in whole. What is to be sent back is written to `reply`, and no byte past it is touched. Numbers 1, 2, 6 to 17 and 22: 9 to
-   17 and 22 write the acknowledgment, and the answer begins with 59392 and 8; with 17 and 22 it tells which entry was wrong. The others write nothing, and the answer
+/* A network message to the unit, handed in whole. What is to be sent back is written to `reply`, and no byte past it is touched. Numbers 1, 2, 6 to 17, 22 and 23: 9
+   to 17, 22 and 23 write the acknowledgment, and the answer begins with 59392 and 8; with 17 and 22 it tells which entry was wrong. The others write nothing, and the answer
    is 0 in every word (untouched if it is not 5 long itself). */
 uint32_t deorasaeng_message(uint64_t *record, size_t record_len, uint32_t port, uint32_t requester, const uint8_t *payload,
                             size_t payload_len, uint8_t *reply, size_t reply_len, uint64_t *answer, size_t answer_len);

@@ -167,11 +167,12 @@ fn message_numbers(words: &mut [u64]) -> [u64; 3] {
     ]
 }
 
-// WRONG_PAIR, ACCESS_DENIED, WRONG_BODY, WRONG_ENTRY, WRONG_MODE.
-fn payload_numbers(words: &mut [u64]) -> [u64; 5] {
+// WRONG_PAIR, ACCESS_DENIED, WRONG_PARAMETER, WRONG_BODY, WRONG_ENTRY, WRONG_MODE.
+fn payload_numbers(words: &mut [u64]) -> [u64; 6] {
     [
         tool(words, b"\x00\x11\xFF\xFF\xFF\xFF\xFF\xFF"),
         message(words, 3, 0x21, b"\x00\x12\xFF\xFF\xFF\xFF\xFF\xFF").number,
+        tool(words, b"\x85\x12\x03\xFF\xFF\xFF\xFF\xFF"),
         tool(words, b"\x00\x12\xFF\xFF\xFF\xFF\xFF\xFF\xFF"),
         tool(words, b"\x02\x12\xFF\xFF\xFF\xFF\xFF\xFF"),
         tool(words, b"\x06\x12\x02\xF1\xFE\x00\xFF\xFF"),

@@ -1,26 +1,27 @@
 -- What is answered to a message: a reply, or an acknowledgment of what was done or refused. Assumes nothing.
 use mathlib.Core.Path.{_≡_, refl, sym, _∙_}
-use mathlib.Core.Bool.{Bool, true, false}
+use mathlib.Core.Bool.{Bool, true, false, true≢false}
 use mathlib.Core.Logic.{⊎-elim}
 use mathlib.Core.List.{List}
-use Prim.Native.Nat.{ℕ, _-_, _≤_}
-use borrow.Author.Tests.{eqb-true, eqb-false}
-use lib.Dec.{eqb}
+use Prim.Native.Nat.{ℕ, _+_, _-_, _≤_, _<_}
+use borrow.Author.Tests.{ne-eqb, eqb-true, eqb-false, ltb-true, ltb-false}
+use lib.Dec.{eqb, ltb}
 use native.Mathlib.Omega.{arith}
 use lib.ListN.{length}
-use Rattle.entries.specs.Entries.{entriesOf}
+use Rattle.entries.specs.Entries.{listed, entriesOf}
 use Rattle.network_message.specs.Commands.{Ports}
-use Rattle.network_message.specs.Decoding.{functionOf, between}
-use Rattle.replies.specs.Replies.{acknowledgment, Writing}
+use Rattle.network_message.specs.Decoding.{functionOf, between, isHeld}
+use Rattle.replies.specs.Replies.{controlOf, acknowledgment, Writing}
 use Rattle.filter_commands.specs.declared.pairs.Change.{Change}
 use Rattle.message_answers.specs.declared.MessageAnswer.{MessageAnswer}
-use Rattle.unit.specs.Model.{modelOf}
-use Rattle.message_answers.specs.Messages.{nothingTold, wrongTold, absentTold, acknowledged, replied, changedBy}
+use Rattle.unit.specs.Model.{Seen, lossesFrom, modelOf}
+use Rattle.message_answers.specs.Messages.{nothingTold, wrongTold, absentTold, acknowledged, replied, resetAt, changedBy}
 use Rattle.list_commands.specs.Commands.{Beside, anyNamed}
 use Rattle.list_commands.specs.declared.Absent.{Absent}
 use Rattle.filter_commands.specs.Pairs.{holdsOf}
 use Rattle.filter_commands.specs.declared.pairs.Question.the-variants.{Lacks}
 use Rattle.list_commands.proofs.Searching.{refused-17}
+use Rattle.record.specs.Steps.{LossesChanging}
 use Rattle.list_commands.specs.Steps.{Commanding}
 use Rattle.message_answers.specs.Steps.{Telling, Reporting, Replying}
 
@@ -28,11 +29,24 @@ use Rattle.message_answers.specs.Steps.{Telling, Reporting, Replying}
 pub one-port : {ports from to : ℕ} → ports ≤ 8 → Ports ports from to → to ≤ ports → 1 ≤ to
 one-port few P h = ⊎-elim (λ p. p .0) (λ e. absurd (omega (arith, e))) (P .other)
 
+-- a parameter that is held fits a byte
+far-none : (parameter : ℕ) → 256 ≤ parameter → isHeld parameter ≡ false
+unfolding listed
+far-none parameter far =
+    rw (ne-eqb 1 parameter (λ e. omega arith), ne-eqb 2 parameter (λ e. omega arith), ne-eqb 3 parameter (λ e. omega arith), ne-eqb 9 parameter (λ e. omega arith))
+
+pub held-small : (parameter : ℕ) → isHeld parameter ≡ true → parameter < 256
+held-small parameter h = go (ltb parameter 256) refl
+  where
+    go : (b : Bool) → ltb parameter 256 ≡ b → parameter < 256
+    go true e = ltb-true parameter 256 e
+    go false e = let z : true ≡ false = sym h ∙ far-none parameter (ltb-false parameter 256 e) in absurd (true≢false z)
+
 pub reported-of : {bytes before after : List ℕ} {most n : ℕ} → Writing bytes before after most n → Reporting bytes before after (record { refusal = 0; pgn = 60672; length = n; told = nothingTold })
 reported-of W = record { answer = rw (W .answer); written = W .written }
 
 module _ {ports : ℕ} {words lent back : List ℕ} {Still : ℕ → Type 0} {r : MessageAnswer} where
-  pub reply-given : (bytes : List ℕ) → Reporting bytes lent back r → Replying ports words words lent back (replied bytes (modelOf ports words .rest .pairs)) Still r
+  pub reply-given : (bytes : Seen → List ℕ) → Reporting (bytes (modelOf ports words .seen)) lent back r → Replying ports words words lent back (replied bytes (modelOf ports words .rest .pairs)) Still r
   reply-given bytes R = record { answer = R .answer; written = R .written; state = refl; refused = λ _. refl; others = λ _ _. refl }
 
   pub refusal-told : (number entry requester : ℕ) (payload : List ℕ) → Telling lent back number (functionOf payload) requester (wrongTold entry) r → Replying ports words words lent back (acknowledged number requester payload (modelOf ports words .rest .pairs) (wrongTold entry)) Still r
@@ -40,6 +54,12 @@ module _ {ports : ℕ} {words lent back : List ℕ} {Still : ℕ → Type 0} {r 
   refusal-told number entry requester payload T = record { answer = T .answer; written = T .written; state = refl; refused = λ _. refl; others = λ _ _. refl }
 
 module _ {ports : ℕ} {words lent back : List ℕ} {r : MessageAnswer} where
+  -- a counter was reset
+  pub reset-told : {after : List ℕ} (i requester : ℕ) (payload : List ℕ) → LossesChanging ports words after i (λ n. 0) → Telling lent back 0 (functionOf payload) requester nothingTold r
+      → Replying ports words after lent back (resetAt i requester payload (modelOf ports words .rest .pairs)) (λ n. n ≡ lossesFrom ports + i → ⊥) r
+  unfolding acknowledgment controlOf
+  reset-told i requester payload C T = record { answer = T .answer; written = T .written; state = C .state; refused = λ h. absurd (h refl); others = C .others }
+
   pub change-told : {after : List ℕ} {n : ℕ} {told : Absent} (requester : ℕ) (payload : List ℕ) (change : Change) (from to start end : ℕ)
       → Commanding ports words after from to change (entriesOf (between start end payload)) n
       → ((n ≡ 17 → anyNamed ports (ports - 1) (holdsOf Lacks (entriesOf (between start end payload))) from to (modelOf ports after .rest .pairs) ≡ true) → told ≡ absentTold ports n (entriesOf (between start end payload)) from to (modelOf ports after .rest .pairs))

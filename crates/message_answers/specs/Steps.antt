@@ -6,7 +6,7 @@ use mathlib.Core.List.{List, _++_}
 use lib.ListN.{length, getD, drop}
 use Rattle.replies.specs.Replies.{controlOf, acknowledgment}
 use Rattle.list_commands.specs.declared.Absent.{Absent}
-use Rattle.unit.specs.Model.{withRest, withPairs, modelOf}
+use Rattle.unit.specs.Model.{withRest, withPairs, withLosses, modelOf}
 use Rattle.message_answers.specs.declared.MessageAnswer.{MessageAnswer}
 use Rattle.message_answers.specs.Messages.{Replied, nothingTold, messageAnswer}
 
@@ -24,6 +24,7 @@ pub record Reporting (bytes before after : List ℕ) (r : MessageAnswer) : Type 
 pub record Replying (ports : ℕ) (before after lent back : List ℕ) (reply : Replied) (Still : ℕ → Type 0) (r : MessageAnswer) : Type 0 where
   pub answer : r ≡ messageAnswer reply (modelOf ports before .seen)
   pub written : back ≡ reply .written (modelOf ports before .seen) ++ drop (length (reply .written (modelOf ports before .seen))) lent
-  pub state : modelOf ports after ≡ withRest (modelOf ports before) (withPairs (modelOf ports before .rest) (reply .pairs))
+  pub state : modelOf ports after
+      ≡ withLosses (withRest (modelOf ports before) (withPairs (modelOf ports before .rest) (reply .pairs))) (reply .losses (modelOf ports before .seen .losses))
   pub refused : (reply .number ≡ 0 → ⊥) → after ≡ before
   pub others : (n : ℕ) → Still n → getD after n 0 ≡ getD before n 0

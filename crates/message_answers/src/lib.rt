@@ -4,18 +4,19 @@ use list_commands::Absent;
 use network_message::Command;
 ghost use mathlib.Core.Path.{_≡_};
 ghost use mathlib.Core.Bool.{true};
-ghost use Prim.Native.Nat.{ℕ, _-_, _≤_, _<_};
+ghost use Prim.Native.Nat.{ℕ, _+_, _-_, _≤_, _<_};
 ghost use lib.ListN.{length, getD};
 ghost use Rattle.filter.specs.Filter.{clear};
 ghost use Rattle.network_message.specs.Commands.{Good};
-ghost use Rattle.network_message.specs.Decoding.{functionOf, longest};
-ghost use Rattle.replies.specs.Replies.{listReply, addressReply};
-ghost use Rattle.unit.specs.Model.{modelOf, recordLength, rowsFrom, pairAt};
+ghost use Rattle.network_message.specs.Decoding.{functionOf, isHeld, longest};
+ghost use Rattle.replies.specs.Replies.{listReply, addressReply, parameterReply};
+ghost use Rattle.unit.specs.Model.{modelOf, recordLength, rowsFrom, lossesFrom, pairAt, generalAt};
+ghost use Rattle.parameters.specs.Parameters.{pairParameter, generalParameter};
 ghost use Rattle.list_commands.specs.Commands.{Beside, anyNamed};
 ghost use Rattle.entries.specs.Entries.{entriesOf};
 ghost use Rattle.filter_commands.specs.Pairs.{holdsOf};
 ghost use Rattle.filter_commands.specs.declared.pairs.Question.{Question};
-ghost use Rattle.message_answers.specs.Messages.{nothingTold, wrongTold, absentTold, performedBy, changedBy, Untouched};
+ghost use Rattle.message_answers.specs.Messages.{nothingTold, wrongTold, absentTold, performedBy, changedBy, resetAt, Untouched};
 ghost use Rattle.message_answers.specs.Steps.{Telling, Replying, Reporting};
 
 // What was written to the reply buffer: the PGN and the length, 0 and 0 for nothing; and the number that refused the message, or 0.
@@ -33,6 +34,13 @@ pub struct MessageAnswer {
 const REPLY: u32 = 60672;
 
 const ACKNOWLEDGMENT: u32 = 59392;
+
+// The functions of a reply with a parameter, and the byte that stands for no pair.
+const GENERAL_PARAMETER_REPLY: u8 = 129;
+
+const PAIR_PARAMETER_REPLY: u8 = 132;
+
+const NO_PAIR: u8 = 0xFF;
 
 fn nothing_told() -> Absent
     ensures { λ r. ⌜ r ≡ nothingTold ⌝ }
@@ -152,6 +160,86 @@ fn report_addresses(words: &[u64], port: u32, reply: &mut [u8]) -> MessageAnswer
     }
 }
 
+// Reports a parameter, of the unit as a whole or of a pair.
+fn report_value(
+    reply: &mut [u8],
+    function: u8,
+    named: u8,
+    parameter: u32,
+    value: u32,
+) -> MessageAnswer
+    requires { ⌜ (longest ≤ length (now reply)) × (isHeld parameter ≡ true) ⌝ }
+    ensures { λ r. ⌜ Reporting (parameterReply function named parameter value) (now (reply .entry)) (now (reply .exit)) r ⌝ }
+{
+    let n = replies::reply_parameter(reply, function, named, parameter as u8, value);
+    MessageAnswer {
+        refusal: 0,
+        pgn: REPLY,
+        length: n as u32,
+        told: nothing_told(),
+    }
+}
+
+// Reports a parameter of the unit as a whole.
+fn report_general(words: &[u64], ports: usize, parameter: u32, reply: &mut [u8]) -> MessageAnswer
+    requires { ⌜ (1 ≤ ports) × (ports ≤ 8) × (length (now words) ≡ recordLength ports) × (longest ≤ length (now reply)) × (isHeld parameter ≡ true) ⌝ }
+    ensures { λ r. ⌜ Reporting (parameterReply 129 0xFF parameter (generalParameter ports (modelOf ports (now (words .entry)) .rest) (modelOf ports (now (words .entry)) .seen) parameter)) (now (reply .entry)) (now (reply .exit)) r ⌝ }
+{
+    let value = parameters::of_unit(words, ports, parameter);
+    report_value(reply, GENERAL_PARAMETER_REPLY, NO_PAIR, parameter, value)
+}
+
+// Reports a parameter of a pair.
+fn report_pair(
+    words: &[u64],
+    ports: usize,
+    from: u32,
+    to: u32,
+    parameter: u32,
+    pair: u8,
+    reply: &mut [u8],
+) -> MessageAnswer
+    requires { ⌜ (ports ≤ 8) × (length (now words) ≡ recordLength ports) × (longest ≤ length (now reply)) × (1 ≤ from) × (from ≤ ports) × (1 ≤ to) × (to ≤ ports) × (from ≡ to → ⊥) × (isHeld parameter ≡ true) ⌝ }
+    ensures { λ r. ⌜ Reporting (parameterReply 132 pair parameter (pairParameter ports (modelOf ports (now (words .entry)) .rest) (modelOf ports (now (words .entry)) .seen) (from - 1) (to - 1) parameter)) (now (reply .entry)) (now (reply .exit)) r ⌝ }
+{
+    let value = parameters::of_pair(words, ports, from as usize - 1, to as usize - 1, parameter);
+    report_value(reply, PAIR_PARAMETER_REPLY, pair, parameter, value)
+}
+
+// Resets the general counter of losses, and acknowledges it.
+fn reset_general(
+    words: &mut [u64],
+    ports: usize,
+    requester: u32,
+    payload: &[u8],
+    reply: &mut [u8],
+) -> MessageAnswer
+    requires { ⌜ (1 ≤ ports) × (ports ≤ 8) × (length (now words) ≡ recordLength ports) × (longest ≤ length (now reply)) × (requester < 254) × (8 ≤ length (now payload)) ⌝ }
+    ensures { λ r. ⌜ Replying ports (now (words .entry)) (now (words .exit)) (now (reply .entry)) (now (reply .exit)) (resetAt (generalAt ports) requester (now (payload .entry)) (modelOf ports (now (words .entry)) .rest .pairs)) (λ n. n ≡ lossesFrom ports + generalAt ports → ⊥) r ⌝ }
+{
+    let counter = record::general_at(ports);
+    record::reset_losses(words, ports, counter);
+    tell(reply, 0, payload[0], requester, nothing_told())
+}
+
+// Resets the counter of a pair, and acknowledges it.
+fn reset_pair(
+    words: &mut [u64],
+    ports: usize,
+    requester: u32,
+    payload: &[u8],
+    from: u32,
+    to: u32,
+    reply: &mut [u8],
+) -> MessageAnswer
+    requires { ⌜ (ports ≤ 8) × (length (now words) ≡ recordLength ports) × (longest ≤ length (now reply)) × (requester < 254) × (8 ≤ length (now payload)) × (1 ≤ from) × (from ≤ ports) × (1 ≤ to) × (to ≤ ports) × (from ≡ to → ⊥) ⌝ }
+    ensures { λ r. ⌜ Replying ports (now (words .entry)) (now (words .exit)) (now (reply .entry)) (now (reply .exit)) (resetAt (pairAt ports (from - 1) (to - 1)) requester (now (payload .entry)) (modelOf ports (now (words .entry)) .rest .pairs)) (λ n. n ≡ lossesFrom ports + pairAt ports (from - 1) (to - 1) → ⊥) r ⌝ }
+{
+    let counter = record::pair_at(ports, from as usize - 1, to as usize - 1);
+    record::reset_losses(words, ports, counter);
+    tell(reply, 0, payload[0], requester, nothing_told())
+}
+
 // The refusal of a payload is acknowledged.
 fn refuse(
     reply: &mut [u8],
@@ -176,7 +264,7 @@ pub fn perform(
     command: Command,
     reply: &mut [u8],
 ) -> MessageAnswer
-    requires { ⌜ (ports ≤ 8) × (length (now words) ≡ recordLength ports) × (longest ≤ length (now reply)) × (requester < 254) × (8 ≤ length (now payload)) × Good ports (now payload) command ⌝ }
+    requires { ⌜ (ports ≤ 8) × (length (now words) ≡ recordLength ports) × (longest ≤ length (now reply)) × (requester < 254) × (8 ≤ length (now payload)) × Good ports (now payload) command × (1 ≤ ports) ⌝ }
     ensures { λ r. ⌜ Replying ports (now (words .entry)) (now (words .exit)) (now (reply .entry)) (now (reply .exit)) (performedBy ports (modelOf ports (now (words .entry)) .rest) requester (now (payload .entry)) command) (Untouched ports command) r ⌝ }
 {
     match command {
@@ -247,5 +335,21 @@ pub fn perform(
             reply,
         ),
         Command::AddressList { port } => report_addresses(words, port, reply),
+        Command::Parameter { parameter } => report_general(words, ports, parameter, reply),
+        Command::Reset => reset_general(words, ports, requester, payload, reply),
+        Command::PairParameter {
+            from,
+            to,
+            parameter,
+        } => report_pair(words, ports, from, to, parameter, payload[1], reply),
+        Command::PairReset { from, to } => reset_pair(
+            words,
+            ports,
+            requester,
+            payload,
+            from,
+            to,
+            reply,
+        ),
     }
 }

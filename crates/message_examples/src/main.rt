@@ -1,4 +1,4 @@
-// Document 01's payloads P5 to P9 and what is written for them; an address list; and every function byte with every pair byte from every port, counted by
+// Document 01's payloads P5 to P9 and what is written for them; an address list; parameters; and every function byte with every pair byte from every port, counted by
 // what comes of it.
 use libc::STDOUT_FILENO;
 use network_message::Command;
@@ -11,7 +11,7 @@ ghost use Rattle.addresses.specs.Table.{tableLength};
 // The number of ports.
 const PORTS: u32 = 4;
 
-// The six bytes after the pair byte: a good body for each function, filling alone, and a Create of wrong filling and of mode 2.
+// The six bytes after the pair byte: a good body for each function, filling alone, a Create of wrong filling and of mode 2, and parameter 3.
 const GOOD: u32 = 0;
 
 const FILLING: u32 = 1;
@@ -19,6 +19,8 @@ const FILLING: u32 = 1;
 const WRONG_FILLING: u32 = 2;
 
 const MODE_2: u32 = 3;
+
+const PARAMETER_3: u32 = 4;
 
 // A word and a number.
 fn number(word: &[u8], n: u64) {
@@ -81,6 +83,19 @@ fn print_command(command: Command) {
             print_entries(start, end);
         }
         Command::AddressList { port } => number(b"address list of port ", port as u64),
+        Command::Parameter { parameter } => number(b"parameter ", parameter as u64),
+        Command::Reset => {
+            io::write_all(STDOUT_FILENO, b"reset");
+        }
+        Command::PairParameter {
+            from,
+            to,
+            parameter,
+        } => {
+            number(b"parameter ", parameter as u64);
+            print_pair(b" of ", from, to);
+        }
+        Command::PairReset { from, to } => print_pair(b"reset of ", from, to),
     }
 }
 
@@ -158,6 +173,13 @@ fn print_addresses(label: &[u8], table: &[u64], port: u32)
     print_reply(label, &reply, n);
 }
 
+// The value of a parameter.
+fn print_parameter(label: &[u8], function: u8, named: u8, parameter: u8, value: u32) {
+    let mut reply = [0x77u8; 1785];
+    let n = replies::reply_parameter(&mut reply, function, named, parameter, value);
+    print_reply(label, &reply, n);
+}
+
 // A payload of 8 bytes.
 fn payload_of(function: u8, pair: u8, body: u32) -> [u8; 8] {
     if body == FILLING {
@@ -169,8 +191,14 @@ fn payload_of(function: u8, pair: u8, body: u32) -> [u8; 8] {
     if body == MODE_2 {
         return [function, pair, 0x02, 0xF1, 0xFE, 0x00, 0xFF, 0xFF];
     }
+    if body == PARAMETER_3 {
+        return [function, pair, 0x03, 0xFF, 0xFF, 0xFF, 0xFF, 0xFF];
+    }
     if function == network_message::CREATE {
         return [function, pair, 0x01, 0xF1, 0xFE, 0x00, 0xFF, 0xFF];
+    }
+    if network_message::PARAMETER <= function {
+        return [function, pair, 0x09, 0xFF, 0xFF, 0xFF, 0xFF, 0xFF];
     }
     [function, pair, 0xF1, 0xFE, 0x00, 0xFF, 0xFF, 0xFF]
 }
@@ -202,10 +230,10 @@ fn count(port: u32, function: u8, body: u32, n: u32) -> u32
     found
 }
 
-// Whether a function is one of the six.
+// Whether a function is one of the ten.
 fn is_listed(function: u32) -> bool {
     match function {
-        0 | 2 | 3 | 4 | 6 | 64 => true,
+        0 | 2 | 3 | 4 | 6 | 64 | 128 | 130 | 131 | 133 => true,
         _ => false,
     }
 }
@@ -240,7 +268,7 @@ fn column(n: u32) {
     number(b" ", n as u64);
 }
 
-// What the pair bytes of a function from a port come to: commands, and refused with 9 to 12, 22 and 13, in the order of the checks.
+// What the pair bytes of a function from a port come to: commands, and refused with 9 to 11, 23, 12, 22 and 13, in the order of the checks.
 fn print_row(port: u32, function: u8, body: u32) {
     number(b" from port ", port as u64);
     io::write_all(STDOUT_FILENO, b":");
@@ -248,6 +276,7 @@ fn print_row(port: u32, function: u8, body: u32) {
     column(count(port, function, body, 9));
     column(count(port, function, body, 10));
     column(count(port, function, body, 11));
+    column(count(port, function, body, 23));
     column(count(port, function, body, 12));
     column(count(port, function, body, 22));
     column(count(port, function, body, 13));
@@ -274,6 +303,7 @@ fn print_others(port: u32, body: u32) {
     column(count_others(port, body, 9));
     column(count_others(port, body, 10));
     column(count_others(port, body, 11));
+    column(count_others(port, body, 23));
     column(count_others(port, body, 12));
     column(count_others(port, body, 22));
     column(count_others(port, body, 13));
@@ -288,10 +318,28 @@ fn print_table() {
     print_function(b"Clear  ", network_message::CLEAR, GOOD);
     print_function(b"Create ", network_message::CREATE, GOOD);
     print_function(b"64     ", network_message::ADDRESS_LIST, GOOD);
+    print_function(b"128    ", network_message::PARAMETER, GOOD);
+    print_function(b"130    ", network_message::RESET, GOOD);
+    print_function(b"131    ", network_message::PAIR_PARAMETER, GOOD);
+    print_function(b"133    ", network_message::PAIR_RESET, GOOD);
     print_others(1, GOOD);
     print_others(2, GOOD);
     print_others(3, GOOD);
     print_others(4, GOOD);
+}
+
+// Parameter 3, which is held and is not reset, and one that is not held.
+fn print_wrong_parameters() {
+    io::write_all(STDOUT_FILENO, b"with parameter 3\n");
+    print_function(b"128    ", network_message::PARAMETER, PARAMETER_3);
+    print_function(b"130    ", network_message::RESET, PARAMETER_3);
+    print_function(b"131    ", network_message::PAIR_PARAMETER, PARAMETER_3);
+    print_function(b"133    ", network_message::PAIR_RESET, PARAMETER_3);
+    io::write_all(STDOUT_FILENO, b"with parameter 255\n");
+    print_function(b"128    ", network_message::PARAMETER, FILLING);
+    print_function(b"130    ", network_message::RESET, FILLING);
+    print_function(b"131    ", network_message::PAIR_PARAMETER, FILLING);
+    print_function(b"133    ", network_message::PAIR_RESET, FILLING);
 }
 
 // Those whose body can be wrong, with a wrong one.
@@ -375,6 +423,28 @@ fn print_all_and_addresses() {
     print_payload(b"addresses", 3, &list);
 }
 
+// Parameters: in general, where the pair byte is not judged, and of a pair; 23 goes before 12; a reply is not listed.
+fn print_parameters() {
+    let general = [0x80u8, 0x11, 0x09, 0xFF, 0xFF, 0xFF, 0xFF, 0xFF];
+    print_payload(b"general", 1, &general);
+    print_payload(b"general", 2, &general);
+    let reset = [0x82u8, 0xFF, 0x09, 0xFF, 0xFF, 0xFF, 0xFF, 0xFF];
+    print_payload(b"general reset", 1, &reset);
+    let pair = [0x83u8, 0x12, 0x02, 0xFF, 0xFF, 0xFF, 0xFF, 0xFF];
+    print_payload(b"pair", 2, &pair);
+    print_payload(b"pair", 3, &pair);
+    let pair_reset = [0x85u8, 0x21, 0x09, 0xFF, 0xFF, 0xFF, 0xFF, 0xFF];
+    print_payload(b"pair reset", 2, &pair_reset);
+    let all = [0x83u8, 0x1F, 0x09, 0xFF, 0xFF, 0xFF, 0xFF, 0xFF];
+    print_payload(b"all pairs", 1, &all);
+    let over = [0x83u8, 0x12, 0x09, 0xFF, 0xFF, 0xFF, 0xFF, 0xFF, 0xFF];
+    print_payload(b"a byte over", 1, &over);
+    let unheld = [0x83u8, 0x12, 0x04, 0xFF, 0xFF, 0xFF, 0xFF, 0xFF, 0xFF];
+    print_payload(b"a byte over and not held", 1, &unheld);
+    let answer = [0x81u8, 0xFF, 0x09, 0x00, 0x00, 0xFF, 0xFF, 0xFF];
+    print_payload(b"a reply", 1, &answer);
+}
+
 // What is written.
 fn print_replies() {
     print_acknowledgment(b"P5 writes", 0, 0x06);
@@ -397,6 +467,8 @@ fn print_replies() {
     table[506] = 3;
     table[78] = 2;
     print_addresses(b"three addresses", &table, 3);
+    print_parameter(b"buffer size", 0x81, 0xFF, 1, 1664);
+    print_parameter(b"messages lost", 0x84, 0x12, 9, 64255);
 }
 
 fn main() {
@@ -404,11 +476,13 @@ fn main() {
     print_entry_payloads();
     print_order();
     print_all_and_addresses();
+    print_parameters();
     print_replies();
     io::write_all(
         STDOUT_FILENO,
-        b"of 256 pair bytes: commands, and refused with 9, 10, 11, 12, 22, 13\n",
+        b"of 256 pair bytes: commands, and refused with 9, 10, 11, 23, 12, 22, 13\n",
     );
     print_table();
     print_wrong_bodies();
+    print_wrong_parameters();
 }

@@ -1,12 +1,12 @@
--- Document 01's payloads P5 to P9, decoded by computing. Assumes nothing.
+-- Document 01's payloads P5 to P9, and payloads of parameters (document 02, ticket 8), decoded by computing. Assumes nothing.
 use mathlib.Core.Path.{_≡_, refl}
 use mathlib.Core.Bool.{true}
 use mathlib.Core.List.{[], _∷_}
 use Rattle.storage.specs.Bytes.{packed}
 use Rattle.identifier.specs.Identifier.{isPgn}
 use Rattle.entries.specs.Entries.{listed, entriesOf, every, leading, firstWrong}
-use Rattle.network_message.specs.declared.Command.the-variants.{Refused, Request, Create}
-use Rattle.network_message.specs.Decoding.{isKnown, mayBeAll, isPair, namesPorts, mayName, isFilling, entriesEnd, holdsEntries, hasGoodBody, wrongIn, wrongEntry, hasWrongMode, refusalOf, judged, commandOf, decoded}
+use Rattle.network_message.specs.declared.Command.the-variants.{Refused, Request, Create, Parameter, Reset, PairParameter, PairReset}
+use Rattle.network_message.specs.Decoding.{isKnown, isGeneral, mayBeAll, isPair, namesPorts, mayName, holdsParameter, isFilling, entriesEnd, holdsEntries, hasGoodBody, wrongIn, wrongEntry, hasWrongMode, refusalOf, judged, commandOf, decoded}
 use Rattle.checks.specs.Ports.{isPort}
 
 payloads :
@@ -15,5 +15,24 @@ payloads :
     × (decoded 4 3 (0x00 ∷ 0x12 ∷ 0xFF ∷ 0xFF ∷ 0xFF ∷ 0xFF ∷ 0xFF ∷ 0xFF ∷ []) ≡ Refused 11 0)
     × (decoded 4 1 (0x02 ∷ 0x11 ∷ 0xF1 ∷ 0xFE ∷ 0x00 ∷ 0xFF ∷ 0xFF ∷ 0xFF ∷ []) ≡ Refused 10 0)
     × (decoded 4 1 (0x02 ∷ 0x12 ∷ 0xFF ∷ 0xFF ∷ 0xFF ∷ 0xFF ∷ 0xFF ∷ 0xFF ∷ []) ≡ Refused 22 1)
-unfolding decoded judged refusalOf commandOf isKnown listed namesPorts isPair isPort mayBeAll mayName hasGoodBody holdsEntries entriesEnd isFilling every leading firstWrong wrongIn wrongEntry entriesOf packed isPgn hasWrongMode
+unfolding decoded judged refusalOf commandOf isKnown isGeneral listed namesPorts isPair isPort mayBeAll mayName holdsParameter hasGoodBody holdsEntries entriesEnd isFilling every leading firstWrong wrongIn wrongEntry entriesOf packed isPgn hasWrongMode
 payloads = (refl, refl, refl, refl, refl)
+
+-- the general functions' pair byte is not judged, nor are bytes 4 to 8; 23 is judged before 12, after 11 and 10; a reply is not listed
+parameters :
+    (decoded 4 1 (0x80 ∷ 0xFF ∷ 0x09 ∷ 0xFF ∷ 0xFF ∷ 0xFF ∷ 0xFF ∷ 0xFF ∷ []) ≡ Parameter 9)
+    × (decoded 4 1 (0x80 ∷ 0x11 ∷ 0x01 ∷ 0x02 ∷ 0x03 ∷ 0x00 ∷ 0x00 ∷ 0x00 ∷ []) ≡ Parameter 1)
+    × (decoded 4 1 (0x82 ∷ 0xFF ∷ 0x09 ∷ 0xFF ∷ 0xFF ∷ 0xFF ∷ 0xFF ∷ 0xFF ∷ []) ≡ Reset)
+    × (decoded 4 2 (0x83 ∷ 0x12 ∷ 0x02 ∷ 0xFF ∷ 0xFF ∷ 0xFF ∷ 0xFF ∷ 0xFF ∷ []) ≡ PairParameter 1 2 2)
+    × (decoded 4 2 (0x85 ∷ 0x21 ∷ 0x09 ∷ 0xFF ∷ 0xFF ∷ 0xFF ∷ 0xFF ∷ 0xFF ∷ []) ≡ PairReset 2 1)
+    × (decoded 4 1 (0x81 ∷ 0xFF ∷ 0x09 ∷ 0x00 ∷ 0x00 ∷ 0xFF ∷ 0xFF ∷ 0xFF ∷ []) ≡ Refused 9 0)
+    × (decoded 4 1 (0x84 ∷ 0x12 ∷ 0x09 ∷ 0x00 ∷ 0x00 ∷ 0xFF ∷ 0xFF ∷ 0xFF ∷ []) ≡ Refused 9 0)
+    × (decoded 4 1 (0x83 ∷ 0x1F ∷ 0x09 ∷ 0xFF ∷ 0xFF ∷ 0xFF ∷ 0xFF ∷ 0xFF ∷ []) ≡ Refused 10 0)
+    × (decoded 4 2 (0x80 ∷ 0x12 ∷ 0x07 ∷ 0xFF ∷ 0xFF ∷ 0xFF ∷ 0xFF ∷ 0xFF ∷ []) ≡ Refused 11 0)
+    × (decoded 4 3 (0x85 ∷ 0x12 ∷ 0x07 ∷ 0xFF ∷ 0xFF ∷ 0xFF ∷ 0xFF ∷ 0xFF ∷ []) ≡ Refused 11 0)
+    × (decoded 4 1 (0x80 ∷ 0x09 ∷ 0xFF ∷ 0xFF ∷ 0xFF ∷ 0xFF ∷ 0xFF ∷ 0xFF ∷ []) ≡ Refused 23 0)
+    × (decoded 4 1 (0x85 ∷ 0x12 ∷ 0x03 ∷ 0xFF ∷ 0xFF ∷ 0xFF ∷ 0xFF ∷ 0xFF ∷ []) ≡ Refused 23 0)
+    × (decoded 4 1 (0x83 ∷ 0x12 ∷ 0x04 ∷ 0xFF ∷ 0xFF ∷ 0xFF ∷ 0xFF ∷ 0xFF ∷ 0xFF ∷ []) ≡ Refused 23 0)
+    × (decoded 4 1 (0x83 ∷ 0x12 ∷ 0x09 ∷ 0xFF ∷ 0xFF ∷ 0xFF ∷ 0xFF ∷ 0xFF ∷ 0xFF ∷ []) ≡ Refused 12 0)
+unfolding decoded judged refusalOf commandOf isKnown isGeneral listed namesPorts isPair isPort mayBeAll mayName holdsParameter hasGoodBody wrongEntry hasWrongMode
+parameters = (refl, refl, refl, refl, refl, refl, refl, refl, refl, refl, refl, refl, refl, refl)

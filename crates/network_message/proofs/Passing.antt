@@ -8,9 +8,9 @@ use borrow.Author.Tests.{ne-eqb, eqb-true, eqb-false}
 use lib.Dec.{eqb}
 use Rattle.entries.specs.Entries.{listed}
 use Rattle.network_message.specs.declared.Command.{Command}
-use Rattle.network_message.specs.declared.Command.the-variants.{Refused, Request, Add, Delete, Clear, Create, AddressList}
+use Rattle.network_message.specs.declared.Command.the-variants.{Refused, Request, Add, Delete, Clear, Create, AddressList, Parameter, Reset, PairParameter, PairReset}
 use Rattle.checks.specs.Checks.{acknowledges}
-use Rattle.network_message.specs.Decoding.{isKnown, namesPorts, mayName, entriesEnd, hasGoodBody, wrongEntry, payloadChecks, refusalOf, judged, commandOf, answered}
+use Rattle.network_message.specs.Decoding.{parameterOf, isKnown, namesPorts, mayName, holdsParameter, entriesEnd, hasGoodBody, wrongEntry, payloadChecks, refusalOf, judged, commandOf, answered}
 use Rattle.checks.proofs.FirstNumber.{first-in}
 
 -- ---- what a payload that is not refused has passed
@@ -18,6 +18,7 @@ pub record Passed (ports port function from to : ℕ) (payload : List ℕ) : Typ
   pub known : isKnown function ≡ true
   pub ported : namesPorts ports function from to ≡ true
   pub allowed : mayName ports port function from to ≡ true
+  pub held : holdsParameter function (parameterOf payload) ≡ true
   pub bodied : hasGoodBody function payload ≡ true
   pub entered : eqb (wrongEntry function payload) 0 ≡ true
 
@@ -37,9 +38,10 @@ module _ (ports port function from to : ℕ) (payload : List ℕ) where
       let a = next (isKnown function) 9 (omega arith) e in
       let b = next (namesPorts ports function from to) 10 (omega arith) (a .1) in
       let c = next (mayName ports port function from to) 11 (omega arith) (b .1) in
-      let d = next (hasGoodBody function payload) 12 (omega arith) (c .1) in
+      let p = next (holdsParameter function (parameterOf payload)) 23 (omega arith) (c .1) in
+      let d = next (hasGoodBody function payload) 12 (omega arith) (p .1) in
       let f = next (eqb (wrongEntry function payload) 0) 22 (omega arith) (d .1) in
-      record { known = a .0; ported = b .0; allowed = c .0; bodied = d .0; entered = f .0 }
+      record { known = a .0; ported = b .0; allowed = c .0; held = p .0; bodied = d .0; entered = f .0 }
 
   told : (refusalOf ports port function from to payload ≡ 0 → ⊥) → acknowledges (refusalOf ports port function from to payload) ≡ true
   unfolding refusalOf
@@ -53,12 +55,12 @@ module _ (ports port function from to : ℕ) (payload : List ℕ) where
       choose Q (eqb n 0) (λ e. command (passed (eqb-true n 0 e))) (λ e. refused n (judged ports port function from to payload .entry) (told (eqb-false n 0 e)))
 
 -- ---- a command, by its function
--- a known function that is none of the five is 64
-last-known : (function : ℕ) → isKnown function ≡ true → eqb function 0 ≡ false → eqb function 2 ≡ false → eqb function 3 ≡ false → eqb function 4 ≡ false → eqb function 6 ≡ false → function ≡ 64
+-- a known function that is none of the nine is 133
+last-known : (function : ℕ) → isKnown function ≡ true → eqb function 0 ≡ false → eqb function 2 ≡ false → eqb function 3 ≡ false → eqb function 4 ≡ false → eqb function 6 ≡ false → eqb function 64 ≡ false → eqb function 128 ≡ false → eqb function 130 ≡ false → eqb function 131 ≡ false → function ≡ 133
 unfolding isKnown listed
-last-known function known n0 n2 n3 n4 n6 =
-    let k = rw (turn 0 n0, turn 2 n2, turn 3 n3, turn 4 n4, turn 6 n6) at known in
-    sym (eqb-true 64 function (only (eqb 64 function) k))
+last-known function known n0 n2 n3 n4 n6 n64 n128 n130 n131 =
+    let k = rw (turn 0 n0, turn 2 n2, turn 3 n3, turn 4 n4, turn 6 n6, turn 64 n64, turn 128 n128, turn 130 n130, turn 131 n131) at known in
+    sym (eqb-true 133 function (only (eqb 133 function) k))
   where
     turn : (k : ℕ) → eqb function k ≡ false → eqb k function ≡ false
     turn k e = ne-eqb k function (λ s. eqb-false function k e (sym s))
@@ -67,12 +69,16 @@ last-known function known n0 n2 n3 n4 n6 =
     only true e = refl
     only false e = e
 
-pub by-function : (P : Command → Type 0) (function from to : ℕ) (payload : List ℕ) → isKnown function ≡ true → (function ≡ 0 → P (Request from to)) → (function ≡ 2 → P (Add from to 2 (entriesEnd 2 payload))) → (function ≡ 3 → P (Delete from to 2 (entriesEnd 2 payload))) → (function ≡ 4 → P (Clear from to)) → ((pass : Bool) → function ≡ 6 → P (Create from to pass 3 (entriesEnd 3 payload))) → (function ≡ 64 → P (AddressList to)) → P (commandOf function from to payload)
+pub by-function : (P : Command → Type 0) (function from to : ℕ) (payload : List ℕ) → isKnown function ≡ true → (function ≡ 0 → P (Request from to)) → (function ≡ 2 → P (Add from to 2 (entriesEnd 2 payload))) → (function ≡ 3 → P (Delete from to 2 (entriesEnd 2 payload))) → (function ≡ 4 → P (Clear from to)) → ((pass : Bool) → function ≡ 6 → P (Create from to pass 3 (entriesEnd 3 payload))) → (function ≡ 64 → P (AddressList to)) → (function ≡ 128 → P (Parameter (parameterOf payload))) → (function ≡ 130 → P Reset) → (function ≡ 131 → P (PairParameter from to (parameterOf payload))) → (function ≡ 133 → P (PairReset from to)) → P (commandOf function from to payload)
 unfolding commandOf
-by-function P function from to payload known request add delete clear create list =
+by-function P function from to payload known request add delete clear create list parameter reset pair-parameter pair-reset =
     choose P (eqb function 0) (λ e. request (eqb-true function 0 e))
     (λ n0. choose P (eqb function 2) (λ e. add (eqb-true function 2 e))
     (λ n2. choose P (eqb function 3) (λ e. delete (eqb-true function 3 e))
     (λ n3. choose P (eqb function 4) (λ e. clear (eqb-true function 4 e))
     (λ n4. choose P (eqb function 6) (λ e. create _ (eqb-true function 6 e))
-    (λ n6. list (last-known function known n0 n2 n3 n4 n6))))))
+    (λ n6. choose P (eqb function 64) (λ e. list (eqb-true function 64 e))
+    (λ n64. choose P (eqb function 128) (λ e. parameter (eqb-true function 128 e))
+    (λ n128. choose P (eqb function 130) (λ e. reset (eqb-true function 130 e))
+    (λ n130. choose P (eqb function 131) (λ e. pair-parameter (eqb-true function 131 e))
+    (λ n131. pair-reset (last-known function known n0 n2 n3 n4 n6 n64 n128 n130 n131))))))))))

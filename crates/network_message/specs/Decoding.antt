@@ -1,6 +1,6 @@
--- Document 01, "Network messages", and its numbers 9 to 13 and 22: what a payload says. All is over the number of ports; ports are counted from 1 here, as on the wire.
+-- Document 01, "Network messages", and its numbers 9 to 13, 22 and 23: what a payload says. All is over the number of ports; ports are counted from 1 here, as on the wire.
 -- Assumes nothing.
-use mathlib.Core.Bool.{Bool, cond, not, _&&_, _||_}
+use mathlib.Core.Bool.{Bool, true, cond, not, _&&_, _||_}
 use mathlib.Core.List.{List, [], _∷_}
 use Prim.Native.Nat.{ℕ, _+_, _-_, _/_, _%_}
 use lib.ListN.{length, getD, take, drop}
@@ -8,7 +8,7 @@ use lib.Dec.{ltb, eqb}
 use Rattle.entries.specs.Entries.{listed, every, entriesOf, whole, firstWrong}
 use Rattle.network_message.specs.declared.Command.{Command}
 use Rattle.network_message.specs.declared.judging.Judged.{Judged}
-use Rattle.network_message.specs.declared.Command.the-variants.{Refused, Request, Add, Delete, Clear, Create, AddressList}
+use Rattle.network_message.specs.declared.Command.the-variants.{Refused, Request, Add, Delete, Clear, Create, AddressList, Parameter, Reset, PairParameter, PairReset}
 use Rattle.checks.specs.Checks.{Check, check, first}
 use Rattle.checks.specs.Ports.{isPort}
 
@@ -30,10 +30,19 @@ fromOf pair = pair / 16
 abbrev pub toOf : ℕ → ℕ
 toOf pair = pair % 16
 
+-- byte 3 of a parameter's function (document 02, ticket 8); bytes 4 to 8 are not read
+abbrev pub parameterOf : List ℕ → ℕ
+parameterOf payload = getD payload 2 0
+
 -- ---- 9: function not listed
--- 0 Request, 2 Add, 3 Delete, 4 Clear, 6 Create, 64 the address list
+-- 0 Request, 2 Add, 3 Delete, 4 Clear, 6 Create, 64 the address list; document 02, ticket 8: 128 the general request for a parameter, 130 the general reset,
+-- 131 and 133 a pair's; "a reply sent to us gets 9": 129 and 132 are not listed
 unfoldable pub isKnown : ℕ → Bool
-isKnown function = listed function (0 ∷ 2 ∷ 3 ∷ 4 ∷ 6 ∷ 64 ∷ [])
+isKnown function = listed function (0 ∷ 2 ∷ 3 ∷ 4 ∷ 6 ∷ 64 ∷ 128 ∷ 130 ∷ 131 ∷ 133 ∷ [])
+
+-- the general functions, of the unit as a whole
+unfoldable pub isGeneral : ℕ → Bool
+isGeneral function = listed function (128 ∷ 130 ∷ [])
 
 -- ---- 10: port outside 1 to the number of ports (and 15 as allowed), or From equals To
 -- "To may be 15, all pairs from that port, in functions 2, 3, 4 and 6"
@@ -47,16 +56,30 @@ unfoldable pub isPair : ℕ → ℕ → ℕ → ℕ → Bool
 isPair ports function from to =
     isPort ports from && ((isPort ports to || (eqb to allPorts && mayBeAll function)) && not (eqb from to))
 
--- 64: "port in the lower half of byte 2, upper half ignored"
+-- 64: "port in the lower half of byte 2, upper half ignored"; "pair byte (general: ignored ..)"
 unfoldable pub namesPorts : ℕ → ℕ → ℕ → ℕ → Bool
-namesPorts ports function from to = cond (eqb function 64) (isPort ports to) (isPair ports function from to)
+namesPorts ports function from to =
+    isGeneral function || cond (eqb function 64) (isPort ports to) (isPair ports function from to)
 
 -- ---- 11: pair or port not this tool's
 -- "A tool on port 1 may name any pair or port. On port p of 2 to 4, every named pair must have p as From or To, and 64 must name p."
 -- All pairs from another port are the tool's where that is one pair, in a unit of two ports (`right-exact` of the proofs).
+-- "The general functions are port 1's alone"
 unfoldable pub mayName : ℕ → ℕ → ℕ → ℕ → ℕ → Bool
 mayName ports port function from to =
-    eqb port 1 || (eqb to port || (not (eqb function 64) && (eqb from port || (eqb to allPorts && eqb ports 2))))
+    eqb port 1
+    || (not (isGeneral function) && (eqb to port || (not (eqb function 64) && (eqb from port || (eqb to allPorts && eqb ports 2)))))
+
+-- ---- 23 (document 02, ticket 8): parameter not held, or a reset of one other than 9
+-- 1 buffer size, 2 list size, 3 entries, 9 messages lost to a full buffer
+abbrev pub isHeld : ℕ → Bool
+isHeld parameter = listed parameter (1 ∷ 2 ∷ 3 ∷ 9 ∷ [])
+
+unfoldable pub holdsParameter : ℕ → ℕ → Bool
+holdsParameter function parameter =
+    cond (listed function (128 ∷ 131 ∷ [])) (isHeld parameter)
+    (cond (listed function (130 ∷ 133 ∷ [])) (eqb parameter 9)
+    true)
 
 -- ---- 12: body wrong: length or filling
 -- "entries from byte 3", in Create "from byte 4"; bytes are counted from 0 here
@@ -100,6 +123,7 @@ payloadChecks ports port function from to payload =
     check (not (isKnown function)) 9
     ∷ check (not (namesPorts ports function from to)) 10
     ∷ check (not (mayName ports port function from to)) 11
+    ∷ check (not (holdsParameter function (parameterOf payload))) 23
     ∷ check (not (hasGoodBody function payload)) 12
     ∷ check (not (eqb (wrongEntry function payload) 0)) 22
     ∷ check (hasWrongMode function payload) 13
@@ -115,7 +139,11 @@ commandOf function from to payload =
     (cond (eqb function 3) (Delete from to 2 (entriesEnd 2 payload))
     (cond (eqb function 4) (Clear from to)
     (cond (eqb function 6) (Create from to (eqb (getD payload 2 0) 1) 3 (entriesEnd 3 payload))
-    (AddressList to)))))
+    (cond (eqb function 64) (AddressList to)
+    (cond (eqb function 128) (Parameter (parameterOf payload))
+    (cond (eqb function 130) Reset
+    (cond (eqb function 131) (PairParameter from to (parameterOf payload))
+    (PairReset from to)))))))))
 
 -- what a payload is judged: the number that refuses it, and with 22 which entry
 unfoldable pub judged : ℕ → ℕ → ℕ → ℕ → ℕ → List ℕ → Judged

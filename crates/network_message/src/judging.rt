@@ -1,14 +1,24 @@
-// Judging a payload: the checks 9 to 13 and 22, from the payload and the port alone.
+// Judging a payload: the checks 9 to 13, 22 and 23, from the payload and the port alone.
 use crate::ADD;
 use crate::ADDRESS_LIST;
+use crate::BUFFER_SIZE;
 use crate::CLEAR;
 use crate::CREATE;
 use crate::DELETE;
+use crate::ENTRIES;
+use crate::LIST_SIZE;
+use crate::LOST;
+use crate::PAIR_PARAMETER;
+use crate::PAIR_RESET;
+use crate::PARAMETER;
 use crate::REQUEST;
+use crate::RESET;
 ghost use mathlib.Core.Path.{_≡_};
+ghost use mathlib.Core.Bool.{_&&_, _||_};
 ghost use Prim.Native.Nat.{_≤_};
 ghost use lib.ListN.{length};
-ghost use Rattle.network_message.specs.Decoding.{isKnown, mayBeAll, isPair, namesPorts, mayName, isFilling, entriesEnd, holdsEntries, hasGoodBody, wrongIn, wrongEntry, hasWrongMode, judged};
+ghost use lib.Dec.{eqb};
+ghost use Rattle.network_message.specs.Decoding.{isKnown, allPorts, mayBeAll, isPair, namesPorts, mayName, isHeld, holdsParameter, isFilling, entriesEnd, holdsEntries, hasGoodBody, wrongIn, wrongEntry, hasWrongMode, judged};
 
 // To 15: all pairs from a port.
 const ALL_PORTS: u32 = 15;
@@ -20,7 +30,16 @@ fn is_known(function: u8) -> bool
     ensures { λ r. ⌜ r ≡ isKnown function ⌝ }
 {
     match function {
-        REQUEST | ADD | DELETE | CLEAR | CREATE | ADDRESS_LIST => true,
+        REQUEST
+        | ADD
+        | DELETE
+        | CLEAR
+        | CREATE
+        | ADDRESS_LIST
+        | PARAMETER
+        | RESET
+        | PAIR_PARAMETER
+        | PAIR_RESET => true,
         _ => false,
     }
 }
@@ -52,29 +71,24 @@ fn is_pair(ports: u32, function: u8, from: u32, to: u32) -> bool
     false
 }
 
-// 10: whether a pair, or for the address list a port, is named.
+// 10: whether a pair, or for the address list a port, is named; the general functions name none.
 fn names_ports(ports: u32, function: u8, from: u32, to: u32) -> bool
     requires { ⌜ ports ≤ 8 ⌝ }
     ensures { λ r. ⌜ r ≡ namesPorts ports function from to ⌝ }
 {
-    if function == ADDRESS_LIST {
-        return checks::is_port(ports, to);
+    match function {
+        PARAMETER | RESET => true,
+        ADDRESS_LIST => checks::is_port(ports, to),
+        _ => is_pair(ports, function, from, to),
     }
-    is_pair(ports, function, from, to)
 }
 
-// 11: whether a tool on a port may name that pair or port.
-fn may_name(ports: u32, port: u32, function: u8, from: u32, to: u32) -> bool
-    ensures { λ r. ⌜ r ≡ mayName ports port function from to ⌝ }
+// Whether every named pair has a port as From or To.
+fn all_touch(ports: u32, port: u32, from: u32, to: u32) -> bool
+    ensures { λ r. ⌜ r ≡ (eqb to port || (eqb from port || (eqb to allPorts && eqb ports 2))) ⌝ }
 {
-    if port == 1 {
-        return true;
-    }
     if to == port {
         return true;
-    }
-    if function == ADDRESS_LIST {
-        return false;
     }
     if from == port {
         return true;
@@ -83,6 +97,41 @@ fn may_name(ports: u32, port: u32, function: u8, from: u32, to: u32) -> bool
         return ports == 2;
     }
     false
+}
+
+// 11: whether a tool on a port may name that pair or port, or the unit as a whole.
+fn may_name(ports: u32, port: u32, function: u8, from: u32, to: u32) -> bool
+    ensures { λ r. ⌜ r ≡ mayName ports port function from to ⌝ }
+{
+    if port == 1 {
+        return true;
+    }
+    match function {
+        PARAMETER | RESET => false,
+        ADDRESS_LIST => to == port,
+        _ => all_touch(ports, port, from, to),
+    }
+}
+
+// Whether a parameter is held.
+fn is_held(parameter: u32) -> bool
+    ensures { λ r. ⌜ r ≡ isHeld parameter ⌝ }
+{
+    match parameter {
+        BUFFER_SIZE | LIST_SIZE | ENTRIES | LOST => true,
+        _ => false,
+    }
+}
+
+// 23: whether the parameter that is asked for is held, or the one that is reset is the messages lost.
+fn holds_parameter(function: u8, parameter: u32) -> bool
+    ensures { λ r. ⌜ r ≡ holdsParameter function parameter ⌝ }
+{
+    match function {
+        PARAMETER | PAIR_PARAMETER => is_held(parameter),
+        RESET | PAIR_RESET => parameter == LOST,
+        _ => true,
+    }
 }
 
 // Whether all bytes are filling.
@@ -194,6 +243,9 @@ pub fn judge(ports: u32, port: u32, function: u8, from: u32, to: u32, payload: &
     }
     if !may_name(ports, port, function, from, to) {
         return number_alone(11);
+    }
+    if !holds_parameter(function, crate::parameter_of(payload)) {
+        return number_alone(23);
     }
     if !has_good_body(function, payload) {
         return number_alone(12);

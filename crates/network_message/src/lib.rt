@@ -4,7 +4,7 @@ mod judging;
 ghost use mathlib.Core.Path.{_≡_};
 ghost use Prim.Native.Nat.{_≤_};
 ghost use lib.ListN.{length};
-ghost use Rattle.network_message.specs.Decoding.{functionOf, fromOf, toOf, wrongEntry, commandOf, decoded};
+ghost use Rattle.network_message.specs.Decoding.{functionOf, fromOf, toOf, parameterOf, wrongEntry, commandOf, decoded};
 
 // The functions.
 pub const REQUEST: u8 = 0;
@@ -18,6 +18,23 @@ pub const CLEAR: u8 = 4;
 pub const CREATE: u8 = 6;
 
 pub const ADDRESS_LIST: u8 = 64;
+
+pub const PARAMETER: u8 = 128;
+
+pub const RESET: u8 = 130;
+
+pub const PAIR_PARAMETER: u8 = 131;
+
+pub const PAIR_RESET: u8 = 133;
+
+// The parameters.
+pub const BUFFER_SIZE: u32 = 1;
+
+pub const LIST_SIZE: u32 = 2;
+
+pub const ENTRIES: u32 = 3;
+
+pub const LOST: u32 = 9;
 
 // What a payload asks, or the number that refuses it, with 22 the first wrong entry's number from 1, else 0. A `to` of 15 is all pairs from that port. Entries are the payload's bytes from `start` up to `end`.
 pub enum Command {
@@ -55,6 +72,19 @@ pub enum Command {
     AddressList {
         port: u32,
     },
+    Parameter {
+        parameter: u32,
+    },
+    Reset,
+    PairParameter {
+        from: u32,
+        to: u32,
+        parameter: u32,
+    },
+    PairReset {
+        from: u32,
+        to: u32,
+    },
 }
 
 // The upper half of the pair byte.
@@ -69,6 +99,14 @@ fn to_port(pair: u8) -> u32
     ensures { λ r. ⌜ r ≡ toOf pair ⌝ }
 {
     (pair % 16) as u32
+}
+
+// The parameter's byte.
+fn parameter_of(payload: &[u8]) -> u32
+    requires { ⌜ 8 ≤ length (now payload) ⌝ }
+    ensures { λ r. ⌜ r ≡ parameterOf (now (payload .entry)) ⌝ }
+{
+    payload[2] as u32
 }
 
 // The command of a payload that is not refused.
@@ -98,7 +136,17 @@ fn command_of(function: u8, from: u32, to: u32, payload: &[u8]) -> Command
             start: 3,
             end: judging::entries_end(3, payload),
         },
-        _ => Command::AddressList { port: to },
+        ADDRESS_LIST => Command::AddressList { port: to },
+        PARAMETER => Command::Parameter {
+            parameter: parameter_of(payload),
+        },
+        RESET => Command::Reset,
+        PAIR_PARAMETER => Command::PairParameter {
+            from,
+            to,
+            parameter: parameter_of(payload),
+        },
+        _ => Command::PairReset { from, to },
     }
 }
 

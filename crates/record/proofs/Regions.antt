@@ -1,10 +1,12 @@
 -- The record's regions: what a part that is read means in the model, and what a part that was lent and came back does to it. Assumes nothing.
-use mathlib.Core.Path.{_≡_, sym, ap, _∙_}
+use mathlib.Core.Path.{_≡_, refl, sym, ap, _∙_}
 use mathlib.Core.Logic.{_⊎_, inl, inr, ⊎-elim}
-use mathlib.Core.Bool.{Bool}
+use mathlib.Core.Bool.{Bool, true, false}
 use mathlib.Core.List.{List, []}
 use Prim.Native.Nat.{ℕ, _+_, _*_, _≤_, _<_}
 use native.Mathlib.Omega.{arith}
+use borrow.Author.Tests.{ltb-true, ltb-false}
+use lib.Dec.{ltb}
 use lib.ListN.{length, getD, set, take, drop}
 use lib.Seq.{getD-take, getD-drop}
 use Rattle.storage.specs.Blocks.{blockAt}
@@ -15,13 +17,14 @@ use Rattle.filter.specs.Filter.{Filter, filterOf, clear, Asking}
 use Rattle.queue.specs.declared.Frame.{Frame}
 use Rattle.queue.specs.declared.Taken.{Taken}
 use Rattle.queue.specs.Queue.{rowOf, Queued, queueOf, idle, Joining, Taking}
+use Rattle.losses.specs.Losses.{counterLength, lossesOf}
 use Rattle.addresses.specs.declared.Place.{Place}
 use Rattle.address_claims.specs.declared.Event.{Event}
 use Rattle.addresses.specs.Table.{tableOf}
 use Rattle.unit.specs.Count.{pairCount}
-use Rattle.unit.specs.Model.{modelOf, tableFrom, rowsFrom, pairsFrom, recordLength, pairAt, queueOn, rowAt, withQueue, withRest, withPairs, withTable}
+use Rattle.unit.specs.Model.{modelOf, tableFrom, rowsFrom, pairsFrom, lossesFrom, recordLength, pairAt, queueOn, rowAt, withQueue, withRest, withPairs, withTable, withLosses}
 use Rattle.filter_commands.specs.Steps.{BlockChanging}
-use Rattle.record.specs.Steps.{PairChanging, PairAsking, RowJoining, RowTaking, TableChanging, TableClaiming}
+use Rattle.record.specs.Steps.{PairChanging, PairAsking, RowJoining, RowTaking, LossesChanging, TableChanging, TableClaiming}
 use Rattle.filter.specs.Filter.{blockSize as filterLength}
 use Rattle.addresses.specs.Table.{tableLength}
 use Rattle.queue.specs.Queue.{blockLength as queueLength}
@@ -58,6 +61,7 @@ module _ (words : List ℕ) (q : ℕ) (inside : rowsFrom + queueLength * q + que
         rw (
           part-before (rowsFrom + queueLength * q) queueLength words ys long (omega arith) 0 5 (omega arith),
           blocks-apart (rowsFrom + queueLength * q) queueLength words ys long (omega arith) filterOf filterLength (pairsFrom ports) (pairCount ports) (inr (omega arith)),
+          blocks-apart (rowsFrom + queueLength * q) queueLength words ys long (omega arith) lossesOf counterLength (lossesFrom ports) (pairCount ports + 1) (inr (omega arith)),
           blocks-set rowsFrom queueLength words ys q long (omega arith) queueOf ports port,
           part-apart (rowsFrom + queueLength * q) queueLength words ys long (omega arith) tableFrom tableLength (inl (omega arith)),
         )
@@ -82,8 +86,29 @@ pair-lent ports words ys i full pair long =
       part-before (pairsFrom ports + filterLength * i) filterLength words ys long (omega arith) 0 5 (omega arith),
       blocks-set (pairsFrom ports) filterLength words ys i long (omega arith) filterOf (pairCount ports) pair,
       blocks-apart (pairsFrom ports + filterLength * i) filterLength words ys long (omega arith) queueOf queueLength rowsFrom ports (inl (omega arith)),
+      blocks-apart (pairsFrom ports + filterLength * i) filterLength words ys long (omega arith) lossesOf counterLength (lossesFrom ports) (pairCount ports + 1) (inr (omega arith)),
       part-apart (pairsFrom ports + filterLength * i) filterLength words ys long (omega arith) tableFrom tableLength (inl (omega arith)),
     )
+
+counter-lent : (ports : ℕ) (words ys : List ℕ) (i : ℕ) → length words ≡ recordLength ports → i ≤ pairCount ports → length ys ≡ counterLength
+    → modelOf ports (back (lossesFrom ports + counterLength * i) counterLength words ys) ≡ withLosses (modelOf ports words) (set (modelOf ports words .seen .losses) i (lossesOf ys))
+unfolding modelOf
+counter-lent ports words ys i full counter long =
+    rw (
+      part-before (lossesFrom ports + counterLength * i) counterLength words ys long (omega arith) 0 5 (omega arith),
+      blocks-apart (lossesFrom ports + counterLength * i) counterLength words ys long (omega arith) filterOf filterLength (pairsFrom ports) (pairCount ports) (inl (omega arith)),
+      blocks-apart (lossesFrom ports + counterLength * i) counterLength words ys long (omega arith) queueOf queueLength rowsFrom ports (inl (omega arith)),
+      blocks-set (lossesFrom ports) counterLength words ys i long (omega arith) lossesOf (pairCount ports + 1) (omega arith),
+      part-apart (lossesFrom ports + counterLength * i) counterLength words ys long (omega arith) tableFrom tableLength (inl (omega arith)),
+    )
+
+-- another word lies before this one or behind it
+apart : (n k : ℕ) → (n ≡ k → ⊥) → (n < k) ⊎ (k + 1 ≤ n)
+apart n k ne = go (ltb n k) refl
+  where
+    go : (b : Bool) → ltb n k ≡ b → (n < k) ⊎ (k + 1 ≤ n)
+    go true e = inl (ltb-true n k e)
+    go false e = inr (omega (arith, ltb-false n k e, ne))
 
 pub pair-asked : (ports : ℕ) (words : List ℕ) (p q pgn i : ℕ) (r : Asked) → i ≡ pairAt ports p q → i < pairCount ports → Asking (take filterLength (drop (pairsFrom ports + filterLength * i) words)) pgn r
     → PairAsking ports words p q pgn r
@@ -108,6 +133,25 @@ module _ (ports : ℕ) (words : List ℕ) (i : ℕ) (full : length words ≡ rec
       pair-back : modelOf ports (back (pairsFrom ports + filterLength * i) filterLength words ys) ≡ withRest (modelOf ports words) (withPairs (modelOf ports words .rest) (set (modelOf ports words .rest .pairs) i (filterOf ys)))
       pair-back = pair-lent ports words ys i full pair long
 
+-- ---- a counter of losses
+module _ (ports : ℕ) (words : List ℕ) (i : ℕ) (full : length words ≡ recordLength ports) (counter : i ≤ pairCount ports) where
+  pub losses-of : getD (modelOf ports words .seen .losses) i 0 ≡ lossesOf (take counterLength (drop (lossesFrom ports + counterLength * i) words))
+  unfolding modelOf blockAt
+  losses-of = blocks-at lossesOf counterLength (lossesFrom ports) (pairCount ports + 1) words i 0 (omega arith)
+
+  pub losses-changed : (ys : List ℕ) (change : ℕ → ℕ) → length ys ≡ counterLength → lossesOf ys ≡ change (lossesOf (take counterLength (drop (lossesFrom ports + counterLength * i) words)))
+      → LossesChanging ports words (back (lossesFrom ports + counterLength * i) counterLength words ys) i change
+  losses-changed ys change long e = record {
+    state = counter-back ∙ rw (e, losses-of);
+    others = λ n ne. word-apart (lossesFrom ports + counterLength * i) counterLength words ys long (omega arith) n (either n ne);
+  }
+    where
+      counter-back : modelOf ports (back (lossesFrom ports + counterLength * i) counterLength words ys) ≡ withLosses (modelOf ports words) (set (modelOf ports words .seen .losses) i (lossesOf ys))
+      counter-back = counter-lent ports words ys i full counter long
+
+      either : (n : ℕ) → (n ≡ lossesFrom ports + i → ⊥) → (n < lossesFrom ports + counterLength * i) ⊎ (lossesFrom ports + counterLength * i + counterLength ≤ n)
+      either n ne = apart n (lossesFrom ports + counterLength * i) (λ e. ne (omega arith))
+
 -- ---- the address table
 module _ (words ys : List ℕ) (inside : rowsFrom ≤ length words) (long : length ys ≡ tableLength) (ports : ℕ) where
   pub table-back : modelOf ports (back tableFrom tableLength words ys) ≡ withRest (modelOf ports words) (withTable (modelOf ports words .rest) (tableOf ys))
@@ -117,6 +161,7 @@ module _ (words ys : List ℕ) (inside : rowsFrom ≤ length words) (long : leng
         part-before tableFrom tableLength words ys long (omega arith) 0 5 (omega arith),
         blocks-apart tableFrom tableLength words ys long (omega arith) filterOf filterLength (pairsFrom ports) (pairCount ports) (inr (omega arith)),
         blocks-apart tableFrom tableLength words ys long (omega arith) queueOf queueLength rowsFrom ports (inr (omega arith)),
+        blocks-apart tableFrom tableLength words ys long (omega arith) lossesOf counterLength (lossesFrom ports) (pairCount ports + 1) (inr (omega arith)),
         part-in tableFrom tableLength words ys long (omega arith),
       )
 

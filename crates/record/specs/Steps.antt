@@ -15,7 +15,7 @@ use Rattle.queue.specs.declared.Taken.{Taken}
 use Rattle.queue.specs.Queue.{size, priority, takenOf, joined, taking, blockLength as queueLength}
 use Rattle.addresses.specs.declared.Place.{Place}
 use Rattle.address_claims.specs.declared.Event.{Event}
-use Rattle.unit.specs.Model.{queueOn, rowAt, pairAt, withRest, withPairs, withTable, withQueue, pairsFrom, rowsFrom, modelOf}
+use Rattle.unit.specs.Model.{queueOn, rowAt, pairAt, withRest, withPairs, withTable, withQueue, withLosses, pairsFrom, rowsFrom, lossesFrom, modelOf}
 
 -- the address table was changed, and what came of a claim there
 pub record TableChanging (ports : ℕ) (before after : List ℕ) (change : List Place → List Place) : Type 0 where
@@ -35,6 +35,11 @@ pub record PairChanging (ports : ℕ) (before after : List ℕ) (i : ℕ) (chang
   pub state : modelOf ports after
       ≡ withRest (modelOf ports before) (withPairs (modelOf ports before .rest) (set (modelOf ports before .rest .pairs) i (change (getD (modelOf ports before .rest .pairs) i clear))))
   pub others : (n : ℕ) → (n < pairsFrom ports + filterLength * i) ⊎ (pairsFrom ports + filterLength * i + filterLength ≤ n) → getD after n 0 ≡ getD before n 0
+
+-- a counter of losses was changed, and no other word
+pub record LossesChanging (ports : ℕ) (before after : List ℕ) (i : ℕ) (change : ℕ → ℕ) : Type 0 where
+  pub state : modelOf ports after ≡ withLosses (modelOf ports before) (set (modelOf ports before .seen .losses) i (change (getD (modelOf ports before .seen .losses) i 0)))
+  pub others : (n : ℕ) → (n ≡ lossesFrom ports + i → ⊥) → getD after n 0 ≡ getD before n 0
 
 -- a frame was sent to port q
 pub record RowJoining (ports : ℕ) (before after : List ℕ) (q : ℕ) (f : Frame) (r : Bool) : Type 0 where

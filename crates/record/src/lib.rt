@@ -15,12 +15,14 @@ ghost use Rattle.address_claims.specs.Claims.{claimed, claimEvent, withdrawn, w
 ghost use Rattle.filter.specs.Filter.{clear, blockSize as filterLength};
 ghost use Rattle.entries.specs.Entries.{listed, entriesOf};
 ghost use Rattle.network_message.specs.Decoding.{longest};
+ghost use Rattle.pgn_list.specs.PgnList.{listSize};
 ghost use Rattle.queue.specs.Queue.{blockLength as queueLength};
+ghost use Rattle.losses.specs.Losses.{most, oneMore, counterLength};
 ghost use Rattle.replies.specs.Replies.{listReply, addressReply, Writing};
 ghost use Rattle.filter_commands.specs.Pairs.{holdsOf, changeOf};
 ghost use Rattle.unit.specs.Count.{pairCount};
-ghost use Rattle.unit.specs.Model.{modelOf, queueOn, recordLength, rowsFrom, pairsFrom, pairAt};
-ghost use Rattle.record.specs.Steps.{PairChanging, PairAsking, RowJoining, RowTaking, TableChanging, TableClaiming};
+ghost use Rattle.unit.specs.Model.{modelOf, queueOn, recordLength, rowsFrom, pairsFrom, lossesFrom, pairAt, generalAt};
+ghost use Rattle.record.specs.Steps.{PairChanging, PairAsking, RowJoining, RowTaking, LossesChanging, TableChanging, TableClaiming};
 
 // The place of a port's first pair among the pairs.
 fn first_pair(ports: usize, from: usize) -> usize
@@ -31,7 +33,7 @@ fn first_pair(ports: usize, from: usize) -> usize
 }
 
 // The place of a pair among the pairs.
-fn pair_at(ports: usize, from: usize, to: usize) -> usize
+pub fn pair_at(ports: usize, from: usize, to: usize) -> usize
     requires { ⌜ (ports ≤ 8) × (from < ports) × (to < ports) × (from ≡ to → ⊥) ⌝ }
     ensures { λ r. ⌜ (r ≡ pairAt ports from to) × (r < pairCount ports) ⌝ }
 {
@@ -48,6 +50,23 @@ fn filter_at(ports: usize, i: usize) -> usize
     ensures { λ r. ⌜ r ≡ pairsFrom ports + filterLength * i ⌝ }
 {
     Unit::QUEUES_AT + queue::BLOCK_LENGTH * ports + filter::BLOCK_SIZE * i
+}
+
+// The place of the general counter of losses among the counters: behind those of the pairs.
+pub fn general_at(ports: usize) -> usize
+    requires { ⌜ (1 ≤ ports) × (ports ≤ 8) ⌝ }
+    ensures { λ r. ⌜ r ≡ generalAt ports ⌝ }
+{
+    ports * (ports - 1)
+}
+
+// Where counter i of losses lies.
+fn counter_at(ports: usize, i: usize) -> usize
+    requires { ⌜ (1 ≤ ports) × (ports ≤ 8) × (i ≤ pairCount ports) ⌝ }
+    ensures { λ r. ⌜ r ≡ lossesFrom ports + counterLength * i ⌝ }
+{
+    let pairs = general_at(ports);
+    filter_at(ports, pairs) + losses::COUNTER_LENGTH * i
 }
 
 // Where the filters of the pairs from a port begin: they stand side by side, in order of the ports that the pairs lead to.
@@ -136,6 +155,46 @@ pub fn counts_at(words: &[u64], q: usize) -> Tally
     let a = Unit::QUEUES_AT + queue::BLOCK_LENGTH * q;
     let e = a + queue::BLOCK_LENGTH;
     queue::counts(&words[a..e])
+}
+
+// One more loss is counted.
+pub fn count_loss(words: &mut [u64], ports: usize, i: usize)
+    requires { ⌜ (1 ≤ ports) × (ports ≤ 8) × (length (now words) ≡ recordLength ports) × (i ≤ pairCount ports) ⌝ }
+    ensures { λ _. ⌜ LossesChanging ports (now (words .entry)) (now (words .exit)) i oneMore ⌝ }
+{
+    let a = counter_at(ports, i);
+    let e = a + losses::COUNTER_LENGTH;
+    losses::count(&mut words[a..e]);
+}
+
+// A counter of losses begins anew.
+pub fn reset_losses(words: &mut [u64], ports: usize, i: usize)
+    requires { ⌜ (1 ≤ ports) × (ports ≤ 8) × (length (now words) ≡ recordLength ports) × (i ≤ pairCount ports) ⌝ }
+    ensures { λ _. ⌜ LossesChanging ports (now (words .entry)) (now (words .exit)) i (λ n. 0) ⌝ }
+{
+    let a = counter_at(ports, i);
+    let e = a + losses::COUNTER_LENGTH;
+    losses::reset(&mut words[a..e]);
+}
+
+// The losses that are counted.
+pub fn losses_at(words: &[u64], ports: usize, i: usize) -> u32
+    requires { ⌜ (1 ≤ ports) × (ports ≤ 8) × (length (now words) ≡ recordLength ports) × (i ≤ pairCount ports) ⌝ }
+    ensures { λ r. ⌜ (r ≡ getD (modelOf ports (now (words .entry)) .seen .losses) i 0) × (r ≤ most) ⌝ }
+{
+    let a = counter_at(ports, i);
+    let e = a + losses::COUNTER_LENGTH;
+    losses::counted(&words[a..e])
+}
+
+// How many PGNs the list of pair i holds.
+pub fn entries_of(words: &[u64], ports: usize, i: usize) -> u32
+    requires { ⌜ (ports ≤ 8) × (length (now words) ≡ recordLength ports) × (i < pairCount ports) ⌝ }
+    ensures { λ r. ⌜ (r ≡ length (getD (modelOf ports (now (words .entry)) .rest .pairs) i clear .entries)) × (r ≤ listSize) ⌝ }
+{
+    let a = filter_at(ports, i);
+    let e = a + filter::BLOCK_SIZE;
+    filter::count(&words[a..e]) as u32
 }
 
 // Who holds an address.

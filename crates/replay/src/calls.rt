@@ -24,7 +24,10 @@ ghost use Prim.Native.Nat.{_≤_};
 ghost use lib.ListN.{length};
 
 // How many words the record of the largest unit takes, one of eight ports.
-pub const MOST_WORDS: usize = Unit::QUEUES_AT + queue::BLOCK_LENGTH * 8 + filter::BLOCK_SIZE * 56;
+pub const MOST_WORDS: usize = Unit::QUEUES_AT
+    + queue::BLOCK_LENGTH * 8
+    + filter::BLOCK_SIZE * 56
+    + losses::COUNTER_LENGTH * 57;
 
 // A line that is no call, or a call without a unit: its number and why.
 fn no_call(counts: &mut [u64], why: Wrong, out: &mut [u8]) -> usize

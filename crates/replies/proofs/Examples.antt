@@ -1,10 +1,10 @@
--- What is written for document 01's payloads P5 to P9, the reply of J1939-31's Figure 8, and that of a cleared pair, computed. Assumes nothing.
+-- What is written for document 01's payloads P5 to P9, the reply of J1939-31's Figure 8, that of a cleared pair, and parameters, computed. Assumes nothing.
 use mathlib.Core.Path.{_≡_, refl}
 use mathlib.Core.List.{[], _∷_}
 use Rattle.storage.specs.Bytes.{bytesOf}
 use Rattle.entries.specs.Entries.{reported}
 use Rattle.filter.specs.Filter.{pass, block, clear, reportedMode}
-use Rattle.replies.specs.Replies.{controlOf, acknowledgment, filled, listBody, listReply}
+use Rattle.replies.specs.Replies.{controlOf, acknowledgment, filled, listBody, listReply, parameterReply}
 
 acknowledgments :
     (acknowledgment (controlOf 0) 0x06 0x21 ≡ 0x00 ∷ 0x06 ∷ 0xFF ∷ 0xFF ∷ 0x21 ∷ 0x00 ∷ 0xED ∷ 0x00 ∷ [])
@@ -19,3 +19,14 @@ lists :
     × (listReply 0x12 clear ≡ 0x01 ∷ 0x12 ∷ 0x00 ∷ 0xFF ∷ 0xFF ∷ 0xFF ∷ 0xFF ∷ 0xFF ∷ [])
 unfolding listReply filled listBody reportedMode reported bytesOf
 lists = (refl, refl, refl)
+
+-- document 02, ticket 8: 1,664 and 1,152 in general, 416 and 96 for a pair, and 64,255
+parameters :
+    (parameterReply 0x81 0xFF 1 1664 ≡ 0x81 ∷ 0xFF ∷ 0x01 ∷ 0x80 ∷ 0x06 ∷ 0xFF ∷ 0xFF ∷ 0xFF ∷ [])
+    × (parameterReply 0x81 0xFF 2 1152 ≡ 0x81 ∷ 0xFF ∷ 0x02 ∷ 0x80 ∷ 0x04 ∷ 0xFF ∷ 0xFF ∷ 0xFF ∷ [])
+    × (parameterReply 0x84 0x12 1 416 ≡ 0x84 ∷ 0x12 ∷ 0x01 ∷ 0xA0 ∷ 0x01 ∷ 0xFF ∷ 0xFF ∷ 0xFF ∷ [])
+    × (parameterReply 0x84 0x12 2 96 ≡ 0x84 ∷ 0x12 ∷ 0x02 ∷ 0x60 ∷ 0x00 ∷ 0xFF ∷ 0xFF ∷ 0xFF ∷ [])
+    × (parameterReply 0x84 0x12 9 64255 ≡ 0x84 ∷ 0x12 ∷ 0x09 ∷ 0xFF ∷ 0xFA ∷ 0xFF ∷ 0xFF ∷ 0xFF ∷ [])
+    × (acknowledgment (controlOf 23) 0x85 0x21 ≡ 0x01 ∷ 0x85 ∷ 0xFF ∷ 0xFF ∷ 0x21 ∷ 0x00 ∷ 0xED ∷ 0x00 ∷ [])
+unfolding parameterReply filled bytesOf acknowledgment controlOf
+parameters = (refl, refl, refl, refl, refl, refl)

@@ -1,4 +1,5 @@
 mod Laying
 mod Writing
 mod Examples
+pub mod Parameters
 pub mod RoundTrip

@@ -14,7 +14,7 @@ use Rattle.identifier.specs.Identifier.{isPgn}
 use Rattle.filter.specs.Filter.{Mode, cleared, block, pass, Filter, reportedMode}
 use Rattle.entries.specs.Entries.{listed, every, firstWrong, reported}
 use Rattle.entries.proofs.Reported.{pgns-small, reported-back, reported-long}
-use Rattle.network_message.specs.Decoding.{judged, fromOf, toOf, isKnown, isPair, namesPorts, mayName, isFilling, entriesEnd, between, holdsEntries, hasGoodBody, wrongIn, wrongEntry, hasWrongMode, refusalOf, commandOf, decoded}
+use Rattle.network_message.specs.Decoding.{judged, fromOf, toOf, isKnown, isGeneral, isPair, namesPorts, mayName, holdsParameter, isFilling, entriesEnd, between, holdsEntries, hasGoodBody, wrongIn, wrongEntry, hasWrongMode, refusalOf, commandOf, decoded}
 use Rattle.replies.specs.Replies.{filled, listBody, listReply}
 use Rattle.replies.specs.SentBack.{asCreate, SentBack}
 
@@ -70,7 +70,7 @@ module _ (pair mode : ℕ) (es : List ℕ) (some : 1 ≤ length es) (pgns : ever
       )
 
   sent-passes : (ports port : ℕ) → isPair ports 6 (fromOf pair) (toOf pair) ≡ true → mayName ports port 6 (fromOf pair) (toOf pair) ≡ true → ltb 1 mode ≡ false → refusalOf ports port 6 (fromOf pair) (toOf pair) (sent pair mode es) ≡ 0
-  unfolding refusalOf isKnown listed namesPorts hasGoodBody wrongEntry hasWrongMode
+  unfolding refusalOf isKnown isGeneral listed namesPorts holdsParameter hasGoodBody wrongEntry hasWrongMode
   sent-passes ports port named may good = rw (named, may, sent-holds, sent-right, good)
 
 -- for a tool that may name the pair

@@ -123,6 +123,22 @@ finished s a b {last} {n} {r} small fits W =
     let over = laid-over head (rw (filled-long (take (2 + n) (set (set s 0 a) 1 b))) (omega arith)) W in
     rw (← bytes) (record { written = over .written; answer = over .answer; small = omega (arith, over .small) })
 
+-- a body that stands from the third byte on
+module _ (s body : List ℕ) {x : List ℕ} {n : ℕ} (two : 2 ≤ length s) (L : Laid (take 2 s ++ body) s x) (e : n ≡ length body) where
+  pub headed : (a b : ℕ) {last : List ℕ} {r : ℕ} → Writing (filled (a ∷ b ∷ take n (drop 2 x))) x last longest r → Writing (filled (a ∷ b ∷ body)) s last longest r
+  headed a b {last} {r} W =
+      let head : length (take 2 s) ≡ 2 = length-take-le 2 s two in
+      let rest = drop (length (take 2 s ++ body)) s in
+      let bytes : take n (drop 2 x) ≡ body = rw (L .written, append-assoc (take 2 s) body rest, drop-at (take 2 s) (body ++ rest) 2 head) (take-at body rest n (sym e)) in
+      laid-over L (omega (arith, length-append (take 2 s) body, filled-long (a ∷ b ∷ body))) (rw bytes at W)
+
+-- put there by a run of stores
+pub stored : (s body : List ℕ) → 2 + length body ≤ length s → Laid (take 2 s ++ body) s (sets s 2 body)
+stored s body room =
+    let head : length (take 2 s) ≡ 2 = length-take-le 2 s (omega arith) in
+    let front : Laid (take 2 s) s s = record { written = rw head (sym (take-append-drop 2 s)); inside = omega arith } in
+    laid-more front body (sym head) room
+
 -- a part from the third byte on that was lent and came back with a body
 module _ (s : List ℕ) {ys body : List ℕ} {n most : ℕ} (two : 2 ≤ length s) (P : Writing body (take (length s - 2) (drop 2 s)) ys most n) where
   whole : take 2 s ++ (ys ++ drop (length s - 2) (drop 2 s)) ≡ take 2 s ++ (body ++ drop (2 + length body) s)
@@ -137,15 +153,12 @@ module _ (s : List ℕ) {ys body : List ℕ} {n most : ℕ} (two : 2 ≤ length 
 
   pub replied : (a b : ℕ) {last : List ℕ} {r : ℕ} → 2 + length body ≤ length s → Writing (filled (a ∷ b ∷ take n (drop 2 (take 2 s ++ (ys ++ drop (length s - 2) (drop 2 s)))))) (take 2 s ++ (ys ++ drop (length s - 2) (drop 2 s))) last longest r → Writing (filled (a ∷ b ∷ body)) s last longest r
   replied a b {last} {r} room W =
-      let head : length (take 2 s) ≡ 2 = length-take-le 2 s two in
-      let long : length (take 2 s ++ body) ≡ 2 + length body = rw (length-append (take 2 s) body, head) in
-      let rest = drop (2 + length body) s in
+      let long : length (take 2 s ++ body) ≡ 2 + length body = rw (length-append (take 2 s) body, length-take-le 2 s two) in
       let laid : Laid (take 2 s ++ body) s (take 2 s ++ (ys ++ drop (length s - 2) (drop 2 s))) = record {
-        written = rw (long) (whole ∙ sym (append-assoc (take 2 s) body rest));
+        written = rw (long) (whole ∙ sym (append-assoc (take 2 s) body (drop (2 + length body) s)));
         inside = omega arith;
       } in
-      let bytes : take n (drop 2 (take 2 s ++ (ys ++ drop (length s - 2) (drop 2 s)))) ≡ body = rw (whole, drop-at (take 2 s) (body ++ rest) 2 head) (take-at body rest n (sym (P .answer))) in
-      laid-over laid (omega (arith, filled-long (a ∷ b ∷ body))) (rw bytes at W)
+      headed s body two laid (P .answer) a b W
 
 -- an address list is such a body
 pub listing : {words before after : List ℕ} {port except r : ℕ} → Listing words port except before after r → Writing (addressesOn port except (tableOf words)) before after 254 r

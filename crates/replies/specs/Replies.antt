@@ -6,6 +6,7 @@ use mathlib.Core.List.{List, [], _∷_, _++_}
 use Prim.Native.Nat.{ℕ, _-_, _≤_}
 use lib.ListN.{length, drop, replicate}
 use lib.Dec.{eqb}
+use Rattle.storage.specs.Bytes.{bytesOf}
 use Rattle.filter.specs.Filter.{Filter, reportedMode}
 use Rattle.entries.specs.Entries.{reported}
 use Rattle.addresses.specs.declared.Place.{Place}
@@ -38,6 +39,10 @@ portByte port = port
 -- 64: "Reply is 65, the port, its addresses in rising order; the unit's own is left out"
 unfoldable pub addressReply : ℕ → ℕ → List Place → List ℕ
 addressReply port except table = filled (65 ∷ portByte port ∷ addressesOn port except table)
+
+-- 129 and 132 (document 02, ticket 8): "function, pair byte (general: .. FF in the reply), parameter, in a reply the value in two bytes, least significant first"
+unfoldable pub parameterReply : ℕ → ℕ → ℕ → ℕ → List ℕ
+parameterReply function named parameter value = filled (function ∷ named ∷ parameter ∷ bytesOf 2 value)
 
 -- ---- the contract of writing at the start of a buffer: the bytes, all past them as it was, and how many they are
 pub record Writing (bytes before after : List ℕ) (most r : ℕ) : Type 0 where

@@ -8,7 +8,7 @@ ghost use Rattle.storage.specs.Bytes.{bytesOf};
 ghost use Rattle.filter.specs.Filter.{blockSize, filterOf};
 ghost use Rattle.addresses.specs.Table.{tableLength, tableOf};
 ghost use Rattle.network_message.specs.Decoding.{longest};
-ghost use Rattle.replies.specs.Replies.{controlOf, acknowledgment, filled, listBody, listReply, addressReply, Writing};
+ghost use Rattle.replies.specs.Replies.{controlOf, acknowledgment, filled, listBody, listReply, addressReply, parameterReply, Writing};
 
 // An acknowledgment's first byte, by the number that refuses the command, or 0.
 pub fn control(number: u32) -> u8
@@ -100,4 +100,21 @@ pub fn reply_addresses(table: &[u64], port: u32, except: usize, reply: &mut [u8]
 {
     let n = addresses::list_on(table, port as u64, except, &mut reply[2..]);
     finish(reply, 65, port as u8, n)
+}
+
+// Writes the reply to a request for a parameter: its value in two bytes. Tells its length.
+pub fn reply_parameter(
+    reply: &mut [u8],
+    function: u8,
+    named: u8,
+    parameter: u8,
+    value: u32,
+) -> usize
+    requires { ⌜ longest ≤ length (now reply) ⌝ }
+    ensures { λ r. ⌜ Writing (parameterReply function named parameter value) (now (reply .entry)) (now (reply .exit)) longest r ⌝ }
+{
+    reply[2] = parameter;
+    reply[3] = storage::byte_at(value as u64, 0);
+    reply[4] = storage::byte_at(value as u64, 1);
+    finish(reply, function, named, 3)
 }

@@ -5,8 +5,8 @@ use script::Wrong;
 ghost use Prim.Native.Nat.{_≤_};
 ghost use lib.ListN.{length};
 
-// The words of a number: what is wrong with a call's own arguments or the unit's state, 1 to 8; with a message's payload, 9 to 17 and 22; with the moment of
-// Start or Quiet, 18; with the count that a power-on has, 27. The numbers between are of no call here and have none.
+// The words of a number: what is wrong with a call's own arguments or the unit's state, 1 to 8; with a message's payload, 9 to 17, 22 and 23; with the moment
+// of Start or Quiet, 18; with the count that a power-on has, 27. The numbers between are of no call here and have none.
 fn of_number(out: &mut [u8], at: usize, number: u64) -> usize
     requires { ⌜ at ≤ length (now out) ⌝ }
     ensures { λ r. ⌜ r ≤ length (now (out .entry)) ⌝ }
@@ -33,7 +33,8 @@ fn of_number(out: &mut [u8], at: usize, number: u64) -> usize
           a named pair would pass 32|\
           Delete: a PGN absent from a named pair|\
           Start not in Unstarted, Quiet not in Claiming||||\
-          an entry is no PGN|||||\
+          an entry is no PGN|\
+          parameter not held, or not one to reset||||\
           port count not 2 to 8",
         number,
     )

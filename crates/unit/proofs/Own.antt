@@ -3,7 +3,7 @@ use mathlib.Core.Path.{_≡_, refl, sym, _∙_}
 use mathlib.Core.Bool.{Bool, true, false, not, cond}
 use mathlib.Core.Logic.{inr}
 use mathlib.Core.List.{List, [], _∷_}
-use Prim.Native.Nat.{ℕ, zero, suc, _%_, _^_, _≤_, _<_}
+use Prim.Native.Nat.{ℕ, zero, suc, _+_, _%_, _^_, _≤_, _<_}
 use native.Mathlib.Nat.{mod-lt, mod-eq-of-lt}
 use native.Mathlib.Omega.{arith}
 use borrow.Author.Tests.{eq-eqb, ne-eqb}
@@ -15,13 +15,14 @@ use Rattle.filter.specs.Filter.{filterOf, meant, clear}
 use Rattle.filter.specs.Filter.{blockSize as filterLength}
 use Rattle.queue.specs.Queue.{rowOf, tallyOf, queueOf, idle}
 use Rattle.queue.specs.Queue.{blockLength as queueLength}
+use Rattle.losses.specs.Losses.{held, counterLength, lossesOf}
 use Rattle.addresses.specs.declared.Place.the-variants.{Free}
 use Rattle.addresses.specs.Table.{places, placeFrom, placeOf, tableOf, tableLength}
 use Rattle.unit.specs.declared.Claim.{Claim}
 use Rattle.unit.specs.declared.Claim.the-variants.{Unstarted, Claiming, Claimed, Lost}
 use Rattle.unit.specs.declared.Unit.{Unit}
 use Rattle.unit.specs.Count.{isCount, countOf, portsOf, pairCount}
-use Rattle.unit.specs.Model.{tableFrom, rowsFrom, pairsFrom, recordLength, claimFrom, unitOf, modelOf, withOwn, withRest}
+use Rattle.unit.specs.Model.{tableFrom, rowsFrom, pairsFrom, lossesFrom, recordLength, claimFrom, unitOf, modelOf, withOwn, withRest}
 use Rattle.unit.specs.Own.{claimWord, freshUnit, moved}
 use Rattle.unit.specs.PowerOn.{powerOnRefusal, PoweringOn}
 use Rattle.unit.proofs.Count.{count-same, count-taken, count-refused, ports-bounds, ports-taken}
@@ -100,6 +101,7 @@ own-stored words u w full a p l m e ports =
       unit-of-five u a p l m,
       blocks-apart 0 5 words ys refl (omega arith) filterOf filterLength (pairsFrom ports) (pairCount ports) (inr (omega arith)),
       blocks-apart 0 5 words ys refl (omega arith) queueOf queueLength rowsFrom ports (inr (omega arith)),
+      blocks-apart 0 5 words ys refl (omega arith) lossesOf counterLength (lossesFrom ports) (pairCount ports + 1) (inr (omega arith)),
       part-apart 0 5 words ys refl (omega arith) tableFrom tableLength (inr (omega arith)),
     )
 
@@ -112,6 +114,10 @@ no-queue : queueOf (replicate queueLength 0) ≡ idle
 unfolding queueOf rowOf tallyOf
 no-queue = refl
 
+no-losses : lossesOf (replicate counterLength 0) ≡ 0
+unfolding lossesOf held
+no-losses = refl
+
 no-place : placeOf (replicate 2 0) ≡ Free
 unfolding placeOf placeFrom
 no-place = refl
@@ -123,17 +129,19 @@ no-table n e = rw (blocks-filled n 0 placeOf 2 0 254 (omega arith), no-place)
 pub wiped : (n ports : ℕ) (u : Unit) → n ≡ recordLength ports → withRest (modelOf ports (replicate n 0)) (withOwn (modelOf ports (replicate n 0) .rest) u) ≡ record {
   rest = record { own = u; pairs = replicate (pairCount ports) clear; table = replicate places Free };
   queues = replicate ports idle;
-  seen = record {};
+  seen = record { losses = replicate (pairCount ports + 1) 0 };
 }
 unfolding modelOf
 wiped n ports u e =
     rw (
       blocks-filled n 0 filterOf filterLength (pairsFrom ports) (pairCount ports) (omega arith),
       blocks-filled n 0 queueOf queueLength rowsFrom ports (omega arith),
+      blocks-filled n 0 lossesOf counterLength (lossesFrom ports) (pairCount ports + 1) (omega arith),
       part-filled n 0 tableFrom tableLength (omega arith),
       no-table tableLength refl,
       no-filter,
       no-queue,
+      no-losses,
     )
 
 module _ {words : List ℕ} {count name preferred : ℕ} where

@@ -10,7 +10,7 @@ use native.Mathlib.Omega.{arith}
 use lib.Dec.{eqb, eqb·zero-suc, eqb·suc-zero, eqb·suc-suc}
 use lib.Pow.{pow-add}
 use lib.ListN.{length, getD, set}
-use Rattle.unit.specs.Ports.{each, mask, bitAt, total, digits, digitAt}
+use Rattle.unit.specs.Ports.{each, inTurn, mask, bitAt, total, digits, digitAt}
 
 -- ---- a list changed place by place
 module _ {A : Type 0} where
@@ -200,3 +200,20 @@ digit-past f small n q h = rw (div-eq-of-lt (below (digits-small f small n) (pow
   where
     below : {x a b : ℕ} → x < a → a ≤ b → x < b
     below l m = omega arith
+
+-- ---- a change for each in turn
+module _ {A : Type 0} where
+  pub turn-step : (test : ℕ → Bool) (change : ℕ → A → A) (n : ℕ) (x : A) → inTurn test change (n + 1) x ≡ cond (test n) (change n (inTurn test change n x)) (inTurn test change n x)
+  unfolding inTurn
+  turn-step test change n x = rw (add-one n) refl
+
+  -- tests that agree
+  pub turn-same : (test other : ℕ → Bool) (change : ℕ → A → A) (n : ℕ) (x : A) → ((q : ℕ) → q < n → test q ≡ other q) → inTurn test change n x ≡ inTurn other change n x
+  unfolding inTurn
+  turn-same test other change zero x h = refl
+  turn-same test other change (suc n) x h = rw (h n (omega arith), turn-same test other change n x (λ q l. h q (omega arith)))
+
+  pub turn-none : (change : ℕ → A → A) (n : ℕ) (x : A) → inTurn (λ q. false) change n x ≡ x
+  unfolding inTurn
+  turn-none change zero x = refl
+  turn-none change (suc n) x = turn-none change n x

@@ -12,6 +12,7 @@ use Rattle.filter.specs.Filter.{blockSize as filterLength}
 use Rattle.queue.specs.declared.Frame.{Frame}
 use Rattle.queue.specs.Queue.{Queued, queueOf, idle}
 use Rattle.queue.specs.Queue.{blockLength as queueLength}
+use Rattle.losses.specs.Losses.{counterLength, lossesOf}
 use Rattle.addresses.specs.declared.Place.{Place}
 use Rattle.addresses.specs.Table.{tableLength, tableOf}
 use Rattle.unit.specs.declared.Claim.{Claim}
@@ -26,8 +27,10 @@ pub record Rest : Type 0 where
   pub pairs : List Filter
   pub table : List Place
 
--- what is only looked at, by a reply or by a call that reads it: it moves neither the rest nor a row, and no number depends on it. Nothing is kept so yet
+-- what is only looked at, by a reply: it moves neither the rest nor a row, and no number depends on it. A counter of losses for each pair, in the pairs'
+-- order, and the general one behind them (document 02, ticket 8)
 pub record Seen : Type 0 where
+  pub losses : List ℕ
 
 pub record Model : Type 0 where
   pub rest : Rest
@@ -45,6 +48,10 @@ rowAt m q = queueOn m q .row
 abbrev pub pairAt : ℕ → ℕ → ℕ → ℕ
 pairAt ports p q = (ports - 1) * p + cond (ltb q p) q (q - 1)
 
+-- the place of the general counter, which is no pair's, among the counters
+abbrev pub generalAt : ℕ → ℕ
+generalAt ports = pairCount ports
+
 -- one thing changed
 abbrev pub withOwn : Rest → Unit → Rest
 withOwn rest own = record { own = own; pairs = rest .pairs; table = rest .table }
@@ -60,6 +67,9 @@ withRest m rest = record { rest = rest; queues = m .queues; seen = m .seen }
 
 abbrev pub withQueues : Model → List Queued → Model
 withQueues m queues = record { rest = m .rest; queues = queues; seen = m .seen }
+
+abbrev pub withLosses : Model → List ℕ → Model
+withLosses m losses = record { rest = m .rest; queues = m .queues; seen = record { losses = losses } }
 
 abbrev pub withQueue : Model → ℕ → Queued → Model
 withQueue m q x = withQueues m (set (m .queues) q x)
@@ -84,7 +94,7 @@ unitOf words = record {
   ports = portsOf words;
 }
 
--- the regions: own, the address table, a queue for each port, a filter for each pair; so a queue's place does not depend on the number of ports
+-- the regions: own, the address table, a queue for each port, a filter for each pair, a counter of losses for each pair and the general one; so a queue's place does not depend on the number of ports
 abbrev pub tableFrom : ℕ
 tableFrom = ownLength
 
@@ -94,8 +104,11 @@ rowsFrom = tableFrom + tableLength
 abbrev pub pairsFrom : ℕ → ℕ
 pairsFrom ports = rowsFrom + queueLength * ports
 
+abbrev pub lossesFrom : ℕ → ℕ
+lossesFrom ports = pairsFrom ports + filterLength * pairCount ports
+
 abbrev pub recordLength : ℕ → ℕ
-recordLength ports = pairsFrom ports + filterLength * pairCount ports
+recordLength ports = lossesFrom ports + counterLength * (pairCount ports + 1)
 
 unfoldable pub modelOf : ℕ → List ℕ → Model
 modelOf ports words = record {
@@ -105,5 +118,5 @@ modelOf ports words = record {
     table = tableOf (take tableLength (drop tableFrom words));
   };
   queues = blocksOf rowsFrom queueLength ports queueOf words;
-  seen = record {};
+  seen = record { losses = blocksOf (lossesFrom ports) counterLength (pairCount ports + 1) lossesOf words };
 }

@@ -1,4 +1,5 @@
--- What is said of each port by itself, put together over the ports below n: a list changed place by place, a set of ports as bits, a sum, a digit for each.
+-- What is said of each port by itself, put together over the ports below n: a list changed place by place, a change for each in turn, a set of
+-- ports as bits, a sum, a digit for each.
 -- Assumes nothing.
 use Prim.Native.Nat.{ℕ, zero, suc, _+_, _*_, _^_, _/_, _%_}
 use mathlib.Core.Bool.{Bool, cond}
@@ -19,6 +20,11 @@ mask test (suc n) = mask test n + cond (test n) (2 ^ n) 0
 -- whether bit q of a number is set
 unfoldable pub bitAt : ℕ → ℕ → Bool
 bitAt x q = eqb (x / 2 ^ q % 2) 1
+
+-- what is done for each q below n, in turn, where the test holds of it
+unfoldable pub inTurn : {A : Type 0} → (ℕ → Bool) → (ℕ → A → A) → ℕ → A → A
+inTurn test change zero x = x
+inTurn test change (suc n) x = cond (test n) (change n (inTurn test change n x)) (inTurn test change n x)
 
 unfoldable pub total : (ℕ → ℕ) → ℕ → ℕ
 total f zero = 0

@@ -1,6 +1,6 @@
 -- Power-on: what it is refused with, the model that it leaves, and its contract. `lent` is the length of the record that was lent.
 -- Assumes nothing.
-use Prim.Native.Nat.{ℕ}
+use Prim.Native.Nat.{ℕ, _+_}
 use mathlib.Core.Bool.{Bool, not}
 use mathlib.Core.List.{List, [], _∷_}
 use mathlib.Core.Path.{_≡_}
@@ -23,12 +23,12 @@ notLong ports lent = not (eqb lent (recordLength ports))
 unfoldable pub powerOnRefusal : ℕ → ℕ → ℕ
 powerOnRefusal count lent = first (check (notLong (countOf count) lent) 2 ∷ check (not (isCount count)) 27 ∷ [])
 
--- power-on: every pair cleared, every queue empty and nothing counted, the table empty, the unit Unstarted
+-- power-on: every pair cleared, every queue empty and nothing counted, no loss, the table empty, the unit Unstarted
 abbrev pub fresh : ℕ → ℕ → ℕ → Model
 fresh ports name preferred = record {
   rest = record { own = freshUnit name preferred ports; pairs = replicate (pairCount ports) clear; table = replicate places Free };
   queues = replicate ports idle;
-  seen = record {};
+  seen = record { losses = replicate (pairCount ports + 1) 0 };
 }
 
 -- with any count of ports: 2 changes no word, 27 is a power-on all the same

@@ -125,7 +125,8 @@ impl Unit {
 
     pub const QUEUE_SIZE: usize = queue::SIZE;
 
-    // Where the record's regions begin: the unit's own words, the address table, a queue for each port; then a filter for each pair, in order of From, then To.
+    // Where the record's regions begin: the unit's own words, the address table, a queue for each port; then a filter for each pair, in order of From, then To,
+    // and a counter of losses for each, with the general one behind them.
     pub const TABLE_AT: usize = 5;
 
     pub const QUEUES_AT: usize = Self::TABLE_AT + addresses::TABLE_LENGTH;
@@ -133,7 +134,8 @@ impl Unit {
     // The record's length with four ports.
     pub const RECORD_LENGTH: usize = Self::QUEUES_AT
         + queue::BLOCK_LENGTH * 4
-        + filter::BLOCK_SIZE * 12;
+        + filter::BLOCK_SIZE * 12
+        + losses::COUNTER_LENGTH * 13;
 
     // The record's length, worked out.
     fn regions_length(ports: usize) -> usize
@@ -141,7 +143,10 @@ impl Unit {
         ensures { λ r. ⌜ r ≡ recordLength ports ⌝ }
     {
         let pairs = ports * (ports - 1);
-        Self::QUEUES_AT + queue::BLOCK_LENGTH * ports + filter::BLOCK_SIZE * pairs
+        Self::QUEUES_AT
+            + queue::BLOCK_LENGTH * ports
+            + filter::BLOCK_SIZE * pairs
+            + losses::COUNTER_LENGTH * (pairs + 1)
     }
 
     // The record's length. Each arm is a constant, so that the compiler makes a table of them: every call of the unit asks.

@@ -7,7 +7,7 @@ use reference::address::{Event, UnitAnswer};
 use reference::counts::Counts;
 use reference::coverage::Coverage;
 use reference::frame::{Frame, NULL};
-use reference::generate::{generate, Random};
+use reference::generate::{generate, storms, Random};
 use reference::linked::*;
 use reference::message::LONGEST_MESSAGE;
 use reference::script::{print_answer, write_call, Answer, Call};
@@ -15,8 +15,9 @@ use reference::unit::{FrameAnswer, Unit, USUAL_PORTS};
 
 /// Guard elements before and behind whatever is lent.
 const GUARDS: usize = 16;
-/// How many calls one script has.
+/// How many calls one script has; of so many scripts one is a storm of losses.
 const SCRIPT: usize = 100_000;
+const STORM: u64 = 10;
 
 /// Storage between guards.
 struct Lent<T> {
@@ -59,6 +60,8 @@ impl<T: Copy + PartialEq> Lent<T> {
 struct Both {
     reference: Unit,
     record: Lent<u64>,
+    /// Whether a storm is on, whose counters come from its calls alone.
+    in_storm: bool,
     /// Whether the counts are no recount any more.
     has_lost_counts: bool,
     random: Random,
@@ -81,6 +84,7 @@ impl Both {
         Both {
             reference: Unit::power_on(0, 0),
             record: Lent::new(record_words(8), 0, 0xDEAD_BEEF_DEAD_BEEF),
+            in_storm: false,
             has_lost_counts: false,
             random: Random::new(!seed),
             coverage: Coverage::default(),
@@ -109,6 +113,9 @@ impl Both {
         }
         if self.random.once_in(5000) {
             self.lose_counts();
+        }
+        if !self.in_storm && self.random.once_in(500) {
+            self.change_losses();
         }
         let before = self.reference.clone();
         let words = self.record.contents().to_vec();
@@ -192,6 +199,18 @@ impl Both {
         });
         self.has_lost_counts = true;
         self.count("records whose counts were made any words");
+    }
+
+    /// Counters of losses near where they stay, or any words.
+    fn change_losses(&mut self) {
+        let losses = &mut self.reference.losses;
+        for counter in losses.pairs.values_mut().chain([&mut losses.general]) {
+            let any = self.random.number();
+            counter.0 = self.random.pick(&[0, 255, 64_250, 64_254, 64_255, 64_256, 65_535, 1 << 32, any, u64::MAX]);
+        }
+        let words = loss_words(losses);
+        self.record.contents()[losses_at(self.reference.ports)..][..words.len()].copy_from_slice(&words);
+        self.count("records whose counters of losses were made any words");
     }
 
     fn start(&mut self) -> Result<Answer, String> {
@@ -459,7 +478,10 @@ fn run(seed: u64, calls: usize) -> Result<Both, String> {
     let mut done = 0;
     let mut script = seed;
     while done < calls {
-        for (line, call) in generate(script, SCRIPT.min(calls - done)).iter().enumerate() {
+        let left = calls - done;
+        both.in_storm = script % STORM == 0;
+        let made = if both.in_storm { storms(script) } else { generate(script, SCRIPT.min(left)) };
+        for (line, call) in made.iter().take(left).enumerate() {
             let told = both.call(call);
             told.map_err(|error| format!("script {script}, call {line}: {}\n{error}", write_call(call)))?;
             done += 1;

@@ -120,6 +120,9 @@ pub fn told(unit: &mut Unit, port: u32, requester: u32, payload: &[u8], length: 
     }
     assert_eq!((&unit.queues, &unit.counts), (&before.queues, &before.counts), "messages touch no row");
     assert_eq!(unit.table, before.table);
+    let resets = matches!(payload.first(), Some(130 | 133));
+    assert!(resets || unit.losses == before.losses, "a message touches no counter but by a reset");
+    assert!(!resets || unit.pairs == before.pairs, "a reset touches no list");
     match answer.wrong {
         None => assert!(![17, 22].contains(&answer.number)),
         Some(WrongEntry::NoPgn { .. }) => assert_eq!(answer.number, 22),

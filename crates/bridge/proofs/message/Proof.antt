@@ -46,7 +46,7 @@ perform-requires c κs =
     let ports = at .before .before in
     let start = ports .before .before .before .before .before in
     let G = message-goes (ports .ports-of .result) (length (start .args .words .now)) (length (start .args .reply .now)) (modelOf (ports .ports-of .result) (start .args .words .now) .rest) (start .args .port) (start .args .requester) (length (start .args .payload .now)) (sym (at .message-refusal .ensures) ∙ at-else .if1 .left) in
-    (ports .ports-of .ensures .most, G .0, G .1, G .3, G .2, rw (at-decode .decode .ensures) (decoded-good (ports .ports-of .result) (start .args .port) (start .args .payload .now) (G .2)))
+    (ports .ports-of .ensures .most, G .0, G .1, G .3, G .2, rw (at-decode .decode .ensures) (decoded-good (ports .ports-of .result) (start .args .port) (start .args .payload .now) (G .2)), omega (arith, ports .ports-of .ensures .least))
 
 same-length-2 : tie.Need-same-length-2
 same-length-2 c = search needs

@@ -20,13 +20,13 @@ join-own-requires c κs = omega arith
 add-lost : tie.Need-add-lost Inv-loop μ-loop
 add-lost c =
     let at-join = c .before .before in
-    let S = told-sums (at-join .before .before .before .loop .inv) (at-join .join-own .ensures _ (omega arith)) (omega arith) in
+    let S = told-sums (at-join .before .before .before .loop .inv) (at-join .join-own .ensures) (omega arith) in
     omega (arith, S .0)
 
 mul-bit : tie.Need-mul-bit Inv-loop μ-loop
 mul-bit c =
     let at-join = c .before .before in
-    let S = told-sums (at-join .before .before .before .loop .inv) (at-join .join-own .ensures _ (omega arith)) (omega arith) in
+    let S = told-sums (at-join .before .before .before .loop .inv) (at-join .join-own .ensures) (omega arith) in
     omega (arith, S .1)
 
 add-port : tie.Need-add-port Inv-loop μ-loop
@@ -38,7 +38,7 @@ loop-less c = omega arith
 loop-again : tie.Need-loop-again Inv-loop μ-loop
 loop-again c =
     let at-join = c .before .before in
-    telling-more (at-join .before .before .before .loop .inv) (at-join .join-own .ensures _ (omega arith)) (omega arith) (omega arith)
+    telling-more (at-join .before .before .before .loop .inv) (at-join .join-own .ensures) (omega arith) (omega arith)
 
 same-length : tie.Need-same-length Inv-loop μ-loop
 same-length c = omega arith

@@ -36,6 +36,15 @@ returns-2 c =
     let args = ports .before .before .before .args in
     rw (← (ports .ports-of .ensures .count)) (join-self (args .from) (args .to) (args .f) (at .pair-refusal .ensures) (c .before .if1 .left) (c .if2 .taken))
 
+sub-p : tie.Need-sub-p
+sub-p c =
+    let at-else = c in
+    let at = at-else .before .before in
+    let ports = at .before .before in
+    let args = ports .before .before .before .args in
+    let G = pair-goes (ports .ports-of .result) (length (args .words .now)) (args .from) (args .to) (args .f .id) (args .f .len) (sym (at .pair-refusal .ensures) ∙ at-else .before .if1 .left) in
+    G .1
+
 sub-q : tie.Need-sub-q
 sub-q c =
     let at-else = c in
@@ -45,14 +54,17 @@ sub-q c =
     let G = pair-goes (ports .ports-of .result) (length (args .words .now)) (args .from) (args .to) (args .f .id) (args .f .len) (sym (at .pair-refusal .ensures) ∙ at-else .before .if1 .left) in
     G .3
 
-join-row-requires : tie.Need-join-row-requires
-join-row-requires c κs =
+cast-join : tie.Need-cast-join
+cast-join c = search needs
+
+join-requires : tie.Need-join-requires
+join-requires c κs =
     let at-else = c .before in
     let at = at-else .before .before in
     let ports = at .before .before in
     let args = ports .before .before .before .args in
     let G = pair-goes (ports .ports-of .result) (length (args .words .now)) (args .from) (args .to) (args .f .id) (args .f .len) (sym (at .pair-refusal .ensures) ∙ at-else .before .if1 .left) in
-    omega (arith, G .0, G .3, G .4)
+    (ports .ports-of .ensures .most, G .0, omega (arith, G), omega (arith, G), λ s. at-else .if2 .left (omega (arith, s, G)))
 
 same-length-3 : tie.Need-same-length-3
 same-length-3 c = search needs
@@ -64,9 +76,8 @@ returns-3 c =
     let at = at-else .before .before in
     let ports = at .before .before in
     let args = ports .before .before .before .args in
-    let G = pair-goes (ports .ports-of .result) (length (args .words .now)) (args .from) (args .to) (args .f .id) (args .f .len) (sym (at .pair-refusal .ensures) ∙ at-else .before .if1 .left) in
     rw (← (ports .ports-of .ensures .count))
-    (joined (args .from) (args .to) (args .f) (at .pair-refusal .ensures) (at-else .before .if1 .left) (at-else .if2 .left) (omega arith) (at-join .join-row .ensures _ (omega (arith, G .3, G .4))))
+    (joined (args .from) (args .to) (args .f) (at .pair-refusal .ensures) (at-else .before .if1 .left) (at-else .if2 .left) (omega arith) (at-join .join .ensures))
 
 pub join-spec : {M : Type 1} → statement M
 join-spec =
@@ -79,7 +90,9 @@ join-spec =
     returns
     same-length-2
     returns-2
+    sub-p
     sub-q
-    join-row-requires
+    cast-join
+    join-requires
     same-length-3
     returns-3)

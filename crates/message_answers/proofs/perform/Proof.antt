@@ -78,6 +78,45 @@ report-addresses-requires c κs =
     let G = rw (told .command7 .given .1) at (pre .5) in
     (omega (arith, pre .1), pre .2, omega (arith, G .1, pre .0))
 
+enum-known-command-8 : tie.Need-enum-known-command-8
+enum-known-command-8 c = search needs
+
+report-general-requires : tie.Need-report-general-requires
+report-general-requires c κs =
+    let told = c .before .before .before in
+    let pre = told .before .before .before .before .before .pre in
+    let G = rw (told .command8 .given .1) at (pre .5) in
+    (pre .6, pre .0, pre .1, pre .2, G)
+
+enum-told : tie.Need-enum-told
+enum-told c = search needs
+
+reset-general-requires : tie.Need-reset-general-requires
+reset-general-requires c κs = search needs
+
+enum-known-command-9 : tie.Need-enum-known-command-9
+enum-known-command-9 c = search needs
+
+shared-slice-read-report-pair : tie.Need-shared-slice-read-report-pair
+shared-slice-read-report-pair c = search needs
+
+report-pair-requires : tie.Need-report-pair-requires
+report-pair-requires c κs =
+    let told = c .before .before .before .before in
+    let pre = told .before .before .before .before .before .pre in
+    let G = rw (told .command9 .given .1) at (pre .5) in
+    (pre .0, pre .1, pre .2, G .0 .least, G .0 .most, one-port (pre .0) (G .0) (G .1), G .1, G .0 .apart, G .2)
+
+enum-known-command-10 : tie.Need-enum-known-command-10
+enum-known-command-10 c = search needs
+
+reset-pair-requires : tie.Need-reset-pair-requires
+reset-pair-requires c κs =
+    let told = c .before .before .before in
+    let pre = told .before .before .before .before .before .pre in
+    let G = rw (told .command10 .given .1) at (pre .5) in
+    (pre .0, pre .1, pre .2, pre .3, pre .4, G .0 .least, G .0 .most, one-port (pre .0) (G .0) (G .1), G .1, G .0 .apart)
+
 same-length : tie.Need-same-length
 same-length c = search needs
 
@@ -151,6 +190,46 @@ returns-7 : tie.Need-returns-7
 unfolding performedBy
 returns-7 c = let at = c .before .before in rw (at .before .before .before .before .command7 .given .1) (reply-given _ (at .report-addresses .ensures _))
 
+same-length-14 : tie.Need-same-length-14
+same-length-14 c = search needs
+
+same-length-15 : tie.Need-same-length-15
+same-length-15 c = search needs
+
+returns-8 : tie.Need-returns-8
+unfolding performedBy
+returns-8 c = let at = c .before .before in rw (at .before .before .before .before .command8 .given .1) (reply-given _ (at .report-general .ensures))
+
+same-length-16 : tie.Need-same-length-16
+same-length-16 c = search needs
+
+same-length-17 : tie.Need-same-length-17
+same-length-17 c = search needs
+
+returns-9 : tie.Need-returns-9
+unfolding performedBy
+returns-9 c = let at = c .before .before .before .before in rw (at .before .before .before .enum-told .given .1) (at .reset-general .ensures)
+
+same-length-18 : tie.Need-same-length-18
+same-length-18 c = search needs
+
+same-length-19 : tie.Need-same-length-19
+same-length-19 c = search needs
+
+returns-10 : tie.Need-returns-10
+unfolding performedBy
+returns-10 c = let at = c .before .before in rw (at .before .before .before .before .before .command9 .given .1) (reply-given _ (at .report-pair .ensures))
+
+same-length-20 : tie.Need-same-length-20
+same-length-20 c = search needs
+
+same-length-21 : tie.Need-same-length-21
+same-length-21 c = search needs
+
+returns-11 : tie.Need-returns-11
+unfolding performedBy
+returns-11 c = let at = c .before .before .before .before in rw (at .before .before .before .before .command10 .given .1) (at .reset-pair .ensures)
+
 pub perform-spec : {M : Type 1} → statement M
 perform-spec =
     tie.close
@@ -171,6 +250,15 @@ perform-spec =
     change-requires-4
     enum-known-command-7
     report-addresses-requires
+    enum-known-command-8
+    report-general-requires
+    enum-told
+    reset-general-requires
+    enum-known-command-9
+    shared-slice-read-report-pair
+    report-pair-requires
+    enum-known-command-10
+    reset-pair-requires
     same-length
     returns
     same-length-2
@@ -190,4 +278,16 @@ perform-spec =
     returns-6
     same-length-12
     same-length-13
-    returns-7)
+    returns-7
+    same-length-14
+    same-length-15
+    returns-8
+    same-length-16
+    same-length-17
+    returns-9
+    same-length-18
+    same-length-19
+    returns-10
+    same-length-20
+    same-length-21
+    returns-11)

@@ -17,6 +17,12 @@ shared-slice-read-t9 c = search needs
 entries-end-requires-3 : tie.Need-entries-end-requires-3
 entries-end-requires-3 c κs = search needs
 
+parameter-of-requires : tie.Need-parameter-of-requires
+parameter-of-requires c κs = search needs
+
+parameter-of-requires-2 : tie.Need-parameter-of-requires-2
+parameter-of-requires-2 c κs = search needs
+
 returns : tie.Need-returns
 unfolding commandOf
 returns c = rw (c .match .keys1)
@@ -39,9 +45,35 @@ returns-5 c = rw (c .before .before .match .keys5, c .entries-end3 .ensures)
 
 returns-6 : tie.Need-returns-6
 unfolding commandOf
-returns-6 c =
+returns-6 c = rw (c .match .keys6)
+
+returns-7 : tie.Need-returns-7
+unfolding commandOf
+returns-7 c = rw (c .before .match .keys7, c .parameter-of .ensures)
+
+returns-8 : tie.Need-returns-8
+unfolding commandOf
+returns-8 c = rw (c .match .keys8)
+
+returns-9 : tie.Need-returns-9
+unfolding commandOf
+returns-9 c = rw (c .before .match .keys9, c .parameter-of2 .ensures)
+
+returns-10 : tie.Need-returns-10
+unfolding commandOf
+returns-10 c =
     let rest = c .match .rest in
-    simp (ne-eqb _ _ (rest .0 .0 .0 .0 .1), ne-eqb _ _ (rest .0 .0 .0 .1), ne-eqb _ _ (rest .0 .0 .1), ne-eqb _ _ (rest .0 .1), ne-eqb _ _ (rest .1))
+    simp (
+      ne-eqb _ _ (rest .0 .0 .0 .0 .0 .0 .0 .0 .1),
+      ne-eqb _ _ (rest .0 .0 .0 .0 .0 .0 .0 .1),
+      ne-eqb _ _ (rest .0 .0 .0 .0 .0 .0 .1),
+      ne-eqb _ _ (rest .0 .0 .0 .0 .0 .1),
+      ne-eqb _ _ (rest .0 .0 .0 .0 .1),
+      ne-eqb _ _ (rest .0 .0 .0 .1),
+      ne-eqb _ _ (rest .0 .0 .1),
+      ne-eqb _ _ (rest .0 .1),
+      ne-eqb _ _ (rest .1),
+    )
 
 pub command-of-spec : {M : Type 1} → statement M
 command-of-spec =
@@ -51,9 +83,15 @@ command-of-spec =
     entries-end-requires-2
     shared-slice-read-t9
     entries-end-requires-3
+    parameter-of-requires
+    parameter-of-requires-2
     returns
     returns-2
     returns-3
     returns-4
     returns-5
-    returns-6)
+    returns-6
+    returns-7
+    returns-8
+    returns-9
+    returns-10)

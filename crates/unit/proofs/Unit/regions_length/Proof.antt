@@ -27,6 +27,18 @@ add-result-2 : tie.Need-add-result-2
 unfolding pairCount
 add-result-2 c = omega (arith, pairs-most {ports = c .args .ports} (omega arith))
 
+add-result-3 : tie.Need-add-result-3
+unfolding pairCount
+add-result-3 c = omega (arith, pairs-most {ports = c .args .ports} (omega arith))
+
+mul-result-3 : tie.Need-mul-result-3
+unfolding pairCount
+mul-result-3 c = omega (arith, pairs-most {ports = c .args .ports} (omega arith))
+
+add-result-4 : tie.Need-add-result-4
+unfolding pairCount
+add-result-4 c = omega (arith, pairs-most {ports = c .args .ports} (omega arith))
+
 returns : tie.Need-returns
 unfolding pairCount
 returns c = omega arith
@@ -34,4 +46,14 @@ returns c = omega arith
 pub regions-length-spec : {M : Type 1} → statement M
 regions-length-spec =
     tie.close
-    (tie.spec sub-pairs mul-pairs mul-result add-result mul-result-2 add-result-2 returns)
+    (tie.spec
+    sub-pairs
+    mul-pairs
+    mul-result
+    add-result
+    mul-result-2
+    add-result-2
+    add-result-3
+    mul-result-3
+    add-result-4
+    returns)

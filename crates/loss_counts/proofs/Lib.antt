@@ -1,0 +1,4 @@
+mod Places
+mod Turns
+mod OneCall
+pub mod LossCounts
