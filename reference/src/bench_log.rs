@@ -1,4 +1,4 @@
-//! Document 02, ticket 9: candump's text, our log, the two turnings and a run.
+//! "The bench log": candump's text, our log, the two turnings and a run.
 
 use crate::frame::Frame;
 use crate::generate::Random;

@@ -1,4 +1,4 @@
-//! "How full a queue is": what each port counts (02, ticket 7), and the recount that the counts must equal.
+//! "How full a queue is": what each port counts, and the recount that the counts must equal.
 
 use crate::frame::{self, Frame};
 use crate::unit::{Number, Unit};

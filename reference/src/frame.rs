@@ -11,7 +11,7 @@ pub struct Frame {
 pub const REQUEST: u32 = 59904;
 /// PGN of an address claim and of cannot-claim (003, Table 2).
 pub const ADDRESS_CLAIMED: u32 = 60928;
-/// The PGNs that cross every pair (02, ticket 3).
+/// The PGNs that cross every pair.
 pub const PERMANENT: [u32; 2] = [REQUEST, ADDRESS_CLAIMED];
 /// The global destination.
 pub const GLOBAL: u32 = 255;

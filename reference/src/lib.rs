@@ -1,5 +1,5 @@
 //! Reference of the rules (docs/RULES.md), in the order of their headings,
-//! then the script format, the numbers in words, the summary, a script's run, the generator and the coverage count, the bench log and the plan of document 02, and the proved unit linked in.
+//! then the script format, the numbers in words, the summary, a script's run, the generator and the coverage count, the bench log, plans, and the proved unit linked in.
 
 pub mod frame;
 pub mod pair;

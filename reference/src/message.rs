@@ -26,7 +26,7 @@ pub struct MessageAnswer {
     pub wrong: Option<WrongEntry>,
 }
 
-/// Which entry of a command was wrong (02, ticket 2); entries are counted from 1, as they stand in the command.
+/// Which entry of a command was wrong; entries are counted from 1, as they stand in the command.
 #[derive(Clone, Copy, Debug, PartialEq, Eq)]
 pub enum WrongEntry {
     /// 22: the first that is no PGN.

@@ -5,7 +5,7 @@ use crate::frame::PERMANENT;
 /// The longest filter list.
 pub const LONGEST_LIST: usize = 32;
 
-/// Why a pair lets a frame cross or stops it (02, ticket 11).
+/// Why a pair lets a frame cross or stops it.
 #[derive(Clone, Copy, Debug, PartialEq, Eq)]
 pub enum Reason {
     /// A permanent PGN, whatever the pair.

@@ -1,4 +1,4 @@
-//! "Parameters" (02, ticket 8): buffer size, list size, entries, and the messages lost to a full buffer; functions 128, 130, 131 and 133.
+//! "Parameters": buffer size, list size, entries, and the messages lost to a full buffer; functions 128, 130, 131 and 133.
 
 use std::collections::BTreeMap;
 

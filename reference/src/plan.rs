@@ -1,4 +1,4 @@
-//! Document 02, ticket 13: a plan of a machine, and which segments hear a PGN. Nothing is walked with marks: all paths
+//! "Plans": a plan of a machine, and which segments hear a PGN. Nothing is walked with marks: all paths
 //! are made, each as the list of its steps.
 
 use crate::frame::is_pgn;

@@ -9,7 +9,7 @@ use crate::frame::{self, Frame};
 use crate::pair::{Pair, Reason};
 use crate::parameters::{Counter, Losses};
 
-/// How many ports a unit may have (02, ticket 10).
+/// How many ports a unit may have.
 pub const PORT_COUNTS: RangeInclusive<u32> = 2..=8;
 /// How many it has where power-on says no count, or another one.
 pub const USUAL_PORTS: u32 = 4;

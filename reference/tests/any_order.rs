@@ -1,4 +1,4 @@
-//! Document 02, ticket 12: claims in any order. From power-on, if no claim is refused, each NAME claims one address only
+//! "Claims in any order": from power-on, if no claim is refused, each NAME claims one address only
 //! and on one port only, none withdraws and none is the unit's, the final table is the same for every order of the same
 //! claims, and each address goes to its lowest claimant, the unit counted as one where it has started.
 

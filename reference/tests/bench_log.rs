@@ -1,4 +1,4 @@
-//! Document 02, ticket 9: records, text, the turnings and a run.
+//! "The bench log": records, text, the turnings and a run.
 
 use reference::bench_log::*;
 use reference::frame::Frame;

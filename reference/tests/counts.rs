@@ -1,4 +1,4 @@
-//! How full each queue is (02, ticket 7): eight counts for each port, frames accepted and taken since power-on.
+//! "How full a queue is": eight counts for each port, frames accepted and taken since power-on.
 
 mod common;
 

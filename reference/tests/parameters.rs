@@ -1,4 +1,4 @@
-//! The parameters a tool asks for (02, ticket 8), sentence by sentence.
+//! "Parameters", sentence by sentence.
 
 mod common;
 

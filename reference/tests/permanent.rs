@@ -1,4 +1,4 @@
-//! Document 02, ticket 3: PGNs 60928 and 59904 cross every pair whatever its mode and list, given room.
+//! Permanent (docs/RULES.md, "Forwarding", rule 2): PGNs 60928 and 59904 cross every pair whatever its mode and list, given room.
 
 mod common;
 

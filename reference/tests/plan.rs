@@ -1,4 +1,4 @@
-//! Document 02, ticket 13: plans made by hand, each refusal at its boundary, and generated plans against two other
+//! "Plans": plans made by hand, each refusal at its boundary, and generated plans against two other
 //! readings of the same words.
 
 use reference::generate::Random;
@@ -173,7 +173,7 @@ fn modes_and_lists() {
     }
 }
 
-/// Ticket 3: 59904 and 60928 cross whatever the pair; with a page bit they are other PGNs.
+/// Permanent: 59904 and 60928 cross whatever the pair; with a page bit they are other PGNs.
 #[test]
 fn permanent_pgns() {
     for pgn in [59904, 60928] {

@@ -1,4 +1,4 @@
-//! Document 02, ticket 10: a number of ports from 2 to 8, chosen at power-on; every rule with that number.
+//! A number of ports from 2 to 8, chosen at power-on; every rule with that number.
 
 mod common;
 

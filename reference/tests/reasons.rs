@@ -1,4 +1,4 @@
-//! Document 02, ticket 11: asking a pair gives a reason, and the frame's answer carries it for each port.
+//! "Forwarding", the reason: asking a pair gives a reason, and the frame's answer carries it for each port.
 
 mod common;
 

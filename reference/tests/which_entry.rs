@@ -1,4 +1,4 @@
-//! Which entry was wrong (02, ticket 2): what 22 and 17 tell beside the number.
+//! "Network messages", which entry was wrong: what 22 and 17 tell beside the number.
 
 mod common;
 

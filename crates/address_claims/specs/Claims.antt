@@ -1,4 +1,4 @@
--- What a claim does to the table (document 01, "Addresses"), for a NAME that is not the unit's.
+-- What a claim does to the table (docs/RULES.md, "Addresses"), for a NAME that is not the unit's.
 -- Assumes nothing.
 use Prim.Native.Nat.{ℕ}
 use mathlib.Core.Bool.{Bool, cond}

@@ -1,4 +1,4 @@
--- The ticket's sentences, of every list of calls by the real functions: by their contracts the record means what the book of document 01 holds (demand 3), and
+-- The ticket's sentences, of every list of calls by the real functions: by their contracts the record means what the book of the rules holds (demand 3), and
 -- the book's table is settled. Assumes nothing.
 use mathlib.Core.Path.{_≡_, refl, sym, ap, _∙_}
 use mathlib.Core.Bool.{Bool, true, false}

@@ -1,6 +1,6 @@
--- Document 02, ticket 12: "At key-on the claims come in a different order every morning. Prove: .. the final table is the same for every order of the same
--- claims." And what that table holds at each address, said without an order. `any-order` of proofs/AnyOrder.antt proves `AnyOrder`. Words in quotes are the
--- ticket's. Assumes nothing.
+-- docs/RULES.md, "Claims in any order": "At key-on the claims come in a different order every morning. Prove: .. the final table is the same for every order
+-- of the same claims." And what that table holds at each address, said without an order. `any-order` of proofs/AnyOrder.antt proves `AnyOrder`. Words in
+-- quotes are ticket 12's. Assumes nothing.
 use Prim.Native.Nat.{ℕ, _≤_, _<_}
 use mathlib.Core.Bool.{Bool, true, false}
 use mathlib.Core.Path.{_≡_}

@@ -1,4 +1,4 @@
--- Claims without an order: who claims which address, and whom it goes to (document 02, ticket 12).
+-- Claims without an order: who claims which address, and whom it goes to (docs/RULES.md, "Claims in any order").
 -- Assumes nothing.
 use Prim.Native.Nat.{ℕ, _≤_, _<_}
 use mathlib.Core.Bool.{Bool, true, false, cond}

@@ -1,4 +1,4 @@
--- The claims in a list of calls, read off the calls' arguments alone, and what ticket 12 of document 02 asks of them.
+-- The claims in a list of calls, read off the calls' arguments alone, and what "Claims in any order" of docs/RULES.md asks of them.
 -- Assumes nothing.
 use Prim.Native.Nat.{ℕ, _<_}
 use mathlib.Core.Bool.{Bool, true, false, _&&_, cond}
@@ -14,11 +14,11 @@ use Rattle.refusals.specs.Refusals.{frameRefusal}
 use Rattle.bridge.specs.Calls.{Call, FrameIn, TakeOut, Message, Start, Quiet, ReadUnit, ReadCounts}
 use Rattle.any_order.specs.Claimants.{Claimant}
 
--- 01: "A claim is PGN 60928, PS 255, length 8"
+-- docs/RULES.md, "Addresses": a claim is PGN 60928 to 255 with 8 bytes
 unfoldable pub isClaim : ℕ → List ℕ → Bool
 isClaim id bytes = eqb (pgnOf id) 60928 && (eqb (psOf id) 255 && eqb (length bytes) 8)
 
--- 01: "the NAME is its bytes, least significant first"; the address is the SA
+-- the NAME is these bytes, least significant first; the address is the SA
 abbrev pub claimantIn : ℕ → ℕ → List ℕ → Claimant
 claimantIn port id bytes = record { port = port; address = saOf id; name = packed bytes }
 

@@ -1,4 +1,4 @@
--- What is promised, whole: the customer's three demands, document 01's numbers in its literals, and its examples. `assurance` of proofs/Assurance.antt proves it.
+-- What is promised, whole: the customer's three demands, the numbers of docs/RULES.md in their literals, and its examples. Proved in proofs/Assurance.antt.
 use mathlib.Core.Path.{_≡_}
 use mathlib.Core.List.{List}
 use Prim.Native.Nat.{ℕ}
@@ -17,9 +17,9 @@ pub record Assurance : Type 0 where
   pub demand-2 : Demand2
   -- power-on was called on the words w, whatever they held, with any NAME, preferred address and count of ports, was answered r and left u
   pub demand-3 : {w u : List ℕ} {name preferred count r : ℕ} → Powered w name preferred count r u → EveryList w u name preferred count r
-  -- document 02, ticket 7
+  -- docs/RULES.md, "How full a queue is"
   pub counts : {w u : List ℕ} {name preferred count r : ℕ} → Powered w name preferred count r u → (r ≡ 2 → ⊥) → EveryCount u name preferred count
-  -- document 02, ticket 8
+  -- docs/RULES.md, "Parameters"
   pub losses : {w u : List ℕ} {name preferred count r : ℕ} → Powered w name preferred count r u → (r ≡ 2 → ⊥) → EveryLoss u count
   pub parameters : Parameters
   pub literals : Literals

@@ -1,4 +1,4 @@
--- Document 01, "Examples, hex": those marked (P), as one table, proved in proofs/Examples.antt.
+-- docs/RULES.md, "Examples": P1 to P11, as one table, proved in proofs/Examples.antt.
 use mathlib.Core.Path.{_≡_}
 use mathlib.Core.List.{List, [], _∷_}
 use Prim.Native.Nat.{ℕ}
@@ -87,7 +87,7 @@ pub record Examples : Type 0 where
   pub p7 : (message afterP5 3 ask .number ≡ 11) × (message afterP5 3 ask .written (afterP5 .seen) ≡ 0x02 ∷ 0x00 ∷ 0xFF ∷ 0xFF ∷ 0x21 ∷ 0x00 ∷ 0xED ∷ 0x00 ∷ [])
   -- 02 11 F1 FE 00 FF FF FF: 10
   pub p8 : message afterP5 1 (add 0x11 0xF1 0xFE 0x00) .number ≡ 10
-  -- 02 12 FF FF FF FF FF FF, after P5: 22 (document 02, ticket 2), and the first entry is told
+  -- 02 12 FF FF FF FF FF FF, after P5: 22, and the first entry is told
   pub p9 : (message afterP5 1 (add 0x12 0xFF 0xFF 0xFF) .number ≡ 22) × (message afterP5 1 (add 0x12 0xFF 0xFF 0xFF) .told ≡ record { entry = 1; to = 0; pgn = 0 })
   -- after P5, PGN 61444 from port 1: out of 3 and 4 (bits 2 and 3), compared 1
   pub p10 : (frameIn afterP5 0x0CF00400 .refusal ≡ 0)

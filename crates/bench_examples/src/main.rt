@@ -1,5 +1,5 @@
-// Examples of the bench log: document 02's log and one with every number, run in pieces of several sizes with little room and with much; lines and records
-// turned; lines of a real bus. Each stands beside what came of it.
+// Examples of the bench log: the log of docs/RULES.md and one with every number, run in pieces of several sizes with little room and with much; lines and
+// records turned; lines of a real bus. Each stands beside what came of it.
 use libc::STDOUT_FILENO;
 use unit::Unit;
 ghost use Prim.Native.Nat.{_≤_};
@@ -144,7 +144,7 @@ fn show_is_map(map: &[u8]) {
     }
 }
 
-// Document 02's example, and a log that meets 1, 3, 4, 5, then 24 or 25.
+// The example of docs/RULES.md, "The bench log", and a log that meets 1, 3, 4, 5, then 24 or 25.
 fn show_logs() {
     show_log(
         b"the example",

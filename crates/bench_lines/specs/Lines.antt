@@ -1,4 +1,4 @@
--- Document 02, ticket 9: the lines that a run prints. Characters are their numbers. Assumes nothing.
+-- docs/RULES.md, "The bench log": the lines that a run prints. Characters are their numbers. Assumes nothing.
 use Prim.Native.Nat.{ℕ, _+_, _/_, _%_, _≤_}
 use mathlib.Core.Bool.{cond}
 use mathlib.Core.List.{List, [], _∷_, _++_}

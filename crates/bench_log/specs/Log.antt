@@ -1,4 +1,4 @@
--- Document 02, ticket 9: the calls of a log. Assumes nothing.
+-- docs/RULES.md, "The bench log": the calls of a log. Assumes nothing.
 use Prim.Native.Nat.{ℕ, zero, suc}
 use mathlib.Core.Bool.{Bool, cond}
 use mathlib.Core.List.{List, [], _∷_}

@@ -1,5 +1,5 @@
--- Document 02, ticket 9: a whole run. `run-text` of proofs/WholeRun.antt: whatever pieces a log is read in, and whatever room there is for text, the text is that of
--- the log; `run-obeys`: the calls of a run obey demand 3. Assumes nothing.
+-- docs/RULES.md, "The bench log": a whole run. `run-text` of proofs/WholeRun.antt: whatever pieces a log is read in, and whatever room there is for text,
+-- the text is that of the log; `run-obeys`: the calls of a run obey demand 3. Assumes nothing.
 use Prim.Native.Nat.{ℕ, _+_, _≤_, _<_}
 use mathlib.Core.Logic.{_⊎_}
 use mathlib.Core.Bool.{Bool, true, false, cond}

@@ -1,4 +1,4 @@
--- Document 02, ticket 9: one step of a run. `lent` is the length of the unit's record that was lent. Assumes nothing.
+-- docs/RULES.md, "The bench log": one step of a run. `lent` is the length of the unit's record that was lent. Assumes nothing.
 use Prim.Native.Nat.{ℕ, _≤_}
 use mathlib.Core.Bool.{Bool, true, false, cond}
 use mathlib.Core.Path.{_≡_}

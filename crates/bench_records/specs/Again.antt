@@ -1,4 +1,4 @@
--- Document 02, ticket 9: "Frames written as candump text .. and read again are the same frames", by the contracts of the two turnings, and of our records.
+-- Ticket 9: "Frames written as candump text .. and read again are the same frames", by the contracts of the two turnings, and of our records.
 -- `record-again` and `there-and-back` of proofs/ prove it. Assumes nothing.
 use mathlib.Core.Path.{_≡_}
 use mathlib.Core.List.{List}

@@ -1,5 +1,5 @@
--- Document 02, ticket 9: the records of our log. Kind 1 is a frame (arrival port, identifier most significant first, length, eight bytes, those unused
--- written 0 and not read), kind 2 a take (the port). Assumes nothing.
+-- docs/RULES.md, "The bench log": the records of our log. Kind 1 is a frame (arrival port, identifier most significant first, length, eight bytes, those
+-- unused written 0 and not read), kind 2 a take (the port). Assumes nothing.
 use Prim.Native.Nat.{ℕ}
 use mathlib.Core.Bool.{Bool, cond, _||_}
 use mathlib.Core.List.{List, [], _∷_, _++_}

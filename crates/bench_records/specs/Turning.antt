@@ -1,4 +1,4 @@
--- Document 02, ticket 9: a line of text turned into a record, and a record into a line. Assumes nothing.
+-- docs/RULES.md, "The bench log": a line of text turned into a record, and a record into a line. Assumes nothing.
 use Prim.Native.Nat.{ℕ, _≤_}
 use mathlib.Core.Bool.{cond}
 use mathlib.Core.Path.{_≡_}

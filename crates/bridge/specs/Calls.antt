@@ -109,7 +109,7 @@ sends ports rest Quiet q = []
 sends ports rest ReadUnit q = []
 sends ports rest (ReadCounts port) q = []
 
--- ---- document 02, ticket 8: what is lost, and counted
+-- ---- docs/RULES.md, "Parameters": what is lost, and counted
 -- whether a frame is lost at port q, and whether the unit's own frame is lost there after it
 abbrev pub lostAt : ℕ → Model → ℕ → Frame → ℕ → Bool
 lostAt ports m port f q = loses (offered ports (m .rest) (port - 1) (f .id) q) (rowAt m q)
@@ -186,7 +186,7 @@ takeAnswer ports lent m port =
     (TakeAnswer.Took (takenOf (given (pull priority (rowAt m (port - 1))))))
     (TakeAnswer.Refused (takeRefusal ports lent port))
 
--- a take's answer by document 01's words: the number that refused it, 0 for none, and what it gave
+-- a take's answer in the words of the rules: the number that refused it, 0 for none, and what it gave
 abbrev pub takeNumber : TakeAnswer → ℕ
 takeNumber (TakeAnswer.Refused number) = number
 takeNumber (TakeAnswer.Took taken) = 0
@@ -216,7 +216,7 @@ abbrev pub readNumber : UnitAnswer → ℕ
 readNumber (UnitAnswer.Refused number) = number
 readNumber (UnitAnswer.Told own) = 0
 
--- document 02, ticket 7: what is counted at a port; refused, nothing is told
+-- docs/RULES.md, "How full a queue is": what is counted at a port; refused, nothing is told
 abbrev pub countsRefused : ℕ → CountsAnswer
 countsRefused number = record { refusal = number; tally = idle .tally }
 

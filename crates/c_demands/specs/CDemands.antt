@@ -251,7 +251,7 @@ pub record CDemands : Type 0 where
       × ((κs : Lfts 1) (w : RefT (List ℕ)) → quiet.Pre κs (w, tt))
       × ((κs : Lfts 2) (w a : RefT (List ℕ)) → unit.Pre κs (w, (a, tt)))
       × ((κs : Lfts 2) (w a : RefT (List ℕ)) (port : ℕ) → counts.Pre κs (w, (port, (a, tt))))
-  -- "Bad input is refused by a number of document 01; a refusal changes no list, queue or table"
+  -- "Bad input is refused by a number" of docs/RULES.md; "a refusal changes no list, queue or table"
   pub exact : {w w′ : List ℕ} {c : Exported} {g : Gave} → Made w c g w′ → Exact (numbers w c) (g .number) × ((g .number ≡ 0 → ⊥) → w′ ≡ w)
   -- what is said of the bridge's calls, demands 1 and 2 and the claims in any order too, is said of the exported ones: this is what they are
   pub is-call : {w w′ : List ℕ} {c : Exported} {g : Gave} → length w ≡ recordLength (portsOf w) → Made w c g w′ → lends c ≡ true → IsCall w c g w′

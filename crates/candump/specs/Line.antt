@@ -1,4 +1,4 @@
--- Document 02, ticket 9: a line of candump's text. Characters are their numbers. Assumes nothing.
+-- docs/RULES.md, "The bench log": a line of candump's text. Characters are their numbers. Assumes nothing.
 use Prim.Native.Nat.{ℕ, _+_, _-_, _*_, _/_, _^_, _≤_, _<_}
 use mathlib.Core.Bool.{Bool, true, false, _&&_, _||_}
 use mathlib.Core.Path.{_≡_}

@@ -1,4 +1,4 @@
--- Document 01, "Numbers given back": checks in order, and the number of the first that applies, 0 where none does.
+-- docs/RULES.md, "Numbers given back": checks in order, and the number of the first that applies, 0 where none does.
 -- Assumes nothing.
 use mathlib.Core.Bool.{Bool, cond, _&&_, _||_}
 use mathlib.Core.List.{List, [], _∷_}
@@ -16,6 +16,6 @@ abbrev pub first : List Check → ℕ
 first [] = 0
 first (c ∷ cs) = cond (c .applies) (c .number) (first cs)
 
--- "9 to 17 write eight bytes, the acknowledgment", and 22 and 23 (document 02, tickets 2 and 8): the numbers that write one
+-- 9 to 17, 22 and 23 write the acknowledgment
 abbrev pub acknowledges : ℕ → Bool
 acknowledges number = (leb 9 number && leb number 17) || (eqb number 22 || eqb number 23)

@@ -1,4 +1,4 @@
--- Document 01, "Addresses": claims, requests and Start. The frames that the unit sends are the crate `unit`'s.
+-- docs/RULES.md, "Addresses": claims, requests and Start. The frames that the unit sends are the crate `unit`'s.
 -- Assumes nothing.
 use Prim.Native.Nat.{ℕ}
 use mathlib.Core.Bool.{Bool, false, _&&_, _||_, cond}

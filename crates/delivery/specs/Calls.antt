@@ -1,4 +1,4 @@
--- A list of calls on one unit, made by the real functions, and a model (the book of document 01) that is fed the calls' arguments alone.
+-- A list of calls on one unit, made by the real functions, and a model (the book of docs/RULES.md, "Delivery") that is fed the calls' arguments alone.
 -- `Made u k x v`: the call k on the record u gave the answer x and left the record v, of which only the contract of the function called is known.
 -- `every-list` of proofs/Calls.antt: if one call follows the model, so does every list of calls.
 use mathlib.Core.Path.{_≡_}

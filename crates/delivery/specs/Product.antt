@@ -1,6 +1,6 @@
 -- Demand 3 for any product whose calls move a book: a bridge, a router. A product says what its book is, what a call does to it and what it answers; that its
 -- functions follow the book is shown for one call (Calls.antt). `obeys` of proofs/Product.antt: then demand 3 holds of every list of calls.
--- In this file ports are counted from 0. Words in quotes are the customer's; those marked 01 are document 01's.
+-- In this file ports are counted from 0. Words in quotes are the customer's; those after RULES are of docs/RULES.md, "Delivery".
 -- Assumes nothing.
 use mathlib.Core.Path.{_≡_}
 use mathlib.Core.Logic.{_↔_}
@@ -65,7 +65,7 @@ pub record Answered {C X : Type 0} (ks : List C) (xs : List X) (js : List C) (k 
 
 -- ---- the claim, from the book m on
 module _ {F R M C X : Type 0} (P : Product F R M C X) (m : M) where
-  -- 01: "The book is fed the calls' arguments alone, no answer and nothing of the unit's record."
+  -- RULES: "It is made of the calls' arguments alone, of no answer and nothing of the unit's record."
   abbrev pub bookAfter : List C → M
   bookAfter ks = afterCalls (P .next) m ks
 
@@ -111,14 +111,14 @@ module _ {F R M C X : Type 0} (P : Product F R M C X) (m : M) where
 
   -- The calls ks were made from the book m on and were answered xs.
   pub record Obeys (ks : List C) (xs : List X) : Type 0 where
-    -- 01: "Accepted for a port means joined its row; waiting means in the row." What one more call makes happen at port q (`happens`): a take that isn't
-    -- refused is one take at its port and nothing elsewhere; of the frames that any other call sends there, those join that find room in the book's row.
-    -- "Takes on that port alone are counted, refused ones not."
+    -- RULES: "Accepted for a port means that the frame joined its row, waiting that it is in the row." What one more call makes happen at
+    -- port q (`happens`): a take that isn't refused is one take at its port and nothing elsewhere; of the frames that any other call sends there, those join
+    -- that find room in the book's row. "Takes on that port alone are counted, refused ones not."
     pub grows : (q : ℕ) → q < P .ports → (js : List C) (k : C)
         → happened q (js ++ (k ∷ []))
         ≡ happened q js ++ happens (P .size) (P .asks (P .rest (bookAfter js)) k) q (P .row (bookAfter js) q) (P .sends (P .rest (bookAfter js)) k q)
     pub waits : (q : ℕ) → q < P .ports → (js : List C) → P .row (bookAfter js) q ≡ map (λ t. t .frame) (waiting (P .priority) (happened q js))
-    -- 01: "Unchanged": what is accepted is what a call sent. Below, f leaves as it came.
+    -- "unchanged": what is accepted is what a call sent. Below, f leaves as it came.
     pub came : (q : ℕ) → q < P .ports → (before : List (Event F)) (f : F) (after : List (Event F)) → happened q ks ≡ before ++ Join f ∷ after
         → Came q ks before f
     -- "A frame accepted for a port, the unit's own too, leaves there once, unchanged, at the first take whose number after its acceptance is 1 + A + B.

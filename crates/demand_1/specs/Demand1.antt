@@ -1,5 +1,5 @@
 -- Demand 1 about any record and any input, by the contracts alone: "Any frame, message, port number or buffer gets a defined answer. Bad input is refused by a
--- number of document 01; a refusal changes no list, queue or table, and writes the acknowledgment or nothing." Proved in proofs/Demand1.antt.
+-- number" of docs/RULES.md; "a refusal changes no list, queue or table, and writes the acknowledgment or nothing." Proved in proofs/Demand1.antt.
 use mathlib.Core.Path.{_≡_}
 use mathlib.Core.Logic.{_↔_}
 use mathlib.Core.Bool.{Bool, true, false, not, _&&_, _||_}
@@ -86,7 +86,7 @@ to payload = toOf (pairOf payload)
 abbrev pub entries : List ℕ → List ℕ
 entries payload = entriesOf (between (entriesStart (function payload)) (entriesEnd (entriesStart (function payload)) payload) payload)
 
--- document 02, ticket 8: "128 .. and 130 are the general request .. and reset", 131 and 133 a pair's; the parameter stands in byte 3
+-- ticket 8: "128 .. and 130 are the general request .. and reset", 131 and 133 a pair's; the parameter stands in byte 3
 abbrev pub asksParameter : List ℕ → Bool
 asksParameter payload = listed (function payload) (128 ∷ 130 ∷ 131 ∷ 133 ∷ [])
 
@@ -155,7 +155,7 @@ pub record Writes (lent back payload : List ℕ) (requester : ℕ) (r : MessageA
 abbrev pub restOf : List ℕ → Rest
 restOf words = modelOf (portsOf words) words .rest
 
--- ---- document 02, ticket 2: what the answer tells of an entry
+-- ---- ticket 2: what the answer tells of an entry
 -- the kth of a payload, from 1
 abbrev pub entryNo : List ℕ → ℕ → ℕ
 entryNo payload k = getD (entries payload) (k - 1) 0

@@ -1,4 +1,4 @@
--- The numbers of document 01 in its own literals, for every argument: the boundaries of the refusals, the replies' and the unit's frames' fixed bytes, the
+-- The numbers of docs/RULES.md in their literals, for every argument: the boundaries of the refusals, the replies' and the unit's frames' fixed bytes, the
 -- events. Each says that the definition which the contracts cite is that number. `literals` of proofs/Literals.antt proves it.
 -- Assumes nothing.
 use mathlib.Core.Path.{_≡_}

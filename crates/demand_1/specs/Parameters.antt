@@ -1,5 +1,5 @@
--- Document 02, ticket 8: what a tool is answered that asks for a parameter or resets one, by the bytes of its message and what the record holds, for every
--- number of ports. The quoted words are the ticket's. `parameters` of proofs/Parameters.antt proves it.
+-- docs/RULES.md, "Parameters": what a tool is answered that asks for a parameter or resets one, by the bytes of its message and what the record holds, for
+-- every number of ports. The quoted words are ticket 8's. `parameters` of proofs/Parameters.antt proves it.
 -- Assumes nothing.
 use mathlib.Core.Path.{_≡_}
 use mathlib.Core.Logic.{_⊎_}

@@ -1,6 +1,6 @@
--- Demand 2, by the contracts of the functions alone. About any records: no frame goes back, claims and requests cross, what crosses is told with its reason, a
--- command changes the pairs and the counter that it names, a tool sees its own. About records that calls from power-on led to: a list that is reported and
--- sent back is that list. Proved in proofs/Demand2.antt. The quoted words are the customer's.
+-- Demand 2, by the contracts of the functions alone. Proved in proofs/Demand2.antt. The quoted words are the customer's.
+-- About any records: no frame goes back, claims and requests cross, what crosses is told with its reason, a command changes the pairs and the counter that it
+-- names, a tool sees its own. About records that calls from power-on led to: a list that is reported and sent back is that list.
 use mathlib.Core.Path.{_≡_}
 use mathlib.Core.Logic.{_⊎_, _↔_}
 use mathlib.Core.Bool.{Bool, true, false, not, _&&_, _||_, cond}
@@ -40,7 +40,7 @@ restOf words = unitIn words .rest
 abbrev pub pairOn : List ℕ → ℕ → ℕ → Filter
 pairOn words a b = getD (restOf words .pairs) (pairAt (portsOf words) (a - 1) (b - 1)) clear
 
--- document 02, ticket 8: the word that counts the losses of the pair from port a to port b, and the one behind them all, which counts in general
+-- the word that counts the losses of the pair from port a to port b, and the one behind them all, which counts in general
 abbrev pub counterOn : ℕ → ℕ → ℕ → ℕ
 counterOn ports a b = lossesFrom ports + pairAt ports (a - 1) (b - 1)
 
@@ -60,14 +60,14 @@ pub record NotBack (words : List ℕ) (port id : ℕ) (bytes : List ℕ) (r : Fr
   pub accepted : bitAt (r .accepted) (port - 1) ≡ false
   pub lost : bitAt (r .lost) (port - 1) ≡ false
 
--- ---- document 02, ticket 3: "PGNs 60928 and 59904 cross every pair whatever its mode and list, given room. .. Their compared count is 0."
+-- ---- ticket 3: "PGNs 60928 and 59904 cross every pair whatever its mode and list, given room. .. Their compared count is 0."
 -- At every port but the arrival port such a frame is accepted, or lost where 32 wait, whatever the lists hold.
 pub record Crossing (words : List ℕ) (port : ℕ) (r : FrameAnswer) : Type 0 where
   pub accepted : (q : ℕ) → isPort (portsOf words) q ≡ true → (port ≡ q → ⊥) → bitAt (r .accepted) (q - 1) ≡ ltb (length (rowAt (unitIn words) (q - 1))) 32
   pub lost : (q : ℕ) → isPort (portsOf words) q ≡ true → (port ≡ q → ⊥) → bitAt (r .lost) (q - 1) ≡ not (ltb (length (rowAt (unitIn words) (q - 1))) 32)
   pub compared : r .compared ≡ 0
 
--- ---- document 02, ticket 11: "a reason: permanent, else cleared, listed in pass, not listed in block, stopped as listed, stopped as not listed", 1 to 6 in
+-- ---- ticket 11: "a reason: permanent, else cleared, listed in pass, not listed in block, stopped as listed, stopped as not listed", 1 to 6 in
 -- this order, by the pair's mode and list; "or ‘not asked’ where rule 2 asks no pair", 0
 abbrev pub listReason : Mode → Bool → ℕ
 listReason cleared here = 2
@@ -133,7 +133,7 @@ pub record OnlyNamed (words : List ℕ) (port : ℕ) (payload after : List ℕ) 
 pub record SameTo (p : ℕ) (x y : List ℕ) : Type 0 where
   pub claim : restOf x .own .claim ≡ restOf y .own .claim
   pub address : restOf x .own .address ≡ restOf y .own .address
-  -- "Demand 2's privacy rule lets a tool's answers depend on its own pairs' counters too" (document 02, ticket 8), on no other: the general functions are 11 for it
+  -- "Demand 2's privacy rule lets a tool's answers depend on its own pairs' counters too" (ticket 8), on no other: the general functions are 11 for it
   pub pairs : (a b : ℕ) → IsPair (portsOf x) a b → (a ≡ p) ⊎ (b ≡ p) → (pairOn x a b ≡ pairOn y a b) × (lossesOn x a b ≡ lossesOn y a b)
   -- an address is held on p under a NAME in the one exactly if in the other
   pub table : (a name : ℕ) → a < 254 → (getD (restOf x .table) a Free ≡ Held p name) ↔ (getD (restOf y .table) a Free ≡ Held p name)

@@ -1,10 +1,10 @@
 -- Demand 3: ONE claim about every list of calls on one unit, from a power-on on. `demand-3` of proofs/Demand3.antt proves `EveryList`.
--- Words in quotes are the customer's demand 3; those marked 01 are document 01's, "How much each contract says".
+-- Words in quotes are the customer's demand 3; those after RULES are of docs/RULES.md, "Delivery".
 -- In this file ports are counted from 0: port q is the customer's port q + 1. Assumes nothing.
 --
 -- The parts, in order:
 --   1. the calls, as the real functions make them: of each only its contract is known (Made.antt)
---   2. the book of document 01, here `Model`, fed the calls' arguments alone
+--   2. the book of docs/RULES.md, here `Model`, fed the calls' arguments alone
 --   3. what a call sends and asks, read on the book: the bridge as a product
 --   4. the claim
 -- What demand 3 says of any product is `Obeys` of the crate `delivery` (specs/Product.antt): when a frame leaves, once, unchanged, what a take gives.
@@ -213,7 +213,7 @@ reasonsIn (ToCounts r) = 0
 abbrev pub crossing : ℕ → Bool
 crossing reason = leb 1 reason && leb reason 4
 
--- 02, ticket 11: which ports are accepted and lost follows from the reason that is told for each, and from room. The call found the book m and was answered
+-- Which ports are accepted and lost follows from the reason that is told for each, and from room. The call found the book m and was answered
 -- x; q is any number.
 pub record ByReason (m : Model) (x : Answer) (q : ℕ) : Type 0 where
   pub accepted : bitAt (acceptedPorts x) q ≡ crossing (digitAt (reasonsIn x) q) && ltb (length (rowAt m q)) 32
@@ -224,8 +224,8 @@ abbrev pub Sent : List Frame → Type 0
 Sent fs = fs ≡ [] → ⊥
 
 module _ (ports : ℕ) where
-  -- 01: "Accepted ports, lost ports and the ports where the unit's own frame was lost are those rule 3 names in the book." The call k found the book m
-  -- and was answered x; q is any number.
+  -- RULES: "The ports that an answer tells as accepted or lost, or where the unit's own frame was lost, are those of rule 3 in the book." The call k found
+  -- the book m and was answered x; q is any number.
   pub record Rule3 (m : Model) (k : Call) (x : Answer) (q : ℕ) : Type 0 where
     -- accepted exactly if q is a port, a frame was sent there and fewer than 32 waited
     pub accepted : (bitAt (acceptedPorts x) q ≡ true) ↔ ((q < ports) × (Sent (forwards ports (m .rest) k q) × (length (rowAt m q) < size)))
@@ -235,8 +235,8 @@ module _ (ports : ℕ) where
     pub ownLost : (bitAt (ownLostPorts x) q ≡ true)
         ↔ ((q < ports) × (Sent (announces ports (m .rest) k) × (size ≤ length (joinAll size (rowAt m q) (forwards ports (m .rest) k q)))))
 
--- 01: "Unchanged means identifier, length and bytes as handed in, or for the unit's own frame as the rules give them": 18EEFF00 (hex) plus its address, or
--- 18EEFFFE, length 8, its NAME. `own` is the unit as the call k leaves it.
+-- RULES: "Unchanged means that identifier, length and bytes are those handed in, or for the unit's own frame those of ‘Addresses’": 18EEFF00 (hex) plus its
+-- address, or 18EEFFFE, length 8, its NAME. `own` is the unit as the call k leaves it.
 pub data AsHandedIn (own : Unit) (k : Call) (f : Frame) : Type 0 where
   handed : (port id : ℕ) (bytes : List ℕ) → k ≡ FrameIn port id bytes → f .id ≡ id → f .len ≡ length bytes → bytesOf (length bytes) (f .bytes) ≡ bytes
       → AsHandedIn own k f
@@ -253,7 +253,7 @@ bytesIn ReadUnit = []
 bytesIn (ReadCounts port) = []
 
 module _ (ports name preferred : ℕ) where
-  -- 01: "Power-on, with any NAME and preferred address, makes it fresh." "The book is fed the calls' arguments alone, no answer and nothing of the
+  -- RULES: "Power-on, with any NAME and preferred address, makes it fresh." "It is made of the calls' arguments alone, of no answer and nothing of the
   -- unit's record."
   abbrev pub modelAfter : List Call → Model
   modelAfter ks = afterCalls (next ports) (fresh ports name preferred) ks
@@ -263,10 +263,10 @@ module _ (ports name preferred : ℕ) where
     -- Every answer, and what the record means, is the book's.
     pub answers : xs ≡ answersOf (next ports) (answer ports) (fresh ports name preferred) ks
     pub state : modelOf ports v ≡ modelAfter ks
-    -- 01: "A call refused under ‘Numbers given back’, read on the book, changes nothing, and the unit refuses just these."
+    -- RULES: "A call that ‘Numbers given back’, read on the book, refuses changes nothing, and the unit refuses just these."
     pub refuses : (js : List Call) (k : Call) (x : Answer) → Answered ks xs js k x → numberIn x ≡ refusal ports (words ports) (modelAfter js .rest) k
     pub unmoved : (js : List Call) (k : Call) → (refusal ports (words ports) (modelAfter js .rest) k ≡ 0 → ⊥) → modelAfter (js ++ (k ∷ [])) ≡ modelAfter js
-    -- "The ports that answers name as accepted or lost are those of document 01's book."
+    -- "The ports that answers name as accepted or lost are those of" the book
     pub named : (js : List Call) (k : Call) (x : Answer) → Answered ks xs js k x → (q : ℕ) → Rule3 ports (modelAfter js) k x q
     pub reasoned : (js : List Call) (k : Call) (x : Answer) → Answered ks xs js k x → (q : ℕ) → ByReason (modelAfter js) x q
     -- When and where every accepted frame leaves, and what every take gives. What is accepted is what a call sent.
@@ -283,8 +283,8 @@ pub record EveryList (w u : List ℕ) (name preferred count r : ℕ) : Type 0 wh
   -- "For every list of calls on one unit from one power-on to the next (frames, takes, messages, Start and Quiet, refused ones too)", each given the record
   -- as the last call left it (`Run`).
   pub every : (r ≡ 2 → ⊥) → (ks : List Call) (xs : List Answer) (v : List ℕ) → Run Made u ks xs v → Demand3 (countOf count) name preferred ks xs v
-  -- 02, ticket 10: "a number of ports from 2 to 8, chosen at power-on"; 27 "then hands back the unit as with four ports; that counts as a power-on"
+  -- ticket 10: "a number of ports from 2 to 8, chosen at power-on"; 27 "then hands back the unit as with four ports; that counts as a power-on"
   pub chosen : r ≡ 0 → (countOf count ≡ count) × (2 ≤ count) × (count ≤ 8)
   pub four : r ≡ 27 → countOf count ≡ 4
-  -- 01: "A power-on refused with 2 counts as none": it leaves every word as it was.
+  -- A power-on that is refused with 2 is none: it leaves every word as it was.
   pub none : r ≡ 2 → u ≡ w

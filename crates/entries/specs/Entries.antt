@@ -25,7 +25,7 @@ threeAt bytes at = packed (take 3 (drop at bytes))
 unfoldable pub entryAt : List ℕ → ℕ → Entry
 entryAt bytes at = cond (leb (at + 3) (length bytes) && isPgn (threeAt bytes at)) (Pgn (threeAt bytes at)) Wrong
 
--- what an entry is by the rules' numbers: none, or 22 (document 02, ticket 2)
+-- what an entry is by the rules' numbers: none, or 22
 abbrev pub entryNumber : Entry → ℕ
 entryNumber (Pgn pgn) = 0
 entryNumber Wrong = 22

@@ -1,4 +1,4 @@
-// Document 01's examples, run: a line for each.
+// The examples of docs/RULES.md, run: a line for each.
 use libc::STDOUT_FILENO;
 
 // A word, and a number in decimal.

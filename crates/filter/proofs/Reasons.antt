@@ -1,4 +1,4 @@
--- Document 02, ticket 11: "What crosses stays the same." Assumes nothing.
+-- docs/RULES.md, "Forwarding", the reason; ticket 11: "What crosses stays the same." Assumes nothing.
 use mathlib.Core.Path.{_≡_, refl}
 use mathlib.Core.Bool.{Bool, true, false, cond, _||_}
 use Prim.Native.Nat.{ℕ, _<_}

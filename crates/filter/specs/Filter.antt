@@ -70,7 +70,7 @@ unfoldable pub place : ℕ → List ℕ → ℕ
 place x [] = 0
 place x (y ∷ ys) = cond (eqb y x) 1 (suc (place x ys))
 
--- document 02, ticket 3: address claims and requests, by the PGN alone, cross every pair whatever its mode and list
+-- docs/RULES.md, "Forwarding", rule 2, permanent: address claims and requests, by the PGN alone, cross every pair whatever its mode and list
 unfoldable pub isPermanent : ℕ → Bool
 isPermanent pgn = eqb pgn addressClaimed || eqb pgn request
 
@@ -78,7 +78,7 @@ isPermanent pgn = eqb pgn addressClaimed || eqb pgn request
 unfoldable pub permitted : Filter → ℕ → Bool
 permitted f pgn = isPermanent pgn || permits (f .mode) (listed pgn (f .entries))
 
--- document 02, ticket 11: the reason why a PGN that is not permanent crosses a pair of that mode or not, by whether it is listed
+-- docs/RULES.md, "Forwarding": the reason why a PGN that is not permanent crosses a pair of that mode or not, by whether it is listed
 unfoldable pub reasonOf : Mode → Bool → Reason
 reasonOf cleared here = Reason.Cleared
 reasonOf block true = Reason.StoppedAsListed

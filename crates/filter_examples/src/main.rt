@@ -1,4 +1,4 @@
-// Hand-made cases from document 01 on one pair, run: forwarding rules 2 and 5 and the reason of each answer, functions 2, 3, 4 and 6, and what is an entry.
+// Hand-made cases from docs/RULES.md on one pair, run: forwarding rules 2 and 5 and the reason of each answer, functions 2, 3, 4 and 6, and what is an entry.
 use filter::Reason;
 use libc::STDOUT_FILENO;
 ghost use mathlib.Core.Path.{_≡_};

@@ -1,4 +1,4 @@
--- Document 01, "Forwarding", rules 2, 3 and 5, at each port by itself; and what is counted of the frames that are lost there.
+-- docs/RULES.md, "Forwarding", rules 2, 3 and 5, at each port by itself; and what is counted of the frames that are lost there.
 -- Assumes nothing.
 use Prim.Native.Nat.{ℕ}
 use mathlib.Core.Bool.{Bool, false, not, _&&_, cond}
@@ -39,7 +39,7 @@ abbrev pub losesOwn : Sent → List Frame → Bool
 losesOwn Sent.Nothing row = false
 losesOwn (Sent.One f) row = not (room size row)
 
--- ---- document 02, ticket 8: losses count "one for each frame and lost port"
+-- ---- docs/RULES.md, "Parameters": losses count "one for each frame and lost port"
 -- one more in the counter in place i
 abbrev pub countedAt : ℕ → List ℕ → List ℕ
 countedAt i losses = set losses i (oneMore (getD losses i 0))

@@ -1,4 +1,4 @@
--- Document 01, "Frames and numbers": a frame's identifier, field by field, and what is read off it.
+-- docs/RULES.md, "Frames and numbers": a frame's identifier, field by field, and what is read off it.
 -- Assumes nothing.
 use Prim.Native.Nat.{ℕ, _+_, _*_, _/_, _%_, _^_}
 use mathlib.Core.Bool.{Bool, cond, not, _&&_, _||_}

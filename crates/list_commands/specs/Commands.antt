@@ -1,4 +1,4 @@
--- Document 01, "Network messages": which pairs a command names, what it is refused with by the lists, and what it does to them.
+-- docs/RULES.md, "Network messages": which pairs a command names, what it is refused with by the lists, and what it does to them.
 -- Assumes nothing.
 use Prim.Native.Nat.{ℕ, zero, suc, _+_, _-_, _*_, _≤_, _<_}
 use mathlib.Core.Bool.{Bool, true, false, _&&_, _||_, cond}
@@ -88,7 +88,7 @@ unfoldable pub commanded : ℕ → Change → List ℕ → ℕ → ℕ → List 
 commanded ports change xs from to pairs =
     cond (eqb (listRefusal ports change xs from to pairs) 0) (changeNamed ports (ports - 1) (changeOf change xs) from to pairs) pairs
 
--- ---- document 02, ticket 2: for 17, "the first pair in rising To order and the first PGN in it that is absent"
+-- ---- ticket 2: for 17, "the first pair in rising To order and the first PGN in it that is absent"
 -- the first below n for which a test holds, or n
 unfoldable pub firstBelow : (ℕ → Bool) → ℕ → ℕ
 firstBelow test zero = 0

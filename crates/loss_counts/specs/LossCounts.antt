@@ -1,4 +1,4 @@
--- Document 02, ticket 8: the counters of losses, in every list of calls from power-on. Proved as `every-loss` in proofs/LossCounts.antt.
+-- docs/RULES.md, "Parameters": the counters of losses, in every list of calls from power-on. Proved as `every-loss` in proofs/LossCounts.antt.
 -- A counter is said by the answers that the calls were given, which demand 3 holds to the book: the ports named as lost, and the ports where the unit's own
 -- frame was lost. The quoted words are the request's. In this file ports are counted from 0. Assumes nothing.
 use mathlib.Core.Path.{_≡_}

@@ -1,4 +1,4 @@
--- Document 02, ticket 8: a counter of the messages lost to a full buffer, in one word.
+-- docs/RULES.md, "Parameters": a counter of the messages lost to a full buffer, in one word.
 -- Assumes nothing.
 use Prim.Native.Nat.{ℕ, suc}
 use mathlib.Core.Bool.{cond}

@@ -1,4 +1,4 @@
--- Document 01, "Network messages": what a message does, and what is written back. What a payload says is the crate `network_message`'s.
+-- docs/RULES.md, "Network messages": what a message does, and what is written back. What a payload says is the crate `network_message`'s.
 -- Assumes nothing.
 use Prim.Native.Nat.{ℕ, _+_, _-_}
 use mathlib.Core.Bool.{cond}
@@ -28,7 +28,7 @@ pub record Replied : Type 0 where
   pub losses : List ℕ → List ℕ
   pub pgn : ℕ
   pub written : Seen → List ℕ
-  -- document 02, ticket 2: which entry was wrong
+  -- which entry was wrong
   pub told : Absent
 
 abbrev pub nothingTold : Absent

@@ -1,5 +1,5 @@
-// Document 01's payloads P5 to P9 and what is written for them; an address list; parameters; and every function byte with every pair byte from every port, counted by
-// what comes of it.
+// The payloads P5 to P9 of docs/RULES.md and what is written for them; an address list; parameters; and every function byte with every pair byte from every
+// port, counted by what comes of it.
 use libc::STDOUT_FILENO;
 use network_message::Command;
 ghost use mathlib.Core.Path.{_≡_};

@@ -1,4 +1,4 @@
--- Document 01's payloads P5 to P9, and payloads of parameters (document 02, ticket 8), decoded by computing. Assumes nothing.
+-- The payloads P5 to P9 of docs/RULES.md, and payloads of parameters, decoded by computing. Assumes nothing.
 use mathlib.Core.Path.{_≡_, refl}
 use mathlib.Core.Bool.{true}
 use mathlib.Core.List.{[], _∷_}

@@ -1,5 +1,6 @@
--- Number 11 for a tool on a port other than 1: it may name just what document 01 calls its own, and the unit as a whole is port 1's. A tool that names all pairs from another port names one that
--- is not its own: of three ports one is neither From nor the tool's. In a unit of two ports they are the one pair that leads to it. Assumes nothing.
+-- Number 11 for a tool on a port other than 1: it may name just what the rules call its own, and the unit as a whole is port 1's. A tool that names all pairs
+-- from another port names one that is not its own: of three ports one is neither From nor the tool's. In a unit of two ports they are the one pair that leads
+-- to it. Assumes nothing.
 use mathlib.Core.Path.{_≡_, refl, sym, _∙_}
 use mathlib.Core.Logic.{_⊎_, inl, inr, ⊎-elim}
 use mathlib.Core.Bool.{Bool, true, false, cond, not, _&&_, _||_, or-true, true≢false}

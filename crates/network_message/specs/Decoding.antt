@@ -1,4 +1,5 @@
--- Document 01, "Network messages", and its numbers 9 to 13, 22 and 23: what a payload says. All is over the number of ports; ports are counted from 1 here, as on the wire.
+-- docs/RULES.md, "Network messages" and "Parameters", and its numbers 9 to 13, 22 and 23: what a payload says. All is over the number of ports; ports are
+-- counted from 1 here, as on the wire.
 -- Assumes nothing.
 use mathlib.Core.Bool.{Bool, true, cond, not, _&&_, _||_}
 use mathlib.Core.List.{List, [], _∷_}
@@ -30,12 +31,12 @@ fromOf pair = pair / 16
 abbrev pub toOf : ℕ → ℕ
 toOf pair = pair % 16
 
--- byte 3 of a parameter's function (document 02, ticket 8); bytes 4 to 8 are not read
+-- byte 3 of a parameter's function; bytes 4 to 8 are not read
 abbrev pub parameterOf : List ℕ → ℕ
 parameterOf payload = getD payload 2 0
 
 -- ---- 9: function not listed
--- 0 Request, 2 Add, 3 Delete, 4 Clear, 6 Create, 64 the address list; document 02, ticket 8: 128 the general request for a parameter, 130 the general reset,
+-- 0 Request, 2 Add, 3 Delete, 4 Clear, 6 Create, 64 the address list; 128 the general request for a parameter, 130 the general reset,
 -- 131 and 133 a pair's; "a reply sent to us gets 9": 129 and 132 are not listed
 unfoldable pub isKnown : ℕ → Bool
 isKnown function = listed function (0 ∷ 2 ∷ 3 ∷ 4 ∷ 6 ∷ 64 ∷ 128 ∷ 130 ∷ 131 ∷ 133 ∷ [])
@@ -70,7 +71,7 @@ mayName ports port function from to =
     eqb port 1
     || (not (isGeneral function) && (eqb to port || (not (eqb function 64) && (eqb from port || (eqb to allPorts && eqb ports 2)))))
 
--- ---- 23 (document 02, ticket 8): parameter not held, or a reset of one other than 9
+-- ---- 23: parameter not held, or a reset of one other than 9
 -- 1 buffer size, 2 list size, 3 entries, 9 messages lost to a full buffer
 abbrev pub isHeld : ℕ → Bool
 isHeld parameter = listed parameter (1 ∷ 2 ∷ 3 ∷ 9 ∷ [])
@@ -105,7 +106,7 @@ unfoldable pub hasGoodBody : ℕ → List ℕ → Bool
 hasGoodBody function payload =
     cond (listed function (2 ∷ 3 ∷ 6 ∷ [])) (holdsEntries (entriesStart function) payload) (eqb (length payload) 8)
 
--- ---- 22 (document 02, ticket 2): three bytes that aren't a PGN
+-- ---- 22: three bytes that aren't a PGN
 -- "the first such entry's number from 1", 0 where there is none
 unfoldable pub wrongIn : ℕ → List ℕ → ℕ
 wrongIn start payload = firstWrong (entriesOf (between start (entriesEnd start payload) payload))

@@ -1,4 +1,4 @@
--- Document 02, ticket 8: what each parameter is worth, of a pair and in general: 1 buffer size, 2 list size, 3 entries, 9 messages lost to a full buffer.
+-- docs/RULES.md, "Parameters": what each parameter is worth, of a pair and in general: 1 buffer size, 2 list size, 3 entries, 9 messages lost to a full buffer.
 -- Ports are counted from 0 here.
 -- Assumes nothing.
 use Prim.Native.Nat.{ℕ, _*_}

@@ -1,4 +1,4 @@
--- Document 02, ticket 13: a plan of a machine, what it is refused with, and which segments hear a PGN.
+-- docs/RULES.md, "Plans": a plan of a machine, what it is refused with, and which segments hear a PGN.
 -- Segments are counted from 1, 0 being none, as the plan has them. Units and their ports are counted from 0, as they stand in it.
 -- Assumes nothing.
 use Prim.Native.Nat.{ℕ, zero, suc, _+_, _-_, _*_, _^_, _≤_, _<_}
@@ -96,7 +96,7 @@ unfoldable pub NoUnitTwice : List Crossing → Type 0
 NoUnitTwice [] = Unit
 NoUnitTwice (c ∷ cs) = Unused (c .unit) cs × NoUnitTwice cs
 
--- "each unit on it permits": the pair of the ports where it is entered and left; ticket 3's PGNs cross every pair
+-- "each unit on it permits": the pair of the ports where it is entered and left; the permanent PGNs cross every pair
 abbrev pub Permits : Plan → ℕ → Crossing → Type 0
 Permits plan pgn c = permitted (pairOf (plan .lists) (c .unit) (c .enter) (c .leave)) pgn ≡ true
 

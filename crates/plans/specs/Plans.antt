@@ -1,4 +1,4 @@
--- Document 02, ticket 13: what a plan is answered with. Assumes nothing.
+-- docs/RULES.md, "Plans": what a plan is answered with. Assumes nothing.
 use Prim.Native.Nat.{ℕ}
 use mathlib.Core.Path.{_≡_}
 use mathlib.Core.Bool.{true, false}

@@ -1,5 +1,5 @@
 -- One port's queue: what a block of words means, and what a join and a take do. The rules themselves are those of the crate `delivery`; what is counted is
--- document 02's ticket 7.
+-- docs/RULES.md, "How full a queue is".
 use Prim.Native.Nat.{ℕ, _+_, _-_, _*_, _/_, _%_, _^_}
 use mathlib.Core.Path.{_≡_}
 use mathlib.Core.Bool.{Bool, false, cond}
@@ -48,7 +48,7 @@ rowOf block = take (getD block 0 0) (framesOf block)
 abbrev pub priority : Frame → ℕ
 priority f = priorityOf (f .id)
 
--- ---- what is counted (ticket 7)
+-- ---- what is counted
 -- the words before the frames: how many wait, the eight counts, accepted, taken
 abbrev pub head : List ℕ → List ℕ
 head block = take headLength block

@@ -1,4 +1,4 @@
-// Two examples of document 01 at one queue, run: P11 and 12; then what is counted while a queue fills and empties.
+// Two examples of docs/RULES.md at one queue, run: P11 and 12; then what is counted while a queue fills and empties.
 ghost use mathlib.Core.Path.{_≡_};
 ghost use lib.ListN.{length};
 ghost use Rattle.queue.specs.Queue.{blockLength};

@@ -1,4 +1,4 @@
--- Document 01, "Numbers given back": the checks of each call in order, and the number of the first that applies, 0 where none does.
+-- docs/RULES.md, "Numbers given back": the checks of each call in order, and the number of the first that applies, 0 where none does.
 -- Assumes nothing.
 use Prim.Native.Nat.{ℕ}
 use mathlib.Core.Bool.{not, _&&_, _||_}

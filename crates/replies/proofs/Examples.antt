@@ -1,4 +1,5 @@
--- What is written for document 01's payloads P5 to P9, the reply of J1939-31's Figure 8, that of a cleared pair, and parameters, computed. Assumes nothing.
+-- What is written for the payloads P5 to P9 of docs/RULES.md, the reply of J1939-31's Figure 8, that of a cleared pair, and parameters, computed. Assumes
+-- nothing.
 use mathlib.Core.Path.{_≡_, refl}
 use mathlib.Core.List.{[], _∷_}
 use Rattle.storage.specs.Bytes.{bytesOf}
@@ -20,7 +21,7 @@ lists :
 unfolding listReply filled listBody reportedMode reported bytesOf
 lists = (refl, refl, refl)
 
--- document 02, ticket 8: 1,664 and 1,152 in general, 416 and 96 for a pair, and 64,255
+-- docs/RULES.md, "Parameters": 1,664 and 1,152 in general, 416 and 96 for a pair, and 64,255
 parameters :
     (parameterReply 0x81 0xFF 1 1664 ≡ 0x81 ∷ 0xFF ∷ 0x01 ∷ 0x80 ∷ 0x06 ∷ 0xFF ∷ 0xFF ∷ 0xFF ∷ [])
     × (parameterReply 0x81 0xFF 2 1152 ≡ 0x81 ∷ 0xFF ∷ 0x02 ∷ 0x80 ∷ 0x04 ∷ 0xFF ∷ 0xFF ∷ 0xFF ∷ [])

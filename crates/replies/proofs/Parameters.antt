@@ -1,4 +1,4 @@
--- The eight bytes of a reply with a parameter (document 02, ticket 8), one by one, for a value that two bytes hold. Assumes nothing.
+-- The eight bytes of a reply with a parameter (docs/RULES.md, "Parameters"), one by one, for a value that two bytes hold. Assumes nothing.
 use mathlib.Core.Path.{_≡_}
 use mathlib.Core.List.{[], _∷_}
 use Prim.Native.Nat.{ℕ, _/_, _%_, _<_}

@@ -1,4 +1,4 @@
--- Document 01, "Network messages": what is written to the reply buffer, as lists of bytes.
+-- docs/RULES.md, "Network messages": what is written to the reply buffer, as lists of bytes.
 -- Assumes nothing.
 use mathlib.Core.Bool.{cond}
 use mathlib.Core.Path.{_≡_}
@@ -40,7 +40,7 @@ portByte port = port
 unfoldable pub addressReply : ℕ → ℕ → List Place → List ℕ
 addressReply port except table = filled (65 ∷ portByte port ∷ addressesOn port except table)
 
--- 129 and 132 (document 02, ticket 8): "function, pair byte (general: .. FF in the reply), parameter, in a reply the value in two bytes, least significant first"
+-- 129 and 132, ticket 8: "function, pair byte (general: .. FF in the reply), parameter, in a reply the value in two bytes, least significant first"
 unfoldable pub parameterReply : ℕ → ℕ → ℕ → ℕ → List ℕ
 parameterReply function named parameter value = filled (function ∷ named ∷ parameter ∷ bytesOf 2 value)
 

@@ -1,4 +1,4 @@
--- Document 02, ticket 7: what is counted at a port, in every list of calls from power-on. Proved as `every-count` in proofs/Tallies.antt.
+-- docs/RULES.md, "How full a queue is": what is counted at a port, in every list of calls from power-on. Proved as `every-count` in proofs/Tallies.antt.
 -- The quoted words are the request's. In this file ports are counted from 0. Assumes nothing.
 use mathlib.Core.Path.{_≡_}
 use mathlib.Core.List.{List, [], _∷_, _++_}

@@ -1,4 +1,4 @@
--- Document 02, ticket 10: the number of ports, 2 to 8, chosen at power-on and held in the record; and how many directed pairs they make.
+-- docs/RULES.md, "Frames and numbers": the number of ports, 2 to 8, chosen at power-on and held in the record; and how many directed pairs they make.
 -- Assumes nothing.
 use Prim.Native.Nat.{ℕ, _-_, _*_, _≤_}
 use mathlib.Core.Bool.{Bool, cond, _&&_}

@@ -1,4 +1,4 @@
--- The model of a unit, which is the book of document 01: the pairs, the address table, the unit itself, and for each port a row of frames in order of
+-- The model of a unit, which is the book of docs/RULES.md: the pairs, the address table, the unit itself, and for each port a row of frames in order of
 -- joining, with what is counted there. And what a record of words means as a model. All is over the number of ports; ports are counted from 0 here.
 -- Assumes nothing.
 use Prim.Native.Nat.{ℕ, zero, suc, _+_, _-_, _*_, _%_, _^_}
@@ -28,7 +28,7 @@ pub record Rest : Type 0 where
   pub table : List Place
 
 -- what is only looked at, by a reply: it moves neither the rest nor a row, and no number depends on it. A counter of losses for each pair, in the pairs'
--- order, and the general one behind them (document 02, ticket 8)
+-- order, and the general one behind them (docs/RULES.md, "Parameters")
 pub record Seen : Type 0 where
   pub losses : List ℕ
 

@@ -1,4 +1,4 @@
--- The unit itself, document 01, "Addresses" and rule 1 of "Forwarding": its claim state, what is its own, the frames that it sends, when it may start.
+-- The unit itself, docs/RULES.md, "Addresses" and rule 1 of "Forwarding": its claim state, what is its own, the frames that it sends, when it may start.
 -- Assumes nothing.
 use Prim.Native.Nat.{ℕ, _+_}
 use mathlib.Core.Bool.{Bool, true, false, not, _&&_}
