@@ -1,11 +1,10 @@
-//! With the feature `linked` or `linked_plan`: where libdeorasaeng.a is, DEORASAENG_LIB or ../target/staticlib.
+//! With the feature `linked`: where libdeorasaeng.a is, DEORASAENG_LIB or ../target/staticlib.
 
 use std::env;
 
 fn main() {
     println!("cargo:rerun-if-env-changed=DEORASAENG_LIB");
-    let features = ["CARGO_FEATURE_LINKED", "CARGO_FEATURE_LINKED_PLAN"];
-    if features.iter().all(|feature| env::var_os(feature).is_none()) {
+    if env::var_os("CARGO_FEATURE_LINKED").is_none() {
         return;
     }
     let here = env::var("CARGO_MANIFEST_DIR").expect("cargo says where the package is");

@@ -2,23 +2,14 @@
 
 use std::slice;
 
-const FEWEST: usize = 2;
-const USUAL: usize = 4;
-const MOST: usize = 8;
-const LIST: usize = 32;
-const QUEUE: usize = 32;
-const RANKS: usize = 8;
+#[allow(dead_code)]
+#[path = "../src/layout.rs"]
+mod layout;
+use layout::*;
+
 /// What a port counts: the ranks, then accepted and taken.
-const COUNTS: usize = RANKS + 2;
 const ACCEPTED: usize = RANKS;
 const TAKEN: usize = RANKS + 1;
-const PLACES: usize = 254;
-const PAIR_WORDS: usize = 2 + LIST;
-const QUEUE_WORDS: usize = 1 + COUNTS + 2 * QUEUE;
-const PLACE_WORDS: usize = 2;
-const OWN: usize = 5;
-const LONGEST: usize = 1785;
-const MESSAGE_ANSWER: usize = 5;
 const NO_ADDRESS: u64 = 254;
 const ALL: usize = 15;
 const FILLING: u8 = 0xFF;
@@ -72,23 +63,11 @@ type Place = [u64; PLACE_WORDS];
 
 /// The record's regions. The pairs are, for each port, those to the others; the losses are a counter for each, and the general one last.
 struct Unit<'a> {
-    own: &'a mut [u64; OWN],
+    own: &'a mut [u64; OWN_WORDS],
     table: &'a mut [Place; PLACES],
     queues: &'a mut [Queue],
     pairs: &'a mut [Pair],
     losses: &'a mut [u64],
-}
-
-const fn record_words(ports: usize) -> usize {
-    OWN + PLACE_WORDS * PLACES + QUEUE_WORDS * ports + (PAIR_WORDS + 1) * ports * (ports - 1) + 1
-}
-
-/// How many ports the record has.
-fn ports_of(words: &[u64]) -> usize {
-    match words.get(OWN - 1) {
-        Some(&ports) if (FEWEST as u64..=MOST as u64).contains(&ports) => ports as usize,
-        _ => USUAL,
-    }
 }
 
 enum Event {
@@ -121,9 +100,9 @@ struct Taken {
 // ---- queues
 
 /// How many wait, what the port counts, the frames' words.
-fn parts(queue: &mut Queue) -> (&mut u64, &mut [u64; COUNTS], &mut [u64; 2 * QUEUE]) {
+fn parts(queue: &mut Queue) -> (&mut u64, &mut [u64; COUNTS_ANSWER], &mut [u64; 2 * QUEUE]) {
     let [count, rest @ ..] = queue;
-    let (counts, frames) = rest.split_at_mut(COUNTS);
+    let (counts, frames) = rest.split_at_mut(COUNTS_ANSWER);
     (count, counts.try_into().unwrap(), frames.try_into().unwrap())
 }
 
@@ -234,7 +213,7 @@ fn add(pairs: &mut [Pair], body: &[u8]) -> Result<(), Refusal> {
     }
     let (pgns, held) = different(body)?;
     let pgns = &pgns[..held];
-    let mut fresh = [0u32; MOST - 1];
+    let mut fresh = [0u32; MOST_PORTS - 1];
     for (pair, fresh) in pairs.iter().zip(&mut fresh) {
         let entries = entries_of(pair);
         for (i, x) in pgns.iter().enumerate() {
@@ -262,7 +241,7 @@ fn delete(pairs: &mut [Pair], to: impl Iterator<Item = usize>, body: &[u8]) -> R
     if pairs.iter().any(|p| p[0] == CLEARED) {
         return Err(15.into());
     }
-    let mut gone = [0u32; MOST - 1];
+    let mut gone = [0u32; MOST_PORTS - 1];
     for ((pair, gone), to) in pairs.iter().zip(&mut gone).zip(to) {
         let entries = entries_of(pair);
         for (i, x) in entries_from(body).map(u64::from).enumerate() {
@@ -660,7 +639,7 @@ fn lent<'a>(words: &'a mut [u64], port: u32, good: bool) -> Result<Unit<'a>, u32
 }
 
 fn frame(words: &mut [u64], port: u32, id: u32, bytes: &[u8], answer: &mut [u64]) -> Result<(), u32> {
-    let mut unit = lent(words, port, answer.len() == 8)?;
+    let mut unit = lent(words, port, answer.len() == FRAME_ANSWER)?;
     let a = unit.frame(port as usize, id, bytes)?;
     let (event, old_name) = event_words(a.event);
     answer.copy_from_slice(&[u64::from(a.consumed), a.accepted, a.lost, event, old_name, a.own_lost, a.compared, a.reasons]);
@@ -668,7 +647,7 @@ fn frame(words: &mut [u64], port: u32, id: u32, bytes: &[u8], answer: &mut [u64]
 }
 
 fn take_out(words: &mut [u64], port: u32, answer: &mut [u64], bytes: &mut [u8]) -> Result<(), u32> {
-    let unit = lent(words, port, answer.len() == 3 && bytes.len() == 8)?;
+    let unit = lent(words, port, answer.len() == TAKE_ANSWER && bytes.len() == FRAME_BYTES)?;
     match take(&mut unit.queues[port as usize - 1]) {
         Some(t) => {
             answer.copy_from_slice(&[1, u64::from(t.id), u64::from(t.len)]);
@@ -681,11 +660,11 @@ fn take_out(words: &mut [u64], port: u32, answer: &mut [u64], bytes: &mut [u8]) 
 
 fn message(words: &mut [u64], port: u32, requester: u32, payload: &[u8], reply: &mut [u8], answer: &mut [u64]) -> Result<(), u32> {
     let told: Result<&mut [u64; MESSAGE_ANSWER], _> = answer.try_into();
-    let mut unit = lent(words, port, told.is_ok() && reply.len() >= LONGEST);
+    let mut unit = lent(words, port, told.is_ok() && reply.len() >= REPLY_BYTES);
     if let Ok(u) = &unit {
         if u.own[0] != CLAIMED {
             unit = Err(6);
-        } else if !(8..=LONGEST).contains(&payload.len()) {
+        } else if !(8..=REPLY_BYTES).contains(&payload.len()) {
             unit = Err(7);
         } else if u64::from(requester) >= NO_ADDRESS {
             unit = Err(8);
@@ -706,13 +685,13 @@ fn message(words: &mut [u64], port: u32, requester: u32, payload: &[u8], reply: 
 }
 
 fn power_on(words: &mut [u64], name: u64, preferred: u32, ports: u32) -> Result<(), u32> {
-    let good = (FEWEST..=MOST).contains(&(ports as usize));
-    let count = if good { ports as usize } else { USUAL };
+    let good = (FEWEST_PORTS..=MOST_PORTS).contains(&(ports as usize));
+    let count = if good { ports as usize } else { USUAL_PORTS };
     if words.len() != record_words(count) {
         return Err(2);
     }
     words.fill(0);
-    words[..OWN].copy_from_slice(&[UNSTARTED, NO_ADDRESS, u64::from(preferred), name, count as u64]);
+    words[..OWN_WORDS].copy_from_slice(&[UNSTARTED, NO_ADDRESS, u64::from(preferred), name, count as u64]);
     if good {
         Ok(())
     } else {
@@ -721,17 +700,6 @@ fn power_on(words: &mut [u64], name: u64, preferred: u32, ports: u32) -> Result<
 }
 
 // ---- plans
-
-const SEGMENTS: usize = 16;
-const UNITS: usize = 16;
-const PAIRS: usize = MOST * (MOST - 1);
-
-#[repr(C)]
-pub struct Link {
-    unit: u32,
-    port: u32,
-    segment: u32,
-}
 
 #[derive(Clone, Copy)]
 struct Question {
@@ -757,8 +725,8 @@ fn is_good_pair(pair: &Pair) -> bool {
 }
 
 /// Whether two paths lead between some segments: a unit has a port on a segment that its earlier ports are joined to.
-fn has_ring(units: &[[u64; MOST]]) -> bool {
-    let mut joined: [u32; SEGMENTS + 1] = std::array::from_fn(|s| 1 << s);
+fn has_ring(units: &[[u64; MOST_PORTS]]) -> bool {
+    let mut joined: [u32; MOST_SEGMENTS + 1] = std::array::from_fn(|s| 1 << s);
     for ports in units {
         let mut all = 0;
         for &s in ports.iter().filter(|&&s| s != 0) {
@@ -777,9 +745,9 @@ fn has_ring(units: &[[u64; MOST]]) -> bool {
 }
 
 /// The segments that hear, bit s for segment s. Without a ring each is reached once.
-fn walk(units: &[[u64; MOST]], pairs: &[Pair], first: usize, pgn: u32) -> u64 {
+fn walk(units: &[[u64; MOST_PORTS]], pairs: &[Pair], first: usize, pgn: u32) -> u64 {
     let permanent = pgn == CLAIM_PGN || pgn == REQUEST_PGN;
-    let mut waiting = [(0, UNITS); SEGMENTS];
+    let mut waiting = [(0, MOST_UNITS); MOST_SEGMENTS];
     waiting[0].0 = first as u64;
     let (mut heard, mut n) = (1 << first, 1);
     while n > 0 {
@@ -787,8 +755,8 @@ fn walk(units: &[[u64; MOST]], pairs: &[Pair], first: usize, pgn: u32) -> u64 {
         let (segment, by) = waiting[n];
         for (unit, ports) in units.iter().enumerate() {
             let Some(from) = ports.iter().position(|&s| s == segment).filter(|_| unit != by) else { continue };
-            let others = (0..MOST).filter(|&to| to != from);
-            for (to, pair) in others.zip(&pairs[PAIRS * unit + (MOST - 1) * from..]) {
+            let others = (0..MOST_PORTS).filter(|&to| to != from);
+            for (to, pair) in others.zip(&pairs[PLAN_PAIRS * unit + (MOST_PORTS - 1) * from..]) {
                 let s = ports[to];
                 if s != 0 && (permanent || ask(pair, pgn).0 < reason::STOPPED_AS_LISTED) {
                     heard |= 1 << s;
@@ -802,14 +770,14 @@ fn walk(units: &[[u64; MOST]], pairs: &[Pair], first: usize, pgn: u32) -> u64 {
 }
 
 fn plan(ports: &[u64], lists: &[u64], q: Question, answer: &mut [u64]) -> Result<(), u32> {
-    let (units, pairs) = (ports.as_chunks::<MOST>().0, lists.as_chunks::<PAIR_WORDS>().0);
-    let ([told], true, true) = (answer, units.len() == UNITS && ports.len() == UNITS * MOST, lists.len() == UNITS * PAIRS * PAIR_WORDS) else {
+    let (units, pairs) = (ports.as_chunks::<MOST_PORTS>().0, lists.as_chunks::<PAIR_WORDS>().0);
+    let ([told], true, true) = (answer, units.len() == MOST_UNITS && ports.len() == PLAN_PORTS, lists.len() == PLAN_LISTS) else {
         return Err(2);
     };
-    if q.segments > SEGMENTS || q.units > UNITS || !(1..=q.segments).contains(&q.first) || !is_pgn(q.pgn) {
+    if q.segments > MOST_SEGMENTS || q.units > MOST_UNITS || !(1..=q.segments).contains(&q.first) || !is_pgn(q.pgn) {
         return Err(28);
     }
-    let (units, pairs) = (&units[..q.units], &pairs[..PAIRS * q.units]);
+    let (units, pairs) = (&units[..q.units], &pairs[..PLAN_PAIRS * q.units]);
     if units.as_flattened().iter().any(|&s| s > q.segments as u64) || !pairs.iter().all(is_good_pair) {
         return Err(28);
     }
@@ -821,17 +789,17 @@ fn plan(ports: &[u64], lists: &[u64], q: Question, answer: &mut [u64]) -> Result
 }
 
 fn plan_links(links: &[Link], lists: &[u64], q: Question, answer: &mut [u64]) -> Result<(), u32> {
-    let mut ports = [0; UNITS * MOST];
-    if lists.len() != UNITS * PAIRS * PAIR_WORDS || answer.len() != 1 {
+    let mut ports = [0; PLAN_PORTS];
+    if lists.len() != PLAN_LISTS || answer.len() != PLAN_ANSWER {
         return Err(2);
     }
     for link in links {
         let (unit, port, segment) = (link.unit as usize, link.port as usize, link.segment as usize);
-        let good = (1..=q.units.min(UNITS)).contains(&unit) && (1..=MOST).contains(&port) && (1..=q.segments).contains(&segment);
-        if !good || ports[MOST * (unit - 1) + port - 1] != 0 {
+        let good = (1..=q.units.min(MOST_UNITS)).contains(&unit) && (1..=MOST_PORTS).contains(&port) && (1..=q.segments).contains(&segment);
+        if !good || ports[MOST_PORTS * (unit - 1) + port - 1] != 0 {
             return Err(28);
         }
-        ports[MOST * (unit - 1) + port - 1] = segment as u64;
+        ports[MOST_PORTS * (unit - 1) + port - 1] = segment as u64;
     }
     plan(&ports, lists, q, answer)
 }
@@ -844,7 +812,7 @@ fn number(done: Result<(), u32>) -> u32 {
 
 #[no_mangle]
 pub unsafe extern "C" fn rust_power_on(record: *mut u64, record_len: usize, name: u64, preferred: u32) -> u32 {
-    number(power_on(slice::from_raw_parts_mut(record, record_len), name, preferred, USUAL as u32))
+    number(power_on(slice::from_raw_parts_mut(record, record_len), name, preferred, USUAL_PORTS as u32))
 }
 
 #[no_mangle]
@@ -925,11 +893,11 @@ pub unsafe extern "C" fn rust_unit(record: *const u64, record_len: usize, answer
     let words = slice::from_raw_parts(record, record_len);
     let answer = slice::from_raw_parts_mut(answer, answer_len);
     let ports = ports_of(words);
-    if words.len() != record_words(ports) || answer.len() != OWN {
+    if words.len() != record_words(ports) || answer.len() != UNIT_ANSWER {
         return 2;
     }
-    answer.copy_from_slice(&words[..OWN]);
-    answer[OWN - 1] = ports as u64;
+    answer.copy_from_slice(&words[..OWN_WORDS]);
+    answer[PORTS_AT] = ports as u64;
     0
 }
 
@@ -941,11 +909,11 @@ pub unsafe extern "C" fn rust_counts(record: *const u64, record_len: usize, port
     if !(1..=ports as u32).contains(&port) {
         return 1;
     }
-    if words.len() != record_words(ports) || answer.len() != COUNTS {
+    if words.len() != record_words(ports) || answer.len() != COUNTS_ANSWER {
         return 2;
     }
-    let queue = OWN + PLACE_WORDS * PLACES + QUEUE_WORDS * (port as usize - 1);
-    answer.copy_from_slice(&words[queue + 1..][..COUNTS]);
+    let queue = QUEUES_AT + QUEUE_WORDS * (port as usize - 1);
+    answer.copy_from_slice(&words[queue + COUNTS_AT..][..COUNTS_ANSWER]);
     0
 }
 

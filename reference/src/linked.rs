@@ -5,59 +5,16 @@
 
 use std::ops::Range;
 
-use crate::counts::RANKS;
 use crate::frame::{Frame, NULL};
-use crate::pair::{Pair, LONGEST_LIST};
+use crate::layout::*;
+use crate::pair::Pair;
 use crate::parameters::{Losses, MOST_LOSSES};
-use crate::unit::{Unit, LONGEST_QUEUE, PORT_COUNTS, USUAL_PORTS};
+use crate::plan::Question;
+use crate::unit::{Unit, PORT_COUNTS};
 
-/// The published length of a queue, in words; `record_words` has the record's. In it: how many wait, what the port counts, the
-/// frames.
-pub const QUEUE_WORDS: usize = FRAMES_AT + 2 * LONGEST_QUEUE;
-pub const COUNTS_AT: usize = 1;
-const FRAMES_AT: usize = COUNTS_AT + COUNTS_ANSWER;
-/// The lengths of the answers, in words.
-pub const FRAME_ANSWER: usize = 8;
-pub const TAKE_ANSWER: usize = 3;
-pub const MESSAGE_ANSWER: usize = 5;
-pub const START_ANSWER: usize = 2;
-pub const UNIT_ANSWER: usize = 5;
-pub const COUNTS_ANSWER: usize = RANKS + 2;
-/// The length of a frame's bytes in a take.
-pub const FRAME_BYTES: usize = 8;
-
-/// The regions of the record, where each begins: the unit's own words, the table, the queues; and the pairs and the losses, which
-/// lie elsewhere with another number of ports.
-pub const PORTS_AT: usize = 4;
-const TABLE_AT: usize = 5;
-const QUEUES_AT: usize = TABLE_AT + 2 * PLACES;
-const PAIR_WORDS: usize = 2 + LONGEST_LIST;
-/// The addresses that the table has a place for.
-const PLACES: usize = 254;
-
-fn pairs_at(ports: u32) -> usize {
-    QUEUES_AT + QUEUE_WORDS * ports as usize
-}
-
-/// A word for each pair, in order of From, then To, and the general counter's behind them.
-pub fn losses_at(ports: u32) -> usize {
-    pairs_at(ports) + PAIR_WORDS * pair_count(ports)
-}
-
-fn pair_count(ports: u32) -> usize {
-    (ports * (ports - 1)) as usize
-}
-
-/// The published length of a record, in words; for a count that is none that of four ports.
-pub fn record_words(ports: u32) -> usize {
-    let ports = if PORT_COUNTS.contains(&ports) { ports } else { USUAL_PORTS };
-    losses_at(ports) + pair_count(ports) + 1
-}
-
-/// How many ports a record's words say, however many they are: four where they say no count.
-pub fn ports_of(words: &[u64]) -> u32 {
-    let said = words.get(PORTS_AT).and_then(|&word| u32::try_from(word).ok());
-    said.filter(|ports| PORT_COUNTS.contains(ports)).unwrap_or(USUAL_PORTS)
+/// The length of a record with so many ports, in words; for a count that is none that of four ports.
+pub fn record_words_for(ports: u32) -> usize {
+    record_words(if PORT_COUNTS.contains(&ports) { ports as usize } else { USUAL_PORTS })
 }
 
 #[link(name = "deorasaeng", kind = "static")]
@@ -105,6 +62,30 @@ extern "C" {
         answer_len: usize,
         bytes: *mut u8,
         bytes_len: usize,
+    ) -> u32;
+    fn deorasaeng_plan(
+        ports: *const u64,
+        ports_len: usize,
+        lists: *const u64,
+        lists_len: usize,
+        segments: u32,
+        units: u32,
+        first: u32,
+        pgn: u32,
+        answer: *mut u64,
+        answer_len: usize,
+    ) -> u32;
+    fn deorasaeng_plan_links(
+        links: *const Link,
+        links_len: usize,
+        lists: *const u64,
+        lists_len: usize,
+        segments: u32,
+        units: u32,
+        first: u32,
+        pgn: u32,
+        answer: *mut u64,
+        answer_len: usize,
     ) -> u32;
 }
 
@@ -170,6 +151,45 @@ pub fn take_queue(queue: &mut [u64; QUEUE_WORDS], answer: &mut [u64], bytes: &mu
     unsafe { deorasaeng_take_queue(words, to, answer.len(), bytes.as_mut_ptr(), bytes.len()) }
 }
 
+/// A plan of a machine asked: the number, 0 for done; all lengths may be any.
+pub fn plan(ports: &[u64], lists: &[u64], question: Question, answer: &mut [u64]) -> u32 {
+    let Question { segments, units, first, pgn } = question;
+    let (port_words, list_words, told) = (ports.as_ptr(), lists.as_ptr(), answer.as_mut_ptr());
+    unsafe {
+        deorasaeng_plan(
+            port_words,
+            ports.len(),
+            list_words,
+            lists.len(),
+            segments,
+            units,
+            first,
+            pgn,
+            told,
+            answer.len(),
+        )
+    }
+}
+
+pub fn plan_links(links: &[Link], lists: &[u64], question: Question, answer: &mut [u64]) -> u32 {
+    let Question { segments, units, first, pgn } = question;
+    let (list_words, told) = (lists.as_ptr(), answer.as_mut_ptr());
+    unsafe {
+        deorasaeng_plan_links(
+            links.as_ptr(),
+            links.len(),
+            list_words,
+            lists.len(),
+            segments,
+            units,
+            first,
+            pgn,
+            told,
+            answer.len(),
+        )
+    }
+}
+
 /// The number of a port's reason in the last word of a frame's answer.
 pub fn reason(word: u64, port: u32) -> u32 {
     (word >> (4 * (port - 1)) & 15) as u32
@@ -183,16 +203,17 @@ pub fn queue_range(port: u32) -> Range<usize> {
 
 /// Where a record's words mean something else than a unit: the first such thing, in words.
 pub fn difference(words: &[u64], unit: &Unit) -> Option<String> {
+    let ports = unit.ports as usize;
     ports_difference(words, unit)
         .or_else(|| own_difference(&words[..PORTS_AT], unit))
         .or_else(|| table_difference(&words[TABLE_AT..QUEUES_AT], unit))
         .or_else(|| queues_difference(words, unit))
-        .or_else(|| pairs_difference(&words[pairs_at(unit.ports)..losses_at(unit.ports)], unit))
-        .or_else(|| losses_difference(&words[losses_at(unit.ports)..], unit))
+        .or_else(|| pairs_difference(&words[pairs_at(ports)..losses_at(ports)], unit))
+        .or_else(|| losses_difference(&words[losses_at(ports)..], unit))
 }
 
 fn ports_difference(words: &[u64], unit: &Unit) -> Option<String> {
-    let (said, expected) = (ports_of(words), unit.ports);
+    let (said, expected) = (ports_of(words), unit.ports as usize);
     (said != expected).then(|| format!("{said} ports, expected {expected}"))
 }
 
@@ -210,7 +231,7 @@ fn pairs_difference(words: &[u64], unit: &Unit) -> Option<String> {
     for from in unit.all_ports() {
         for to in unit.other_ports(from) {
             let block = blocks.next()?;
-            let count = (block[1] as usize).min(LONGEST_LIST);
+            let count = (block[1] as usize).min(LIST);
             let entries = || block[2..2 + count].iter().map(|&pgn| pgn as u32).collect();
             let found = match block[0] {
                 0 => Pair::Cleared,
@@ -246,7 +267,7 @@ fn queues_difference(words: &[u64], unit: &Unit) -> Option<String> {
         if counts != expected {
             return Some(format!("counts of port {port}: {counts:X?}, expected {expected:X?}"));
         }
-        let count = (block[0] as usize).min(LONGEST_QUEUE);
+        let count = (block[0] as usize).min(QUEUE);
         let waiting = block[FRAMES_AT..].chunks(2).take(count);
         let same = count == queue.len() && waiting.zip(queue).all(|(pair, frame)| is_frame(pair, frame));
         if !same {

@@ -12,11 +12,10 @@ pub const PORTS: u32 = 8;
 
 /// Lengths in words: the segment on each port; a pair's block, which is mode, count and 32 PGNs; the lists, in order of
 /// unit, From and To; the answer.
-pub const PORT_WORDS: usize = (MOST_UNITS * PORTS) as usize;
-pub const PAIR_WORDS: usize = 2 + LONGEST_LIST;
-pub const PAIRS: usize = (PORTS * (PORTS - 1)) as usize;
-pub const LIST_WORDS: usize = MOST_UNITS as usize * PAIRS * PAIR_WORDS;
-pub const ANSWER_WORDS: usize = 1;
+pub use crate::layout::{
+    Link, PAIR_WORDS, PLAN_ANSWER as ANSWER_WORDS, PLAN_LISTS as LIST_WORDS, PLAN_PAIRS as PAIRS,
+    PLAN_PORTS as PORT_WORDS,
+};
 
 const WRONG_STORAGE: Number = 2;
 /// A number outside the plan or its range, or one asked or listed that is no PGN.
@@ -31,15 +30,6 @@ pub struct Question {
     pub units: u32,
     pub first: u32,
     pub pgn: u32,
-}
-
-/// A port and the segment on it, all three counted from 1.
-#[derive(Clone, Copy, Debug, PartialEq, Eq)]
-#[repr(C)]
-pub struct Link {
-    pub unit: u32,
-    pub port: u32,
-    pub segment: u32,
 }
 
 /// As `deorasaeng_plan`: the number, and in the answer, unless it is refused, bit s - 1 for each segment s that hears.

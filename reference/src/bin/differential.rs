@@ -8,6 +8,7 @@ use reference::counts::Counts;
 use reference::coverage::Coverage;
 use reference::frame::{Frame, NULL};
 use reference::generate::{generate, storms, Random};
+use reference::layout::*;
 use reference::linked::*;
 use reference::message::LONGEST_MESSAGE;
 use reference::script::{print_answer, write_call, Answer, Call};
@@ -83,7 +84,7 @@ impl Both {
     fn new(seed: u64) -> Both {
         Both {
             reference: Unit::power_on(0, 0),
-            record: Lent::new(record_words(8), 0, 0xDEAD_BEEF_DEAD_BEEF),
+            record: Lent::new(record_words(MOST_PORTS), 0, 0xDEAD_BEEF_DEAD_BEEF),
             in_storm: false,
             has_lost_counts: false,
             random: Random::new(!seed),
@@ -145,7 +146,7 @@ impl Both {
     /// On a record of junk; with four ports by either function.
     fn power_on(&mut self, name: u64, preferred: u32, ports: u32) -> Result<Answer, String> {
         let junk = self.random.number();
-        self.record.shorten(record_words(ports), junk);
+        self.record.shorten(record_words_for(ports), junk);
         let mut record = Record(self.record.contents());
         let number = if ports == USUAL_PORTS && self.random.once_in(2) {
             record.power_on(name, preferred)
@@ -209,7 +210,7 @@ impl Both {
             counter.0 = self.random.pick(&[0, 255, 64_250, 64_254, 64_255, 64_256, 65_535, 1 << 32, any, u64::MAX]);
         }
         let words = loss_words(losses);
-        self.record.contents()[losses_at(self.reference.ports)..][..words.len()].copy_from_slice(&words);
+        self.record.contents()[losses_at(self.reference.ports as usize)..][..words.len()].copy_from_slice(&words);
         self.count("records whose counters of losses were made any words");
     }
 
@@ -333,14 +334,14 @@ impl Both {
             lent(&mut self.random, bytes.unwrap_or(0), wrong_bytes)
         };
         let right = match call {
-            Call::PowerOn { ports, .. } => record_words(*ports),
+            Call::PowerOn { ports, .. } => record_words_for(*ports),
             _ => self.record.length,
         };
         let length = if wrong_record { self.wrong_record(right) } else { right };
         let mut told = self.told(words, bytes);
         let before = self.record.all.clone();
         told.number = self.lend(call, length, &mut told);
-        let ports = ports_of(&before[GUARDS..GUARDS + length]);
+        let ports = ports_of(&before[GUARDS..GUARDS + length]) as u32;
         let expected = if port.is_some_and(|port| !(1..=ports).contains(&port)) { 1 } else { 2 };
         same("number of a wrong length", told.number, expected)?;
         check(self.record.all == before, "a wrong length changed the record")?;
@@ -354,7 +355,7 @@ impl Both {
 
     /// Another length of a record: that of another count, or too short to have a count, or any.
     fn wrong_record(&mut self, right: usize) -> usize {
-        let other = record_words(2 + self.random.below(7));
+        let other = record_words_for(2 + self.random.below(7));
         let short = self.random.below(7) as usize;
         let any = another(&mut self.random, right);
         let length = self.random.pick(&[other, other, short, any]);

@@ -3,7 +3,7 @@
 //! between, and links that are wrong; prints what was tried, and fails if something was not.
 
 use reference::generate::Random;
-use reference::linked_plan;
+use reference::linked;
 use reference::plan::*;
 use reference::plan_coverage::{Coverage, ROWS};
 use reference::plan_generate::{generate, links_of, wrong_links, Case};
@@ -69,7 +69,7 @@ impl Both {
         let (ports, lists) = (&ports[..lengths[0]], &lists[..lengths[1]]);
         let question = case.question;
         let expected = told(lengths[2], |answer| plan(ports, lists, question, answer));
-        let found = told(lengths[2], |answer| linked_plan::plan(ports, lists, question, answer));
+        let found = told(lengths[2], |answer| linked::plan(ports, lists, question, answer));
         same("ports", case, lengths, found, expected)?;
         Ok(expected.0)
     }
@@ -79,7 +79,7 @@ impl Both {
         let lists = &lists[..lengths[1]];
         let question = case.question;
         let expected = told(lengths[2], |answer| plan_links(links, lists, question, answer));
-        let found = told(lengths[2], |answer| linked_plan::plan_links(links, lists, question, answer));
+        let found = told(lengths[2], |answer| linked::plan_links(links, lists, question, answer));
         same("links", case, lengths, found, expected).map_err(|error| format!("{error}\n{links:?}"))?;
         Ok(expected.0)
     }
