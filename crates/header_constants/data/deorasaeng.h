@@ -6,7 +6,7 @@
    bytes may be handed in as NULL, 0; any other may not.
 
    Platform: x86-64 Linux, the System V calling convention, any linker for ELF. Needed are memcpy and memset and nothing else: no heap, no call of the operating
-   system, no data outside the record. SSE registers and the red zone are used. Some 21 KB of code and constants, 9,872 bytes of record for four ports, at most 1.2 KB
+   system, no data outside the record. SSE registers and the red zone are used. Some 23 KB of code and constants, 9,872 bytes of record for four ports, at most 1.3 KB
    of stack, 7 KB in a call on a plan. For other platforms there is no proved library today; the project's reference/, in safe Rust, is an unproved stand-in.
    docs/INTEGRATION.md has the loop of a box, interrupts, locking and stack.
 
@@ -228,7 +228,7 @@ uint32_t deorasaeng_unit(const uint64_t *record, size_t record_len, uint64_t *an
 uint32_t deorasaeng_counts(const uint64_t *record, size_t record_len, uint32_t port, uint64_t *answer, size_t answer_len);
 
 /* The take on one port's queue by itself, for a transmit routine that is to touch nothing else: `queue` is record + DEORASAENG_QUEUE_AT(port), or a copy of those
-   words, the port's counts among them. Answer and bytes as deorasaeng_take's. Number 2. It copies the queue (1.2 KB of stack); deorasaeng_take works in place. */
+   words, the port's counts among them. Answer and bytes as deorasaeng_take's. Number 2. It copies the queue (1.3 KB of stack); deorasaeng_take works in place. */
 uint32_t deorasaeng_take_queue(uint64_t queue[DEORASAENG_QUEUE_WORDS], uint64_t *answer, size_t answer_len, uint8_t *bytes,
                                size_t bytes_len);
 
