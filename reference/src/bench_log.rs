@@ -324,6 +324,30 @@ pub fn generate_log(seed: u64, records: usize, bad_end: bool) -> Vec<u8> {
     log
 }
 
+/// A log of so many frames for a unit at address 80 whose NAME begins with A0, from ports 0 to 9, mostly the first two, and a take behind every second: claims
+/// of that address and of others by lower and higher NAMEs, requests, frames to the unit, frames of two PGNs for lists, identifiers and lengths out of range.
+pub fn generate_frames(seed: u64, frames: usize) -> Vec<u8> {
+    let mut random = Random::new(seed);
+    let mut log = Vec::new();
+    for frame in 0..frames {
+        let port = random.pick(&[0, 1, 1, 1, 1, 2, 2, 2, 3, 4, 5, 6, 7, 8, 9]);
+        let first =
+            random.pick(&[0x18EE_FF00, 0x18EA_FF00, 0x18EA_5000, 0x18EF_5000, 0x18FE_F100, 0x0CF0_0400, 0x1CFF_0000]);
+        let id = first + random.pick(&[0x50, 0x20, 0x21, 0x22, 0x23, 0x20, 0x21, 0x22, 0x23, 254, 255]);
+        let (length, data) = match first {
+            0x18EE_FF00 => (8, [random.below(4) as u8, 0, 0, 0, 0, 0, 0, 0x90 + random.below(32) as u8]),
+            0x18EA_FF00 | 0x18EA_5000 => (3, [0x00, 0xEE, 0x00, 0, 0, 0, 0, 0]),
+            _ => (random.below(10) as u8, random.number().to_le_bytes()),
+        };
+        let id = if random.once_in(16) { id | 1 << 29 } else { id };
+        log.extend(Record::Frame { port, id, length, data }.bytes());
+        if frame % 2 == 1 {
+            log.extend(Record::Take { port }.bytes());
+        }
+    }
+    log
+}
+
 /// Text of so many lines, one in three of them damaged at a character.
 pub fn generate_text(seed: u64, lines: usize) -> Vec<u8> {
     let mut random = Random::new(seed);

@@ -41,6 +41,36 @@ fn parameters() {
     check(include_str!("../scripts/parameters.txt"), include_str!("../scripts/parameters.out"));
 }
 
+/// The unit defends its address and loses it; a port fills up and is counted.
+#[test]
+fn contention() {
+    check(include_str!("../scripts/contention.txt"), include_str!("../scripts/contention.out"));
+}
+
+/// The same claims in different orders.
+#[test]
+fn mornings() {
+    check(include_str!("../scripts/mornings.txt"), include_str!("../scripts/mornings.out"));
+}
+
+/// One pair through its cases: listed claims, pass and block, an emptied list, a full one.
+#[test]
+fn lists() {
+    check(include_str!("../scripts/lists.txt"), include_str!("../scripts/lists.out"));
+}
+
+/// Claims of every outcome, and the address list of a port after each.
+#[test]
+fn addresses() {
+    check(include_str!("../scripts/addresses.txt"), include_str!("../scripts/addresses.out"));
+}
+
+/// Network messages that are right, or wrong in one thing or in two, and every function byte.
+#[test]
+fn payloads() {
+    check(include_str!("../scripts/payloads.txt"), include_str!("../scripts/payloads.out"));
+}
+
 /// The old box's hole: the port number one up.
 #[test]
 fn one_up() {
@@ -58,6 +88,9 @@ fn recorded() {
     script += include_str!("../scripts/one_up.txt");
     script += include_str!("../scripts/ports.txt");
     script += include_str!("../scripts/parameters.txt");
+    script += include_str!("../scripts/contention.txt");
+    script += include_str!("../scripts/mornings.txt");
+    script += include_str!("../scripts/payloads.txt");
     for call in sweep().iter().chain(&generate(1325, 9000)) {
         script += &(write_call(call) + "\n");
     }

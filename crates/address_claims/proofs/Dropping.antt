@@ -15,7 +15,8 @@ use Rattle.addresses.specs.Table.{places, tableLength, tableOf, heldBy, standsI
 use Rattle.address_claims.specs.Claims.{without, othersDropped, standsElsewhere}
 use Rattle.address_claims.specs.Calls.{Dropping}
 use Rattle.addresses.specs.Steps.{Skipping}
-use Rattle.addresses.proofs.Words.{table-length}
+use Rattle.addresses.proofs.Words.{table-length, by-absent}
+use Rattle.addresses.proofs.Skipping.{skip-rest}
 use Rattle.address_claims.proofs.Places.{moved-length, moved-other, dropped-kept}
 use Rattle.addresses.proofs.Standing.{stands-more}
 
@@ -110,12 +111,12 @@ module _ {start : List ℕ} {name keep : ℕ} where
           rw (or-true dropped) at (more {after = after} true long (rw gone put) (other ne ∙ t))
 
   -- places that the NAME does not hold stay as they are
-  pub passed-others : {words : List ℕ} {dropped : Bool} {r : ℕ} (k i : ℕ) → r ≡ i + k → Skipping words i name r → Passed start words name keep dropped i → Passed start words name keep dropped r
+  pub passed-others : {words : List ℕ} {dropped : Bool} {r : ℕ} (k i : ℕ) → r ≡ i + k → Skipping words 1 i name r → Passed start words name keep dropped i → Passed start words name keep dropped r
   passed-others zero i e S P = let same : i ≡ i + 0 = omega arith in rw (e, ← same) P
-  passed-others (suc k) i e S P =
+  passed-others {words = words} (suc k) i e S P =
       let few = S .within in
-      passed-others k (i + 1) (omega arith) (record { onward = omega arith; within = few; others = λ j a b. S .others j (omega arith) b })
-      (passed-free P (omega arith) (S .others i (omega arith) (omega arith)) refl)
+      let h : i < places = omega arith in
+      passed-others k (i + 1) (omega arith) (skip-rest (omega arith) S) (passed-free P h (by-absent words i h name (S .others i (omega arith) (omega arith))) refl)
 
-  pub passed-skip : {words : List ℕ} {dropped : Bool} {i r : ℕ} → Skipping words i name r → Passed start words name keep dropped i → Passed start words name keep dropped r
+  pub passed-skip : {words : List ℕ} {dropped : Bool} {i r : ℕ} → Skipping words 1 i name r → Passed start words name keep dropped i → Passed start words name keep dropped r
   passed-skip {i = i} {r = r} S P = let far = S .onward in passed-others (r - i) i (omega arith) S P

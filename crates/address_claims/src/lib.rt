@@ -61,7 +61,7 @@ pub fn drop_others(table: &mut [u64], name: u64, keep: usize) -> bool
     ensures { λ r. ⌜ Dropping (now (table .entry)) (now (table .exit)) name keep r ⌝ }
 {
     let mut dropped = false;
-    let mut address = addresses::past_others(table, 0, name);
+    let mut address = addresses::past_others(table, addresses::NAME, 0, name);
     while address < PLACES {
         if addresses::is_held_by(table, address, name) {
             if address != keep {
@@ -69,7 +69,7 @@ pub fn drop_others(table: &mut [u64], name: u64, keep: usize) -> bool
                 dropped = true;
             }
         }
-        address = addresses::past_others(table, address + 1, name);
+        address = addresses::past_others(table, addresses::NAME, address + 1, name);
     }
     dropped
 }

@@ -2,7 +2,7 @@
 use mathlib.Core.Path.{_≡_, refl, sym, _∙_}
 use mathlib.Core.Bool.{Bool, true, false, and-false}
 use mathlib.Core.List.{List, [], _∷_, _++_, append-nil, append-assoc}
-use Prim.Native.Nat.{ℕ, suc, _+_, _≤_, _<_}
+use Prim.Native.Nat.{ℕ, zero, suc, _+_, _-_, _*_, _≤_, _<_}
 use native.Mathlib.Omega.{arith}
 use native.Mathlib.Numerals.{add-one}
 use borrow.Author.Tests.{eq-eqb, ne-eqb}
@@ -11,6 +11,9 @@ use lib.Seq.{drop-cons, set-at}
 use Rattle.addresses.specs.declared.Place.the-variants.{Free}
 use Rattle.addresses.specs.Table.{places, tableOf, heldOn, below, isListed, addressesOn}
 use Rattle.addresses.specs.Calls.{Listing}
+use Rattle.addresses.specs.Steps.{Skipping}
+use Rattle.addresses.proofs.Words.{on-absent}
+use Rattle.addresses.proofs.Skipping.{skip-rest}
 
 -- ---- the loop that writes it: the addresses passed are listed, and what follows them in the buffer is as it was
 pub record Written (words : List ℕ) (port except : ℕ) (before after : List ℕ) (n i : ℕ) : Type 0 where
@@ -78,3 +81,15 @@ module _ {words : List ℕ} {port except : ℕ} {before : List ℕ} where
             list = rw (W .list, next) (store-past (below test i) before n i (W .count) (omega arith));
             count = rw (next, length-append (below test i) (i ∷ [])) (omega (arith, W .count));
           }
+
+  -- places whose port is another are passed over
+  skipped : (k : ℕ) {after : List ℕ} {n i r : ℕ} → r ≡ i + k → Skipping words 0 i port r → Written words port except before after n i → Written words port except before after n r
+  skipped zero {i = i} {r} e S W = let same : r ≡ i = omega arith in rw same W
+  skipped (suc k) {i = i} {r} e S W =
+      let h : i < places = omega (arith, S .within) in
+      let at : 2 * i + 0 ≡ 2 * i = omega arith in
+      skipped k (omega arith) (skip-rest (omega arith) S)
+      (written-not W h (on-absent words i h port (rw at at (S .others i (omega arith) (omega arith)))) refl)
+
+  pub written-others : {after : List ℕ} {n i r : ℕ} → Skipping words 0 i port r → Written words port except before after n i → Written words port except before after n r
+  written-others {i = i} {r} S W = skipped (r - i) (omega (arith, S .onward)) S W

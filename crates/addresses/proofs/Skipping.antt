@@ -1,4 +1,4 @@
--- Places that are passed over, four at a time: the NAME holds none of them. Assumes nothing.
+-- Places that are passed over, four at a time: a word of each is another than the value. Assumes nothing.
 use mathlib.Core.Path.{_≡_}
 use mathlib.Core.List.{List}
 use Prim.Native.Nat.{ℕ, _+_, _*_, _≤_}
@@ -7,27 +7,20 @@ use native.Mathlib.Omega.{arith}
 use lib.ListN.{getD}
 use Rattle.addresses.specs.Table.{places}
 use Rattle.addresses.specs.Steps.{Others, Skipping}
-use Rattle.addresses.proofs.Words.{by-absent}
 
--- four NAME words that are others
-pub four-read : (words : List ℕ) (a name : ℕ) → a + 4 ≤ places → (getD words (2 * a + 1) 0 ≡ name → ⊥) → (getD words (2 * a + 3) 0 ≡ name → ⊥) → (getD words (2 * a + 5) 0 ≡ name → ⊥) → (getD words (2 * a + 7) 0 ≡ name → ⊥) → Others words a name
-four-read words a name room first second third fourth =
-    let one : 2 * a + 3 ≡ 2 * (a + 1) + 1 = omega arith in
-    let two : 2 * a + 5 ≡ 2 * (a + 2) + 1 = omega arith in
-    let three : 2 * a + 7 ≡ 2 * (a + 3) + 1 = omega arith in
-    record {
-      room = room;
-      first = by-absent words a (omega arith) name first;
-      second = by-absent words (a + 1) (omega arith) name (rw one at second);
-      third = by-absent words (a + 2) (omega arith) name (rw two at third);
-      fourth = by-absent words (a + 3) (omega arith) name (rw three at fourth);
-    }
+-- four words that are others
+pub four-read : (words : List ℕ) (k a value : ℕ) → a + 4 ≤ places → (getD words (2 * a + k) 0 ≡ value → ⊥) → (getD words (2 * a + k + 2) 0 ≡ value → ⊥) → (getD words (2 * a + k + 4) 0 ≡ value → ⊥) → (getD words (2 * a + k + 6) 0 ≡ value → ⊥) → Others words k a value
+four-read words k a value room first second third fourth =
+    let one : 2 * a + k + 2 ≡ 2 * (a + 1) + k = omega arith in
+    let two : 2 * a + k + 4 ≡ 2 * (a + 2) + k = omega arith in
+    let three : 2 * a + k + 6 ≡ 2 * (a + 3) + k = omega arith in
+    record { room = room; first = first; second = rw one at second; third = rw two at third; fourth = rw three at fourth }
 
-module _ {words : List ℕ} {start name : ℕ} where
-  pub skip-none : start ≤ places → Skipping words start name start
+module _ {words : List ℕ} {k start value : ℕ} where
+  pub skip-none : start ≤ places → Skipping words k start value start
   skip-none h = record { onward = omega arith; within = h; others = λ i a b. absurd (omega arith) }
 
-  pub skip-four : {r : ℕ} → Skipping words start name r → Others words r name → Skipping words start name (r + 4)
+  pub skip-four : {r : ℕ} → Skipping words k start value r → Others words k r value → Skipping words k start value (r + 4)
   skip-four {r} S O = record {
     onward = omega (arith, S .onward);
     within = O .room;
@@ -46,3 +39,7 @@ module _ {words : List ℕ} {start name : ℕ} where
           ]
         ];
   }
+
+  -- past the first place
+  pub skip-rest : {r : ℕ} → start + 1 ≤ r → Skipping words k start value r → Skipping words k (start + 1) value r
+  skip-rest h S = record { onward = h; within = S .within; others = λ i a b. S .others i (omega arith) b }

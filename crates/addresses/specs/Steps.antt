@@ -1,23 +1,25 @@
--- What the steps of the crate promise one another: places that are passed over.
+-- What the steps of the crate promise one another: places that are passed over. Word k of a place is its arrival port, 0, or its NAME, 1.
 -- Assumes nothing.
-use Prim.Native.Nat.{ℕ, _+_, _≤_, _<_}
-use mathlib.Core.Bool.{false}
+use Prim.Native.Nat.{ℕ, _+_, _*_, _≤_, _<_}
 use mathlib.Core.Path.{_≡_}
 use mathlib.Core.List.{List}
 use lib.ListN.{getD}
-use Rattle.addresses.specs.declared.Place.the-variants.{Free}
-use Rattle.addresses.specs.Table.{places, tableOf, heldBy}
+use Rattle.addresses.specs.Table.{places}
 
--- four places from `address` on, none of which the NAME holds
-pub record Others (words : List ℕ) (address name : ℕ) : Type 0 where
+-- word k of the place of an address is another than the value
+abbrev pub Another : List ℕ → ℕ → ℕ → ℕ → Type 0
+Another words k value address = getD words (2 * address + k) 0 ≡ value → ⊥
+
+-- four places from `address` on, of each of which it is another
+pub record Others (words : List ℕ) (k address value : ℕ) : Type 0 where
   pub room : address + 4 ≤ places
-  pub first : false ≡ heldBy name (getD (tableOf words) address Free)
-  pub second : false ≡ heldBy name (getD (tableOf words) (address + 1) Free)
-  pub third : false ≡ heldBy name (getD (tableOf words) (address + 2) Free)
-  pub fourth : false ≡ heldBy name (getD (tableOf words) (address + 3) Free)
+  pub first : Another words k value address
+  pub second : Another words k value (address + 1)
+  pub third : Another words k value (address + 2)
+  pub fourth : Another words k value (address + 3)
 
--- the NAME holds none of the places from `start` on and before r
-pub record Skipping (words : List ℕ) (start name r : ℕ) : Type 0 where
+-- of each place from `start` on and before r it is another
+pub record Skipping (words : List ℕ) (k start value r : ℕ) : Type 0 where
   pub onward : start ≤ r
   pub within : r ≤ places
-  pub others : (i : ℕ) → start ≤ i → i < r → false ≡ heldBy name (getD (tableOf words) i Free)
+  pub others : (i : ℕ) → start ≤ i → i < r → Another words k value i

@@ -14,6 +14,11 @@ pub const PLACES: usize = 254;
 // The words of the table: two for each place.
 pub const TABLE_LENGTH: usize = 2 * PLACES;
 
+// The words of a place.
+pub const PORT: usize = 0;
+
+pub const NAME: usize = 1;
+
 // What an address is: free, or held by a NAME that was recorded from a port.
 pub enum Place {
     Free,
@@ -78,37 +83,37 @@ pub fn release(table: &mut [u64], address: usize)
     put(table, 0, address, 0);
 }
 
-// Whether four more places stand from an address on, beside none of which the NAME stands.
-fn four_others(table: &[u64], address: usize, name: u64) -> bool
-    requires { ⌜ (length (now table) ≡ tableLength) × (address ≤ places) ⌝ }
-    ensures { λ r. ⌜ (r ≡ true → Others (now (table .entry)) address name) ⌝ }
+// Whether four more places stand from an address on, of each of which a word is another than the value.
+fn four_others(table: &[u64], word: usize, address: usize, value: u64) -> bool
+    requires { ⌜ (length (now table) ≡ tableLength) × (word < 2) × (address ≤ places) ⌝ }
+    ensures { λ r. ⌜ (r ≡ true → Others (now (table .entry)) word address value) ⌝ }
 {
     if PLACES < address + 4 {
         return false;
     }
-    let at = 2 * address;
-    if table[at + 1] == name {
+    let at = 2 * address + word;
+    if table[at] == value {
         return false;
     }
-    if table[at + 3] == name {
+    if table[at + 2] == value {
         return false;
     }
-    if table[at + 5] == name {
+    if table[at + 4] == value {
         return false;
     }
-    if table[at + 7] == name {
+    if table[at + 6] == value {
         return false;
     }
     true
 }
 
-// An address from `start` on before which the NAME holds none. Four places at a time are passed over.
-pub fn past_others(table: &[u64], start: usize, name: u64) -> usize
-    requires { ⌜ (length (now table) ≡ tableLength) × (start ≤ places) ⌝ }
-    ensures { λ r. ⌜ Skipping (now (table .entry)) start name r ⌝ }
+// An address from `start` on before which no place has the value in that word. Four places at a time are passed over.
+pub fn past_others(table: &[u64], word: usize, start: usize, value: u64) -> usize
+    requires { ⌜ (length (now table) ≡ tableLength) × (word < 2) × (start ≤ places) ⌝ }
+    ensures { λ r. ⌜ Skipping (now (table .entry)) word start value r ⌝ }
 {
     let mut address = start;
-    while four_others(table, address, name) {
+    while four_others(table, word, address, value) {
         address += 4;
     }
     address
@@ -135,7 +140,7 @@ pub fn list_on(table: &[u64], port: u64, except: usize, out: &mut [u8]) -> usize
     ensures { λ r. ⌜ Listing (now (table .entry)) port except (now (out .entry)) (now (out .exit)) r ⌝ }
 {
     let mut n: usize = 0;
-    let mut address: usize = 0;
+    let mut address = past_others(table, PORT, 0, port);
     while address < PLACES {
         if is_held_on(table, address, port) {
             if address != except {

@@ -1,5 +1,5 @@
-// Examples of the bench log: the log of docs/RULES.md and one with every number, run in pieces of several sizes with little room and with much; lines and
-// records turned; lines of a real bus. Each stands beside what came of it.
+// Examples of the bench log: the log of docs/RULES.md and one with every number, run in pieces of several sizes with little room and with much; lines of
+// a real bus. Each stands beside what came of it.
 use libc::STDOUT_FILENO;
 use unit::Unit;
 ghost use Prim.Native.Nat.{_≤_};
@@ -87,31 +87,6 @@ fn show_log(words: &[u8], log: &[u8]) {
     show_run(words, log, 7, little);
 }
 
-// A record as a line.
-fn show_record(words: &[u8], log: &[u8]) {
-    print(words);
-    let mut space = [0u8; 64];
-    let line: &mut [u8] = &mut space;
-    let w = bench_records::to_text(log, line);
-    let end = w.length;
-    print_number(b": ", w.number as u64);
-    let shared = &line[..];
-    print(&shared[0..end]);
-}
-
-// A line, and the same as a record and again as a line.
-fn show_line(text: &[u8]) {
-    print(text);
-    let mut space = [0u8; 15];
-    let log: &mut [u8] = &mut space;
-    let number = bench_records::to_record(text, log);
-    if number == 0 {
-        show_record(b"as a record and a line again", log);
-    } else {
-        print_number(b"  refused with ", number as u64);
-    }
-}
-
 // A line of a real bus.
 fn show_mapped(line: &[u8]) {
     print(line);
@@ -160,57 +135,6 @@ fn show_logs() {
     );
 }
 
-fn show_lines() {
-    show_line(b"(0000000000.000000) can1 18FEF121#0102\n");
-    show_line(b"(1794789563.773934) can4 00000000#\n");
-    show_line(b"(0000000000.000000) can2 1FFFFFFF#0123456789ABCDEF\n");
-    show_line(b"(0000000000.000000) can1 18FEF121#0102");
-    show_line(b"(0000000000.000000) can1 18FEF121#0102\r\n");
-    show_line(b"(0000000000.000000) can1 18FEF121#0102 R\n");
-    show_line(b"(0000000000.000000) can0 18FEF121#0102\n");
-    show_line(b"(0000000000.000000) can5 18FEF121#0102\n");
-    show_line(b"(0000000000.000000) can1 18fef121#0102\n");
-    show_line(b"(0000000000.000000) can1 18FEF121#010\n");
-    show_line(b"(0000000000.000000) can1 18FEF121#010203040506070809\n");
-    show_line(b"(0000000000.000000) can1 20000000#\n");
-    show_line(b"(0000000000.000000) can1 8FEF121#\n");
-    show_line(b"(0000000000.00000A) can1 18FEF121#\n");
-    show_line(b"(0000000000,000000) can1 18FEF121#\n");
-    show_line(b"\n");
-}
-
-fn show_records() {
-    show_record(
-        b"a frame",
-        b"\x01\x03\x18\xFE\xF1\x21\x02\x01\x02\x00\x00\x00\x00\x00\x00",
-    );
-    show_record(
-        b"unused bytes are not read",
-        b"\x01\x03\x18\xFE\xF1\x21\x02\x01\x02\x03\x04\x05\x06\x07\x08",
-    );
-    show_record(b"a take", b"\x02\x01");
-    show_record(b"a take that is cut", b"\x02");
-    show_record(b"an unknown kind, cut and with a bad port", b"\x03\x09");
-    show_record(b"a cut frame of a bad port", b"\x01\x09");
-    show_record(
-        b"a bad port, identifier and length",
-        b"\x01\x05\x20\x00\x00\x00\x09\x00\x00\x00\x00\x00\x00\x00\x00",
-    );
-    show_record(
-        b"port 0",
-        b"\x01\x00\x18\xFE\xF1\x21\x00\x00\x00\x00\x00\x00\x00\x00\x00",
-    );
-    show_record(
-        b"2^29",
-        b"\x01\x01\x20\x00\x00\x00\x09\x00\x00\x00\x00\x00\x00\x00\x00",
-    );
-    show_record(
-        b"a length of 9",
-        b"\x01\x01\x1F\xFF\xFF\xFF\x09\x00\x00\x00\x00\x00\x00\x00\x00",
-    );
-    show_record(b"nothing", b"");
-}
-
 fn show_bus() {
     show_mapped(b"(1794789563.773934) can0 18FEF121#0102 R\n");
     show_mapped(b"(1794789563.773934) vcan1 18fef121#0aff\r\n");
@@ -243,8 +167,6 @@ fn show_maps() {
 
 fn main() {
     show_logs();
-    show_lines();
-    show_records();
     show_bus();
     show_maps();
 }

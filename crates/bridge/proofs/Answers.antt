@@ -102,16 +102,16 @@ module _ {ports : ℕ} {words : List ℕ} where
         h : _≡_ {A = ℕ} 18 0 → ⊥
         h z = omega arith
 
-    pub quieted : {after : List ℕ} {u : Unit} → isClaiming (modelOf ports words .rest .own .claim) ≡ true → length after ≡ length words
-        → u ≡ moved (modelOf ports words .rest .own) Claimed (modelOf ports words .rest .own .address)
-        → modelOf ports after ≡ withRest (modelOf ports words) (withOwn (modelOf ports words .rest) u) → Quieting ports words after 0
+    pub quieted : {after : List ℕ} → isClaiming (modelOf ports words .rest .own .claim) ≡ true → length after ≡ length words
+        → modelOf ports after ≡ withRest (modelOf ports words) (withOwn (modelOf ports words .rest) (moved (modelOf ports words .rest .own) Claimed (modelOf ports words .rest .own .address)))
+        → Quieting ports words after 0
     unfolding quietRefusal refusal performed restAfter lossesAfter asks sends
-    quieted t long u state =
+    quieted t long state =
         let e : 0 ≡ quietRefusal ports (length words) (modelOf ports words .rest .own) = rw (eq-eqb (length words) (recordLength ports) full, t) in
         record {
           call =
               call-done (sym e) long
-              (state ∙ rw (u, each-none ports (modelOf ports words .queues)));
+              (state ∙ rw (each-none ports (modelOf ports words .queues)));
           answer = e;
         }
 

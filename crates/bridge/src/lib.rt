@@ -223,14 +223,13 @@ pub fn quiet(words: &mut [u64]) -> u32
     let unit = unit::read_unit(words);
     let claim = unit.claim;
     if claim.is_claiming() {
-        let claimed = unit.moved(Claim::Claimed, unit.address);
-        unit::store_unit(words, claimed);
+        unit::store_claim(words, Claim::Claimed);
         return 0;
     }
     18
 }
 
-// The unit is read: its claim state, its addresses, its NAME, its number of ports.
+// The unit is read: its claim state, its addresses, its NAME, its number of ports, which is worked out once.
 pub fn unit(words: &[u64]) -> UnitAnswer
     ensures { λ r. ⌜ Reading (portsOf (now (words .entry))) (now (words .entry)) r ⌝ }
 {
@@ -238,7 +237,15 @@ pub fn unit(words: &[u64]) -> UnitAnswer
     if words.len() != Unit::record_length(ports as usize) {
         return UnitAnswer::Refused(2);
     }
-    UnitAnswer::Told(unit::read_unit(words))
+    let unit = unit::read_unit(words);
+    let claim = unit.claim;
+    UnitAnswer::Told(Unit {
+        claim,
+        address: unit.address,
+        preferred: unit.preferred,
+        name: unit.name,
+        ports,
+    })
 }
 
 // A refused call's answer.

@@ -9,7 +9,7 @@ use borrow.Author.Tests.{eqb-true, eqb-false, not-true}
 use lib.ListN.{length, drop}
 use lib.Dec.{eqb, ltb, leb}
 use Rattle.network_message.specs.declared.Command.{Command}
-use Rattle.network_message.specs.declared.Command.the-variants.{Refused, Request, Add, Delete, Clear, Create, AddressList, Parameter, Reset, PairParameter, PairReset}
+use Rattle.network_message.specs.declared.Command.the-variants.{Refused, Request, WithEntries, Clear, AddressList, Parameter, Reset, PairParameter, PairReset}
 use Rattle.checks.specs.Checks.{acknowledges}
 use Rattle.checks.proofs.FirstNumber.{first-in}
 use Rattle.network_message.specs.Decoding.{functionOf, decoded}
@@ -47,7 +47,7 @@ use Rattle.network_message.specs.Commands.{Good}
 use Rattle.network_message.proofs.Decoding.{decoded-good}
 use Rattle.filter_commands.specs.declared.pairs.Question.the-variants.{IsCleared, IsNotCleared, WouldPass, Lacks}
 use Rattle.filter_commands.specs.declared.pairs.Change.{Change}
-use Rattle.filter_commands.specs.declared.pairs.Change.the-variants.{Adds, Deletes, Clears, Creates}
+use Rattle.filter_commands.specs.declared.pairs.Change.the-variants.{Adds, Deletes, Creates}
 use Rattle.checks.specs.Ports.{noPort}
 use Rattle.unit.specs.Own.{isClaimed}
 use Rattle.list_commands.specs.declared.Absent.{Absent}
@@ -197,7 +197,6 @@ list-number : (ports : ℕ) (change : Change) (xs : List ℕ) (from to : ℕ) (p
 unfolding listRefusal listChecks
 list-number ports Adds xs from to pairs n = first-in acknowledges (listChecks ports Adds xs from to pairs) refl n
 list-number ports Deletes xs from to pairs n = first-in acknowledges (listChecks ports Deletes xs from to pairs) refl n
-list-number ports Clears xs from to pairs n = absurd (n refl)
 list-number ports (Creates passing) xs from to pairs n = first-in acknowledges (listChecks ports (Creates passing) xs from to pairs) refl n
 
 module _ (ports : ℕ) (rest : Rest) (requester : ℕ) (payload : List ℕ) (seen : Seen) where
@@ -222,10 +221,8 @@ module _ (ports : ℕ) (rest : Rest) (requester : ℕ) (payload : List ℕ) (see
   unfolding performedBy
   performed-fits (Refused number entry) g = told-fits number (rest .pairs) _ (λ _. g)
   performed-fits (Request from to) g = done-fits _
-  performed-fits (Add from to start end) g = changed-fits Adds from to start end
-  performed-fits (Delete from to start end) g = changed-fits Deletes from to start end
-  performed-fits (Clear from to) g = changed-fits Clears from to 2 2
-  performed-fits (Create from to passing start end) g = changed-fits (Creates passing) from to start end
+  performed-fits (WithEntries change from to start end) g = changed-fits change from to start end
+  performed-fits (Clear from to) g = told-fits 0 _ _ (λ z. absurd (z refl))
   performed-fits (AddressList port) g = done-fits _
   performed-fits (Parameter parameter) g = done-fits _
   performed-fits Reset g = reset-fits _

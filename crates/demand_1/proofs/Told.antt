@@ -20,10 +20,10 @@ use Rattle.entries.proofs.Leading.{leading-short, leading-holds, leading-fails,
 use Rattle.filter_commands.specs.Changes.{lacks}
 use Rattle.filter_commands.specs.declared.pairs.Question.the-variants.{Lacks}
 use Rattle.filter_commands.specs.declared.pairs.Change.{Change}
-use Rattle.filter_commands.specs.declared.pairs.Change.the-variants.{Adds, Deletes, Clears, Creates}
+use Rattle.filter_commands.specs.declared.pairs.Change.the-variants.{Adds, Deletes, Creates}
 use Rattle.filter_commands.specs.Pairs.{holdsOf}
 use Rattle.network_message.specs.declared.Command.{Command}
-use Rattle.network_message.specs.declared.Command.the-variants.{Refused, Request, Add, Delete, Clear, Create, AddressList}
+use Rattle.network_message.specs.declared.Command.the-variants.{Refused, Request, WithEntries, Clear, AddressList}
 use Rattle.network_message.specs.Decoding.{isKnown, namesPorts, mayName, holdsParameter, parameterOf, hasGoodBody, hasWrongMode, entriesStart, entriesEnd, between, wrongIn, wrongEntry, payloadChecks, refusalOf, judged, commandOf, decoded}
 use Rattle.network_message.specs.Commands.{Ports, Good}
 use Rattle.network_message.proofs.Passing.{by-function}
@@ -203,7 +203,6 @@ module _ (words payload : List ℕ) where
   unfolding listRefusal listChecks
   not-22 Adds es e = not-of (λ n. not (eqb n 22)) (first-in (λ n. not (eqb n 22)) (listChecks ports Adds es (from payload) (to payload) (rest .pairs)) refl (λ z. omega arith)) refl e
   not-22 Deletes es e = not-of (λ n. not (eqb n 22)) (first-in (λ n. not (eqb n 22)) (listChecks ports Deletes es (from payload) (to payload) (rest .pairs)) refl (λ z. omega arith)) refl e
-  not-22 Clears es e = omega arith
   not-22 (Creates passing) es e = not-of (λ n. not (eqb n 22)) (first-in (λ n. not (eqb n 22)) (listChecks ports (Creates passing) es (from payload) (to payload) (rest .pairs)) refl (λ z. omega arith)) refl e
 
   changed-telling : (change : Change) → Ports ports (from payload) (to payload) → Telling (listRefusal ports change (entries payload) (from payload) (to payload) (rest .pairs)) (absentTold ports (listRefusal ports change (entries payload) (from payload) (to payload) (rest .pairs)) (entries payload) (from payload) (to payload) (rest .pairs))

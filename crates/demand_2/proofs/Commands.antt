@@ -16,7 +16,7 @@ use Rattle.network_message.proofs.Passing.{answered-by, by-function}
 use Rattle.checks.specs.Ports.{isPort}
 use Rattle.network_message.proofs.Decoding.{decoded-good}
 use Rattle.filter_commands.specs.declared.pairs.Change.{Change}
-use Rattle.filter_commands.specs.declared.pairs.Change.the-variants.{Adds, Deletes, Clears, Creates}
+use Rattle.filter_commands.specs.declared.pairs.Change.the-variants.{Adds, Deletes, Creates}
 use Rattle.unit.specs.Count.{pairCount}
 use Rattle.unit.specs.Model.{Rest, pairAt}
 use Rattle.message_answers.specs.Messages.{performedBy, Untouched}
@@ -111,11 +111,11 @@ module _ (ports : ℕ) (rest : Rest) (long : length (rest .pairs) ≡ pairCount 
   unfolding performedBy decoded listed
   performed-other port requester payload least h =
       answered-by ports port (functionOf payload) from to payload Still (λ _ _ _ _. refl)
-      (λ P. by-function Still (functionOf payload) from to payload (P .known)
+      (λ passed. by-function Still (functionOf payload) from to payload (passed .known)
       (λ e g. refl)
       (λ e g. changed-other Adds _ from to (g .0) (not-reached ports a b from to (rw e at h)))
       (λ e g. changed-other Deletes _ from to (g .0) (not-reached ports a b from to (rw e at h)))
-      (λ e g. changed-other Clears _ from to g (not-reached ports a b from to (rw e at h)))
+      (λ e g. changed-pair ports from to (λ _. clear) (rest .pairs) long (g .least) (g .most) a b P ∙ rw (not-reached ports a b from to (rw e at h)))
       (λ passing e g. changed-other (Creates passing) _ from to (g .0) (not-reached ports a b from to (rw e at h)))
       (λ e g. refl)
       (λ e g. refl)

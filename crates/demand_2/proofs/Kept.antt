@@ -19,12 +19,12 @@ use Rattle.filter_commands.proofs.Laws.{clear-sound, added-sound, deleted-sound
 use Rattle.queue.specs.declared.Frame.{Frame}
 use Rattle.addresses.specs.declared.Place.the-variants.{Free}
 use Rattle.network_message.specs.declared.Command.{Command}
-use Rattle.network_message.specs.declared.Command.the-variants.{Refused, Request, Add, Delete, Clear, Create, AddressList, Parameter, Reset, PairParameter, PairReset}
+use Rattle.network_message.specs.declared.Command.the-variants.{Refused, Request, WithEntries, Clear, AddressList, Parameter, Reset, PairParameter, PairReset}
 use Rattle.network_message.specs.Decoding.{between, decoded}
 use Rattle.network_message.specs.Commands.{Ports, Holding, Good}
 use Rattle.network_message.proofs.Decoding.{decoded-good}
 use Rattle.filter_commands.specs.declared.pairs.Change.{Change}
-use Rattle.filter_commands.specs.declared.pairs.Change.the-variants.{Adds, Deletes, Clears, Creates}
+use Rattle.filter_commands.specs.declared.pairs.Change.the-variants.{Adds, Deletes, Creates}
 use Rattle.unit.specs.Ports.{each}
 use Rattle.unit.specs.Count.{countOf, portsOf, pairCount}
 use Rattle.unit.specs.Model.{Rest, Model, modelOf, recordLength}
@@ -63,7 +63,6 @@ changed-good : (change : Change) (xs : List ℕ) → every isPgn xs ≡ true →
 unfolding changeOf
 changed-good Adds xs h f G = record { sound = added-sound (G .sound) xs; pgns = added-pgns f xs (G .pgns) h }
 changed-good Deletes xs h f G = record { sound = deleted-sound (G .sound) xs; pgns = deleted-pgns f xs (G .pgns) }
-changed-good Clears xs h f G = clear-good
 changed-good (Creates passing) xs h f G = record { sound = created-sound (G .sound) passing xs; pgns = created-pgns f xs (G .pgns) passing h }
 
 -- ---- of all pairs, and that there is one for each two ports
@@ -112,15 +111,15 @@ module _ (ports : ℕ) (pairs : List Filter) (all : All ports pairs) where
             | no s ↦ rw (else-still ports from to change pairs (all .long) low high i (λ j t h. omega arith)) (all .each-good i)
           ]
 
+  changed-all : (change : Filter → Filter) → ((f : Filter) → Good-pair f → Good-pair (change f)) → (from to : ℕ) → Ports ports from to → All ports (changeNamed ports (ports - 1) change from to pairs)
+  changed-all change keeps from to ps = record { long = named-length change from to (ps .least) (ps .most); each-good = named-good change keeps from to (ps .least) (ps .most) }
+
   commanded-all : (change : Change) (xs : List ℕ) → every isPgn xs ≡ true → (from to : ℕ) → Ports ports from to → All ports (commanded ports change xs from to pairs)
   unfolding commanded
   commanded-all change xs h from to ps = go (eqb (listRefusal ports change xs from to pairs) 0)
     where
       go : (t : Bool) → All ports (cond t (changeNamed ports (ports - 1) (changeOf change xs) from to pairs) pairs)
-      go true = record {
-        long = named-length (changeOf change xs) from to (ps .least) (ps .most);
-        each-good = named-good (changeOf change xs) (changed-good change xs h) from to (ps .least) (ps .most);
-      }
+      go true = changed-all (changeOf change xs) (changed-good change xs h) from to ps
       go false = all
 
 -- ---- of a message
@@ -134,10 +133,8 @@ module _ (ports : ℕ) (rest : Rest) (all : All ports (rest .pairs)) where
   unfolding performedBy every entriesOf
   performed-all requester payload (Refused number entry) g = all
   performed-all requester payload (Request from to) g = all
-  performed-all requester payload (Add from to start end) g = commanded-all ports (rest .pairs) all Adds (entriesOf (between start end payload)) (entries-pgns (g .1)) from to (g .0)
-  performed-all requester payload (Delete from to start end) g = commanded-all ports (rest .pairs) all Deletes (entriesOf (between start end payload)) (entries-pgns (g .1)) from to (g .0)
-  performed-all requester payload (Clear from to) g = commanded-all ports (rest .pairs) all Clears (entriesOf (between 2 2 payload)) refl from to g
-  performed-all requester payload (Create from to passing start end) g = commanded-all ports (rest .pairs) all (Creates passing) (entriesOf (between start end payload)) (entries-pgns (g .1)) from to (g .0)
+  performed-all requester payload (WithEntries change from to start end) g = commanded-all ports (rest .pairs) all change (entriesOf (between start end payload)) (entries-pgns (g .1)) from to (g .0)
+  performed-all requester payload (Clear from to) g = changed-all ports (rest .pairs) all (λ _. clear) (λ _ _. clear-good) from to g
   performed-all requester payload (AddressList port) g = all
   performed-all requester payload (Parameter parameter) g = all
   performed-all requester payload Reset g = all

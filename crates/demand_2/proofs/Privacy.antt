@@ -17,13 +17,13 @@ use Rattle.addresses.specs.declared.Place.the-variants.{Free, Held}
 use Rattle.addresses.specs.Table.{heldOn}
 use Rattle.addresses.proofs.Listed.{list-same}
 use Rattle.network_message.specs.declared.Command.{Command}
-use Rattle.network_message.specs.declared.Command.the-variants.{Refused, Request, Add, Delete, Clear, Create, AddressList, Parameter, Reset, PairParameter, PairReset}
+use Rattle.network_message.specs.declared.Command.the-variants.{Refused, Request, WithEntries, Clear, AddressList, Parameter, Reset, PairParameter, PairReset}
 use Rattle.network_message.specs.Decoding.{allPorts, between, decoded}
 use Rattle.network_message.specs.Commands.{Named, named, reaches, Own, Ports, Good}
 use Rattle.replies.specs.Replies.{addressReply}
 use Rattle.network_message.proofs.Decoding.{decoded-good, decoded-own}
 use Rattle.filter_commands.specs.declared.pairs.Change.{Change}
-use Rattle.filter_commands.specs.declared.pairs.Change.the-variants.{Adds, Deletes, Clears, Creates}
+use Rattle.filter_commands.specs.declared.pairs.Change.the-variants.{Adds, Deletes, Creates}
 use Rattle.unit.specs.Count.{portsOf}
 use Rattle.unit.specs.Model.{Model, Rest, Seen, pairAt, modelOf}
 use Rattle.filter_commands.specs.declared.pairs.Question.the-variants.{Lacks}
@@ -91,7 +91,6 @@ module _ (ports : ℕ) (ps qs : List Filter) (from to : ℕ) (same : Agree ports
   unfolding listRefusal listChecks
   refused-same Adds xs = rw (asked-same _, asked-same _)
   refused-same Deletes xs = rw (asked-same _, asked-same _)
-  refused-same Clears xs = refl
   refused-same (Creates passing) xs = rw (asked-same _, asked-same _)
 
   -- the first pair that lacks a PGN is named, so it is the same, and its list too
@@ -182,10 +181,8 @@ module _ (p : ℕ) (words other : List ℕ) (same : portsOf words ≡ portsOf ot
     unfolding performedBy named addressReply pairParameter
     performed-told least (Refused number entry) g own = (refl, refl, refl, refl)
     performed-told least (Request from to) g own = (refl, refl, rw (own-pair from to (g .0) (g .1) own .0), refl)
-    performed-told least (Add from to start end) g own = changed-told Adds from to start end (g .0) own
-    performed-told least (Delete from to start end) g own = changed-told Deletes from to start end (g .0) own
-    performed-told least (Clear from to) g own = changed-told Clears from to 2 2 g own
-    performed-told least (Create from to passing start end) g own = changed-told (Creates passing) from to start end (g .0) own
+    performed-told least (WithEntries change from to start end) g own = changed-told change from to start end (g .0) own
+    performed-told least (Clear from to) g own = (refl, refl, refl, refl)
     performed-told least (AddressList q) g own = (refl, refl, rw (own, address-same, list-same p (y .own .address) (x .table) (y .table) (λ a l. held-same p (getD (x .table) a Free) (getD (y .table) a Free) (λ name. place-same a name l))), refl)
     performed-told least (Parameter parameter) g own = absurd (omega (arith, least, own))
     performed-told least Reset g own = (refl, refl, refl, refl)

@@ -69,13 +69,12 @@ pub fn is_whole(bytes: &[u8]) -> bool
 pub fn first_wrong(bytes: &[u8]) -> usize
     ensures { λ r. ⌜ r ≡ firstWrong (entriesOf (now (bytes .entry))) ⌝ }
 {
-    let end = count(bytes);
-    let mut i = 0;
-    while i < end {
-        let Entry::Pgn(_) = read_entry(bytes, ENTRY_SIZE * i) else {
-            return i + 1;
+    let mut at: usize = 0;
+    while at + ENTRY_SIZE <= bytes.len() {
+        let Entry::Pgn(_) = read_entry(bytes, at) else {
+            return at / ENTRY_SIZE + 1;
         };
-        i += 1;
+        at += ENTRY_SIZE;
     }
     0
 }

@@ -1,4 +1,4 @@
--- What the steps of the crate promise one another: a block that gets another list; and the contract of a change that is named.
+-- What the steps of the crate promise one another: a block that gets another list.
 -- Assumes nothing.
 use Prim.Native.Nat.{ℕ}
 use mathlib.Core.Bool.{Bool, true, false, not}
@@ -7,7 +7,7 @@ use mathlib.Core.List.{List}
 use lib.ListN.{length, getD, take}
 use lib.Dec.{ltb}
 use Rattle.pgn_list.specs.PgnList.{listSize, addAll}
-use Rattle.filter.specs.Filter.{modePlace, countPlace, listOf, Filter, filterOf}
+use Rattle.filter.specs.Filter.{modePlace, countPlace, listOf}
 
 -- a block whose mode word is as it was, and whose list is es
 pub record Relisted (entry exit es : List ℕ) : Type 0 where
@@ -20,8 +20,3 @@ pub record Growing (entry exit : List ℕ) (n : ℕ) (xs : List ℕ) (r : Bool) 
   pub done : r ≡ not (ltb listSize (length (addAll (take n (listOf entry)) xs)))
   pub grown : r ≡ true → Relisted entry exit (addAll (take n (listOf entry)) xs)
   pub refused : r ≡ false → exit ≡ entry
-
--- a pair's block was changed
-pub record BlockChanging (before after : List ℕ) (change : Filter → Filter) : Type 0 where
-  pub state : filterOf after ≡ change (filterOf before)
-  pub long : length after ≡ length before

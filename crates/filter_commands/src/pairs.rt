@@ -3,8 +3,8 @@ ghost use mathlib.Core.Path.{_≡_};
 ghost use lib.ListN.{length};
 ghost use Rattle.filter.specs.Filter.{blockSize, filterOf};
 ghost use Rattle.entries.specs.Entries.{entriesOf};
-ghost use Rattle.filter_commands.specs.Pairs.{holdsOf, changeOf};
-ghost use Rattle.filter_commands.specs.Steps.{BlockChanging};
+ghost use Rattle.filter_commands.specs.Changes.{Changing};
+ghost use Rattle.filter_commands.specs.Pairs.{holdsOf, mayOf, changeOf};
 
 // What is asked of a pair before a command.
 pub enum Question {
@@ -14,11 +14,10 @@ pub enum Question {
     Lacks,
 }
 
-// What a command does to a pair.
+// What a command with entries does to a pair.
 pub enum Change {
     Adds,
     Deletes,
-    Clears,
     Creates(bool),
 }
 
@@ -35,23 +34,14 @@ pub fn answer(block: &[u64], question: Question, entries: &[u8]) -> bool
     }
 }
 
-// A command changes a pair.
-pub fn apply(block: &mut [u64], change: Change, entries: &[u8])
+// A command with entries changes a pair. Tells whether it was done.
+pub fn apply(block: &mut [u64], change: Change, entries: &[u8]) -> bool
     requires { ⌜ length (now block) ≡ blockSize ⌝ }
-    ensures { λ _. ⌜ BlockChanging (now (block .entry)) (now (block .exit)) (changeOf change (entriesOf (now (entries .entry)))) ⌝ }
+    ensures { λ r. ⌜ Changing (now (block .entry)) (now (block .exit)) (mayOf change (entriesOf (now (entries .entry))) (filterOf (now (block .entry)))) (changeOf change (entriesOf (now (entries .entry))) (filterOf (now (block .entry)))) r ⌝ }
 {
     match change {
-        Change::Adds => {
-            crate::add(block, entries);
-        }
-        Change::Deletes => {
-            crate::delete(block, entries);
-        }
-        Change::Clears => {
-            crate::clear(block);
-        }
-        Change::Creates(passing) => {
-            crate::create(block, passing, entries);
-        }
+        Change::Adds => crate::add(block, entries),
+        Change::Deletes => crate::delete(block, entries),
+        Change::Creates(passing) => crate::create(block, passing, entries),
     }
 }

@@ -145,27 +145,8 @@ pub fn bytes(out: &mut [u8], at: usize, values: &[u8]) -> usize
     next
 }
 
-// A space and the first bytes of a word, the least significant first, - for none.
-pub fn word_bytes(out: &mut [u8], at: usize, word: u64, len: u32) -> usize
-    requires { ⌜ at ≤ length (now out) ⌝ }
-    ensures { λ r. ⌜ r ≤ length (now (out .entry)) ⌝ }
-{
-    let mut next = byte(out, at, b' ');
-    if len == 0 {
-        return byte(out, next, b'-');
-    }
-    let mut rest = word;
-    let mut i = 0;
-    while i < len {
-        next = two_digits(out, next, rest);
-        rest /= 256;
-        i += 1;
-    }
-    next
-}
-
 // The ports of a mask, rising.
-pub fn digits(out: &mut [u8], at: usize, mask: u32) -> usize
+fn digits(out: &mut [u8], at: usize, mask: u64) -> usize
     requires { ⌜ at ≤ length (now out) ⌝ }
     ensures { λ r. ⌜ r ≤ length (now (out .entry)) ⌝ }
 {
@@ -182,16 +163,15 @@ pub fn digits(out: &mut [u8], at: usize, mask: u32) -> usize
     next
 }
 
-// A space and the ports of a mask, - for none.
-pub fn ports(out: &mut [u8], at: usize, mask: u32) -> usize
+// The same, - for none.
+pub fn ports(out: &mut [u8], at: usize, mask: u64) -> usize
     requires { ⌜ at ≤ length (now out) ⌝ }
     ensures { λ r. ⌜ r ≤ length (now (out .entry)) ⌝ }
 {
-    let next = byte(out, at, b' ');
     if mask == 0 {
-        return byte(out, next, b'-');
+        return byte(out, at, b'-');
     }
-    digits(out, next, mask)
+    digits(out, at, mask)
 }
 
 // Blanks up to a column.

@@ -1,3 +1,4 @@
 pub mod PairLoop
+pub mod Allowing
 pub mod Ranks
 pub mod Searching

@@ -8,20 +8,20 @@ use native.Mathlib.Numerals.{add-one}
 use native.Mathlib.Omega.{arith}
 use borrow.Author.Tests.{eq-eqb, ne-eqb, lt-ltb, le-ltb}
 use lib.ListN.{length, getD, set, take, drop, length-drop, take-append-drop}
-use lib.Seq.{length-take-le, getD-append-add}
+use lib.Seq.{length-take-le, getD-append-add, getD-drop}
 use lib.Dec.{eqb}
 use Rattle.storage.proofs.Blocks.{length-blocks}
 use Rattle.filter.specs.Filter.{Filter, filterOf, clear}
 use Rattle.filter_commands.specs.declared.pairs.Change.{Change}
 use Rattle.unit.specs.Ports.{each}
 use Rattle.unit.specs.Count.{pairCount}
-use Rattle.unit.specs.Model.{modelOf, pairsFrom, recordLength, withRest, withPairs}
+use Rattle.unit.specs.Model.{Model, modelOf, pairsFrom, recordLength, withRest, withPairs}
 use Rattle.list_commands.specs.Commands.{firstPair, names, anyBelow, holdsAt, anyNamed, changeNamed, changeAt, Beside, listRefusal, commanded}
 use Rattle.filter_commands.specs.Pairs.{changeOf}
 use Rattle.record.specs.Steps.{PairChanging}
 use Rattle.list_commands.specs.Steps.{Naming, PairsChanging, Commanding}
 use Rattle.unit.proofs.Count.{row-below, pair-below}
-use Rattle.unit.proofs.Ports.{each-step}
+use Rattle.unit.proofs.Ports.{each-later, each-step}
 use Rattle.filter.specs.Filter.{blockSize as filterLength}
 
 abbrev pub pairsIn : ℕ → List ℕ → List Filter
@@ -194,6 +194,9 @@ module _ (ports from to : ℕ) (change : Filter → Filter) (pairs : List Filter
           → getD (take (firstPair ports from) pairs ++ each (changeAt change from to) n (drop (firstPair ports from) pairs)) (s + n) clear ≡ getD (each (changeAt change from to) n (drop (firstPair ports from) pairs)) n clear
       by-length s e = rw (← e) (getD-append-add (take (firstPair ports from) pairs) (each (changeAt change from to) n (drop (firstPair ports from) pairs)) n clear)
 
+  next-is : (n : ℕ) → getD (changeNamed ports n change from to pairs) (firstPair ports from + n) clear ≡ getD pairs (firstPair ports from + n) clear
+  next-is n = next-still n ∙ each-later (changeAt change from to) n (drop (firstPair ports from) pairs) n clear (omega arith) ∙ getD-drop (firstPair ports from) pairs n clear
+
   change-at : (n : ℕ) → n < ports - 1 → set (changeNamed ports n change from to pairs) (firstPair ports from + n) (changeAt change from to n (getD (changeNamed ports n change from to pairs) (firstPair ports from + n) clear)) ≡ changeNamed ports (n + 1) change from to pairs
   unfolding changeNamed
   change-at n l = rw (next-still n) (by-length (firstPair ports from) head-long)
@@ -245,15 +248,23 @@ module _ {ports first end : ℕ} {start : List ℕ} {change : Filter → Filter}
         (rw e at P) .others m (l k (omega (arith, N .most)) (N .inside k (omega arith) (omega arith))) ∙ W .others from to N m l;
   }
 
-pub walk-done : {ports first end : ℕ} {start words : List ℕ} (change : Change) (xs : List ℕ) → Walking ports first end start words (changeOf change xs) end → (from to : ℕ) → Naming ports from to first end → PairsChanging ports start words from to change xs
-walk-done {start = start} change xs W from to N = record { state = rw (all-changed N start (changeOf change xs)) at (W .state from to N); others = W .others from to N }
+  pub walk-done : {words : List ℕ} → Walking ports first end start words change end → (from to : ℕ) → Naming ports from to first end → PairsChanging ports start words from to change
+  walk-done W from to N = record { state = rw (all-changed N start change) at (W .state from to N); others = W .others from to N }
+
+  -- the pair that is next is as it was
+  pub walk-next : {words : List ℕ} {i : ℕ} → Walking ports first end start words change i → first ≤ i → (from to : ℕ) → Naming ports from to first end → getD (pairsIn ports words) i clear ≡ getD (pairsIn ports start) i clear
+  walk-next {words} {i} W a from to N = ap (λ (m : Model). getD (m .rest .pairs) i clear) (W .state from to N) ∙ still i (omega (arith, N .least))
+    where
+      still : (j : ℕ) → j ≡ firstPair ports from + (i - firstPair ports from)
+          → getD (changeNamed ports (i - firstPair ports from) change from to (pairsIn ports start)) j clear ≡ getD (pairsIn ports start) j clear
+      still j e = rw e (next-is ports from to change (pairsIn ports start) (pairs-long ports start) (N .low) (N .high) (i - firstPair ports from))
 
 -- ---- a command: refused, or done
-module _ {ports : ℕ} {start : List ℕ} (from to : ℕ) (change : Change) (xs : List ℕ) {n : ℕ} (e : n ≡ listRefusal ports change xs from to (modelOf ports start .rest .pairs)) where
-  pub command-refused : (n ≡ 0 → ⊥) → Commanding ports start start from to change xs n
+module _ {ports : ℕ} {start : List ℕ} (from to : ℕ) (change : Change) (xs : List ℕ) where
+  pub command-refused : {n : ℕ} → n ≡ listRefusal ports change xs from to (modelOf ports start .rest .pairs) → (n ≡ 0 → ⊥) → Commanding ports start start from to change xs n
   unfolding commanded
-  command-refused h = record { answer = e; state = rw (← e, ne-eqb n 0 h); refused = λ _. refl; others = λ _ _. refl }
+  command-refused {n} e h = record { answer = e; state = rw (← e, ne-eqb n 0 h); refused = λ _. refl; others = λ _ _. refl }
 
-  pub command-done : {after : List ℕ} → n ≡ 0 → PairsChanging ports start after from to change xs → Commanding ports start after from to change xs 0
+  pub command-done : {after : List ℕ} → listRefusal ports change xs from to (modelOf ports start .rest .pairs) ≡ 0 → PairsChanging ports start after from to (changeOf change xs) → Commanding ports start after from to change xs 0
   unfolding commanded
-  command-done z P = record { answer = sym z ∙ e; state = rw (← e, eq-eqb n 0 z) (P .state); refused = λ h. absurd (h refl); others = P .others }
+  command-done z P = record { answer = sym z; state = rw (eq-eqb (listRefusal ports change xs from to (modelOf ports start .rest .pairs)) 0 z) (P .state); refused = λ h. absurd (h refl); others = P .others }

@@ -16,7 +16,7 @@ use Rattle.unit.specs.Ports.{each}
 use Rattle.unit.specs.Model.{pairsFrom}
 use Rattle.filter_commands.specs.declared.pairs.Question.the-variants.{IsCleared, IsNotCleared, WouldPass, Lacks}
 use Rattle.filter_commands.specs.declared.pairs.Change.{Change}
-use Rattle.filter_commands.specs.declared.pairs.Change.the-variants.{Adds, Deletes, Clears, Creates}
+use Rattle.filter_commands.specs.declared.pairs.Change.the-variants.{Adds, Deletes, Creates}
 use Rattle.filter_commands.specs.Pairs.{holdsOf, changeOf}
 use Rattle.list_commands.specs.declared.Absent.{Absent}
 
@@ -74,7 +74,6 @@ listChecks ports Deletes xs from to pairs =
     check (anyNamed ports (ports - 1) (holdsOf IsCleared xs) from to pairs) 15
     ∷ check (anyNamed ports (ports - 1) (holdsOf Lacks xs) from to pairs) 17
     ∷ []
-listChecks ports Clears xs from to pairs = []
 listChecks ports (Creates passing) xs from to pairs =
     check (anyNamed ports (ports - 1) (holdsOf IsNotCleared xs) from to pairs) 14
     ∷ check (anyNamed ports (ports - 1) (holdsOf WouldPass xs) from to pairs) 16

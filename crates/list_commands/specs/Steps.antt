@@ -1,7 +1,7 @@
 -- The contracts of a command: what it does to the model of a record.
 -- Assumes nothing.
 use Prim.Native.Nat.{ℕ, _+_, _-_, _≤_, _<_}
-use mathlib.Core.Bool.{true, false}
+use mathlib.Core.Bool.{Bool, true, false}
 use mathlib.Core.Path.{_≡_}
 use mathlib.Core.List.{List}
 use lib.ListN.{getD}
@@ -23,13 +23,18 @@ pub record Naming (ports from to first end : ℕ) : Type 0 where
   pub inside : (k : ℕ) → first ≤ firstPair ports from + k → firstPair ports from + k < end → names from to k ≡ true
   pub behind : (k : ℕ) → end ≤ firstPair ports from + k → k < ports - 1 → names from to k ≡ false
 
--- a command was done on the pairs that it names
-pub record PairsChanging (ports : ℕ) (before after : List ℕ) (from to : ℕ) (change : Change) (xs : List ℕ) : Type 0 where
+-- the pairs that are named were changed, and no word outside their blocks
+pub record PairsChanging (ports : ℕ) (before after : List ℕ) (from to : ℕ) (change : Filter → Filter) : Type 0 where
   pub state : modelOf ports after
-      ≡ withRest (modelOf ports before) (withPairs (modelOf ports before .rest) (changeNamed ports (ports - 1) (changeOf change xs) from to (modelOf ports before .rest .pairs)))
+      ≡ withRest (modelOf ports before) (withPairs (modelOf ports before .rest) (changeNamed ports (ports - 1) change from to (modelOf ports before .rest .pairs)))
   pub others : (n : ℕ) → Beside ports from to n → getD after n 0 ≡ getD before n 0
 
--- or refused
+-- a command was tried on them one after the other: done on all, which the lists allow, or they refuse it; a single pair is then as it was
+pub record Trying (ports : ℕ) (before after : List ℕ) (from to first end : ℕ) (change : Change) (xs : List ℕ) (r : Bool) : Type 0 where
+  pub done : r ≡ true → (listRefusal ports change xs from to (modelOf ports before .rest .pairs) ≡ 0) × PairsChanging ports before after from to (changeOf change xs)
+  pub refused : r ≡ false → (listRefusal ports change xs from to (modelOf ports before .rest .pairs) ≡ 0 → ⊥) × (end ≤ first + 1 → after ≡ before)
+
+-- a command with entries: done, or refused
 pub record Commanding (ports : ℕ) (before after : List ℕ) (from to : ℕ) (change : Change) (xs : List ℕ) (r : ℕ) : Type 0 where
   pub answer : r ≡ listRefusal ports change xs from to (modelOf ports before .rest .pairs)
   pub state : modelOf ports after

@@ -6,12 +6,13 @@ ghost use mathlib.Core.Bool.{true};
 ghost use Prim.Native.Nat.{ℕ, suc, _+_, _-_, _≤_};
 ghost use lib.ListN.{length};
 ghost use Rattle.entries.specs.Entries.{entriesOf};
+ghost use Rattle.filter.specs.Filter.{clear};
 ghost use Rattle.unit.specs.Count.{pairCount};
 ghost use Rattle.unit.specs.Model.{modelOf, recordLength};
 ghost use Rattle.list_commands.specs.Commands.{targetOf, firstPair, anyNamed, listRefusal, absentAt};
 ghost use Rattle.filter_commands.specs.Pairs.{holdsOf};
 ghost use Rattle.filter_commands.specs.declared.pairs.Question.{Question};
-ghost use Rattle.list_commands.specs.Steps.{Naming, PairsChanging, Commanding, Stopping};
+ghost use Rattle.list_commands.specs.Steps.{Naming, PairsChanging, Trying, Commanding, Stopping};
 
 // The pairs that a command names, by their places among the pairs: those from `first` up to `end`.
 struct Named {
@@ -88,7 +89,7 @@ fn any(
     false
 }
 
-// Changes each pair that is named.
+// Changes each pair that is named, up to one that may not be changed. Tells whether all were.
 fn change_each(
     words: &mut [u64],
     ports: usize,
@@ -96,15 +97,18 @@ fn change_each(
     end: usize,
     change: Change,
     entries: &[u8],
-)
+) -> bool
     requires { ⌜ (ports ≤ 8) × (length (now words) ≡ recordLength ports) × (first ≤ end) × (end ≤ pairCount ports) ⌝ }
-    ensures { λ _. ⌜ ((from to : ℕ) → Naming ports from to first end → PairsChanging ports (now (words .entry)) (now (words .exit)) from to change (entriesOf (now (entries .entry)))) ⌝ }
+    ensures { λ r. ⌜ ((from to : ℕ) → Naming ports from to first end → Trying ports (now (words .entry)) (now (words .exit)) from to first end change (entriesOf (now (entries .entry))) r) ⌝ }
 {
     let mut i = first;
     while i < end {
-        record::change(words, ports, i, change, entries);
+        if !record::change(words, ports, i, change, entries) {
+            return false;
+        }
         i += 1;
     }
+    true
 }
 
 // The number that a command is refused with by the lists, or 0.
@@ -138,7 +142,6 @@ fn refusal(
             }
             0
         }
-        Change::Clears => 0,
         Change::Creates(_) => {
             if any(words, ports, first, end, Question::IsNotCleared, entries) {
                 return 14;
@@ -151,7 +154,8 @@ fn refusal(
     }
 }
 
-// A command: on all pairs that it names, or refused on none.
+// A command with entries: on all pairs that it names, or refused on none. Several are judged before one is changed; a single one is judged by the change, and
+// the number looked for if that was not done.
 pub fn command(
     words: &mut [u64],
     ports: usize,
@@ -164,12 +168,37 @@ pub fn command(
     ensures { λ r. ⌜ Commanding ports (now (words .entry)) (now (words .exit)) from to change (entriesOf (now (entries .entry))) r ⌝ }
 {
     let named = pairs_named(ports, from, to);
-    let number = refusal(words, ports, named.first, named.end, change, entries);
-    if number != 0 {
-        return number;
+    if named.first + 1 < named.end {
+        let number = refusal(words, ports, named.first, named.end, change, entries);
+        if number != 0 {
+            return number;
+        }
     }
-    change_each(words, ports, named.first, named.end, change, entries);
-    0
+    if change_each(words, ports, named.first, named.end, change, entries) {
+        return 0;
+    }
+    refusal(words, ports, named.first, named.end, change, entries)
+}
+
+// Clears each pair that is named.
+fn clear_each(words: &mut [u64], ports: usize, first: usize, end: usize)
+    requires { ⌜ (ports ≤ 8) × (length (now words) ≡ recordLength ports) × (first ≤ end) × (end ≤ pairCount ports) ⌝ }
+    ensures { λ _. ⌜ ((from to : ℕ) → Naming ports from to first end → PairsChanging ports (now (words .entry)) (now (words .exit)) from to (λ _. clear)) ⌝ }
+{
+    let mut i = first;
+    while i < end {
+        record::clear(words, ports, i);
+        i += 1;
+    }
+}
+
+// Clear: on all pairs that it names.
+pub fn clear(words: &mut [u64], ports: usize, from: u32, to: u32)
+    requires { ⌜ (ports ≤ 8) × (length (now words) ≡ recordLength ports) × (1 ≤ from) × (from ≤ ports) ⌝ }
+    ensures { λ _. ⌜ PairsChanging ports (now (words .entry)) (now (words .exit)) from to (λ _. clear) ⌝ }
+{
+    let named = pairs_named(ports, from, to);
+    clear_each(words, ports, named.first, named.end);
 }
 
 // Where a PGN is absent: the number of its entry from 1, the To port of the pair, the PGN.

@@ -15,7 +15,7 @@ use Rattle.losses.specs.Losses.{oneMore}
 use Rattle.queue.specs.declared.Frame.{Frame}
 use Rattle.network_message.specs.Commands.{Ports, Good}
 use Rattle.network_message.specs.declared.Command.{Command}
-use Rattle.network_message.specs.declared.Command.the-variants.{Refused, Request, Add, Delete, Clear, Create, AddressList, Parameter, Reset, PairParameter, PairReset}
+use Rattle.network_message.specs.declared.Command.the-variants.{Refused, Request, WithEntries, Clear, AddressList, Parameter, Reset, PairParameter, PairReset}
 use Rattle.network_message.specs.Decoding.{functionOf, pairOf, fromOf, toOf, decoded}
 use Rattle.network_message.proofs.Passing.{answered-by, by-function}
 use Rattle.network_message.proofs.Decoding.{command-good, decoded-good}
@@ -105,10 +105,8 @@ losses-long : (ports : ℕ) (rest : Rest) (requester : ℕ) (payload : List ℕ)
 unfolding performedBy
 losses-long ports rest requester payload (Refused number entry) l = refl
 losses-long ports rest requester payload (Request from to) l = refl
-losses-long ports rest requester payload (Add from to start end) l = refl
-losses-long ports rest requester payload (Delete from to start end) l = refl
+losses-long ports rest requester payload (WithEntries change from to start end) l = refl
 losses-long ports rest requester payload (Clear from to) l = refl
-losses-long ports rest requester payload (Create from to pass start end) l = refl
 losses-long ports rest requester payload (AddressList p) l = refl
 losses-long ports rest requester payload (Parameter parameter) l = refl
 losses-long ports rest requester payload Reset l = length-set l (generalAt ports) 0

@@ -9,20 +9,21 @@ use lib.Dec.{eqb, ltb}
 use native.Mathlib.Omega.{arith}
 use lib.ListN.{length}
 use Rattle.entries.specs.Entries.{listed, entriesOf}
+use Rattle.filter.specs.Filter.{clear}
 use Rattle.network_message.specs.Commands.{Ports}
 use Rattle.network_message.specs.Decoding.{functionOf, between, isHeld}
 use Rattle.replies.specs.Replies.{controlOf, acknowledgment, Writing}
 use Rattle.filter_commands.specs.declared.pairs.Change.{Change}
 use Rattle.message_answers.specs.declared.MessageAnswer.{MessageAnswer}
 use Rattle.unit.specs.Model.{Seen, lossesFrom, modelOf}
-use Rattle.message_answers.specs.Messages.{nothingTold, wrongTold, absentTold, acknowledged, replied, resetAt, changedBy}
+use Rattle.message_answers.specs.Messages.{nothingTold, wrongTold, absentTold, acknowledged, replied, resetAt, changedBy, clearedBy}
 use Rattle.list_commands.specs.Commands.{Beside, anyNamed}
 use Rattle.list_commands.specs.declared.Absent.{Absent}
 use Rattle.filter_commands.specs.Pairs.{holdsOf}
 use Rattle.filter_commands.specs.declared.pairs.Question.the-variants.{Lacks}
 use Rattle.list_commands.proofs.Searching.{refused-17}
 use Rattle.record.specs.Steps.{LossesChanging}
-use Rattle.list_commands.specs.Steps.{Commanding}
+use Rattle.list_commands.specs.Steps.{PairsChanging, Commanding}
 use Rattle.message_answers.specs.Steps.{Telling, Reporting, Replying}
 
 -- a request names one other port
@@ -59,6 +60,11 @@ module _ {ports : ℕ} {words lent back : List ℕ} {r : MessageAnswer} where
       → Replying ports words after lent back (resetAt i requester payload (modelOf ports words .rest .pairs)) (λ n. n ≡ lossesFrom ports + i → ⊥) r
   unfolding acknowledgment controlOf
   reset-told i requester payload C T = record { answer = T .answer; written = T .written; state = C .state; refused = λ h. absurd (h refl); others = C .others }
+
+  pub clear-told : {after : List ℕ} (requester : ℕ) (payload : List ℕ) (from to : ℕ) → PairsChanging ports words after from to (λ _. clear) → Telling lent back 0 (functionOf payload) requester nothingTold r
+      → Replying ports words after lent back (clearedBy ports (modelOf ports words .rest) requester payload from to) (Beside ports from to) r
+  unfolding acknowledgment controlOf
+  clear-told requester payload from to P T = record { answer = T .answer; written = T .written; state = P .state; refused = λ h. absurd (h refl); others = P .others }
 
   pub change-told : {after : List ℕ} {n : ℕ} {told : Absent} (requester : ℕ) (payload : List ℕ) (change : Change) (from to start end : ℕ)
       → Commanding ports words after from to change (entriesOf (between start end payload)) n

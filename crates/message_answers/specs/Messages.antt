@@ -9,14 +9,13 @@ use lib.ListN.{length, getD, set}
 use Rattle.filter.specs.Filter.{Filter, clear}
 use Rattle.entries.specs.Entries.{entriesOf}
 use Rattle.network_message.specs.declared.Command.{Command}
-use Rattle.network_message.specs.declared.Command.the-variants.{Refused, Request, Add, Delete, Clear, Create, AddressList, Parameter, Reset, PairParameter, PairReset}
+use Rattle.network_message.specs.declared.Command.the-variants.{Refused, Request, WithEntries, Clear, AddressList, Parameter, Reset, PairParameter, PairReset}
 use Rattle.network_message.specs.Decoding.{functionOf, pairOf, between}
 use Rattle.replies.specs.Replies.{controlOf, acknowledgment, listReply, addressReply, parameterReply}
 use Rattle.unit.specs.Model.{Rest, Seen, pairAt, generalAt, lossesFrom}
 use Rattle.parameters.specs.Parameters.{pairParameter, generalParameter}
 use Rattle.filter_commands.specs.declared.pairs.Change.{Change}
-use Rattle.filter_commands.specs.declared.pairs.Change.the-variants.{Adds, Deletes, Clears, Creates}
-use Rattle.list_commands.specs.Commands.{Beside, listRefusal, commanded, absentAt}
+use Rattle.list_commands.specs.Commands.{Beside, changeNamed, listRefusal, commanded, absentAt}
 use Rattle.list_commands.specs.declared.Absent.{Absent}
 use Rattle.message_answers.specs.declared.MessageAnswer.{MessageAnswer}
 
@@ -67,21 +66,24 @@ resetAt i requester payload pairs = record {
   told = nothingTold;
 }
 
--- a command on the pairs, with its entries
+-- Add, Delete or Create on the pairs, with its entries
 abbrev pub changedBy : ℕ → Rest → ℕ → List ℕ → Change → ℕ → ℕ → ℕ → ℕ → Replied
 changedBy ports rest requester payload change from to start end =
     acknowledged (listRefusal ports change (entriesOf (between start end payload)) from to (rest .pairs)) requester payload
     (commanded ports change (entriesOf (between start end payload)) from to (rest .pairs))
     (absentTold ports (listRefusal ports change (entriesOf (between start end payload)) from to (rest .pairs)) (entriesOf (between start end payload)) from to (rest .pairs))
 
+-- Clear, which nothing refuses
+abbrev pub clearedBy : ℕ → Rest → ℕ → List ℕ → ℕ → ℕ → Replied
+clearedBy ports rest requester payload from to =
+    acknowledged 0 requester payload (changeNamed ports (ports - 1) (λ _. clear) from to (rest .pairs)) nothingTold
+
 unfoldable pub performedBy : ℕ → Rest → ℕ → List ℕ → Command → Replied
 performedBy ports rest requester payload (Refused number entry) = acknowledged number requester payload (rest .pairs) (wrongTold entry)
 performedBy ports rest requester payload (Request from to) =
     replied (λ seen. listReply (pairOf payload) (getD (rest .pairs) (pairAt ports (from - 1) (to - 1)) clear)) (rest .pairs)
-performedBy ports rest requester payload (Add from to start end) = changedBy ports rest requester payload Adds from to start end
-performedBy ports rest requester payload (Delete from to start end) = changedBy ports rest requester payload Deletes from to start end
-performedBy ports rest requester payload (Clear from to) = changedBy ports rest requester payload Clears from to 2 2
-performedBy ports rest requester payload (Create from to passing start end) = changedBy ports rest requester payload (Creates passing) from to start end
+performedBy ports rest requester payload (WithEntries change from to start end) = changedBy ports rest requester payload change from to start end
+performedBy ports rest requester payload (Clear from to) = clearedBy ports rest requester payload from to
 performedBy ports rest requester payload (AddressList port) = replied (λ seen. addressReply port (rest .own .address) (rest .table)) (rest .pairs)
 performedBy ports rest requester payload (Parameter parameter) =
     replied (λ seen. parameterReply 129 0xFF parameter (generalParameter ports rest seen parameter)) (rest .pairs)
@@ -94,10 +96,8 @@ performedBy ports rest requester payload (PairReset from to) = resetAt (pairAt p
 abbrev pub Untouched : ℕ → Command → ℕ → Type 0
 Untouched ports (Refused number entry) = λ n. Unit {0}
 Untouched ports (Request from to) = λ n. Unit {0}
-Untouched ports (Add from to start end) = Beside ports from to
-Untouched ports (Delete from to start end) = Beside ports from to
+Untouched ports (WithEntries change from to start end) = Beside ports from to
 Untouched ports (Clear from to) = Beside ports from to
-Untouched ports (Create from to passing start end) = Beside ports from to
 Untouched ports (AddressList port) = λ n. Unit {0}
 Untouched ports (Parameter parameter) = λ n. Unit {0}
 Untouched ports Reset = λ n. n ≡ lossesFrom ports + generalAt ports → ⊥

@@ -16,7 +16,7 @@ ghost use Rattle.list_commands.specs.Commands.{Beside, anyNamed};
 ghost use Rattle.entries.specs.Entries.{entriesOf};
 ghost use Rattle.filter_commands.specs.Pairs.{holdsOf};
 ghost use Rattle.filter_commands.specs.declared.pairs.Question.{Question};
-ghost use Rattle.message_answers.specs.Messages.{nothingTold, wrongTold, absentTold, performedBy, changedBy, resetAt, Untouched};
+ghost use Rattle.message_answers.specs.Messages.{nothingTold, wrongTold, absentTold, performedBy, changedBy, clearedBy, resetAt, Untouched};
 ghost use Rattle.message_answers.specs.Steps.{Telling, Replying, Reporting};
 
 // What was written to the reply buffer: the PGN and the length, 0 and 0 for nothing; and the number that refused the message, or 0.
@@ -96,7 +96,7 @@ fn tell(reply: &mut [u8], number: u32, function: u8, requester: u32, told: Absen
     }
 }
 
-// A command on the pairs from a port, with the entries from `start` up to `end`.
+// A change of the pairs from a port, with the entries from `start` up to `end`.
 fn change(
     words: &mut [u64],
     ports: usize,
@@ -115,6 +115,23 @@ fn change(
     let number = list_commands::command(words, ports, from, to, what, &payload[start..end]);
     let told = absent_told(words, ports, number, from, to, &payload[start..end]);
     tell(reply, number, payload[0], requester, told)
+}
+
+// Clears the pairs from a port that are named, and acknowledges it.
+fn clear(
+    words: &mut [u64],
+    ports: usize,
+    requester: u32,
+    payload: &[u8],
+    from: u32,
+    to: u32,
+    reply: &mut [u8],
+) -> MessageAnswer
+    requires { ⌜ (ports ≤ 8) × (length (now words) ≡ recordLength ports) × (longest ≤ length (now reply)) × (requester < 254) × (1 ≤ from) × (from ≤ ports) × (8 ≤ length (now payload)) ⌝ }
+    ensures { λ r. ⌜ Replying ports (now (words .entry)) (now (words .exit)) (now (reply .entry)) (now (reply .exit)) (clearedBy ports (modelOf ports (now (words .entry)) .rest) requester (now (payload .entry)) from to) (Beside ports from to) r ⌝ }
+{
+    list_commands::clear(words, ports, from, to);
+    tell(reply, 0, payload[0], requester, nothing_told())
 }
 
 // Reports a pair's list.
@@ -270,7 +287,8 @@ pub fn perform(
     match command {
         Command::Refused { number, entry } => refuse(reply, number, entry, payload[0], requester),
         Command::Request { from, to } => report(words, ports, from, to, payload[1], reply),
-        Command::Add {
+        Command::WithEntries {
+            change: what,
             from,
             to,
             start,
@@ -280,60 +298,14 @@ pub fn perform(
             ports,
             requester,
             payload,
-            Change::Adds,
+            what,
             from,
             to,
             start,
             end,
             reply,
         ),
-        Command::Delete {
-            from,
-            to,
-            start,
-            end,
-        } => change(
-            words,
-            ports,
-            requester,
-            payload,
-            Change::Deletes,
-            from,
-            to,
-            start,
-            end,
-            reply,
-        ),
-        Command::Clear { from, to } => change(
-            words,
-            ports,
-            requester,
-            payload,
-            Change::Clears,
-            from,
-            to,
-            2,
-            2,
-            reply,
-        ),
-        Command::Create {
-            from,
-            to,
-            pass,
-            start,
-            end,
-        } => change(
-            words,
-            ports,
-            requester,
-            payload,
-            Change::Creates(pass),
-            from,
-            to,
-            start,
-            end,
-            reply,
-        ),
+        Command::Clear { from, to } => clear(words, ports, requester, payload, from, to, reply),
         Command::AddressList { port } => report_addresses(words, port, reply),
         Command::Parameter { parameter } => report_general(words, ports, parameter, reply),
         Command::Reset => reset_general(words, ports, requester, payload, reply),

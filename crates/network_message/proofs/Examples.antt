@@ -5,12 +5,13 @@ use mathlib.Core.List.{[], _∷_}
 use Rattle.storage.specs.Bytes.{packed}
 use Rattle.identifier.specs.Identifier.{isPgn}
 use Rattle.entries.specs.Entries.{listed, entriesOf, every, leading, firstWrong}
-use Rattle.network_message.specs.declared.Command.the-variants.{Refused, Request, Create, Parameter, Reset, PairParameter, PairReset}
+use Rattle.filter_commands.specs.declared.pairs.Change.the-variants.{Creates}
+use Rattle.network_message.specs.declared.Command.the-variants.{Refused, Request, WithEntries, Parameter, Reset, PairParameter, PairReset}
 use Rattle.network_message.specs.Decoding.{isKnown, isGeneral, mayBeAll, isPair, namesPorts, mayName, holdsParameter, isFilling, entriesEnd, holdsEntries, hasGoodBody, wrongIn, wrongEntry, hasWrongMode, refusalOf, judged, commandOf, decoded}
 use Rattle.checks.specs.Ports.{isPort}
 
 payloads :
-    (decoded 4 1 (0x06 ∷ 0x12 ∷ 0x01 ∷ 0xF1 ∷ 0xFE ∷ 0x00 ∷ 0xFF ∷ 0xFF ∷ []) ≡ Create 1 2 true 3 6)
+    (decoded 4 1 (0x06 ∷ 0x12 ∷ 0x01 ∷ 0xF1 ∷ 0xFE ∷ 0x00 ∷ 0xFF ∷ 0xFF ∷ []) ≡ WithEntries (Creates true) 1 2 3 6)
     × (decoded 4 1 (0x00 ∷ 0x12 ∷ 0xFF ∷ 0xFF ∷ 0xFF ∷ 0xFF ∷ 0xFF ∷ 0xFF ∷ []) ≡ Request 1 2)
     × (decoded 4 3 (0x00 ∷ 0x12 ∷ 0xFF ∷ 0xFF ∷ 0xFF ∷ 0xFF ∷ 0xFF ∷ 0xFF ∷ []) ≡ Refused 11 0)
     × (decoded 4 1 (0x02 ∷ 0x11 ∷ 0xF1 ∷ 0xFE ∷ 0x00 ∷ 0xFF ∷ 0xFF ∷ 0xFF ∷ []) ≡ Refused 10 0)

@@ -1,15 +1,15 @@
 -- The tests of a function byte and of a parameter, by the keys of the arm that it takes: neighbours by their range, the others one by one. Assumes nothing.
 use mathlib.Core.Path.{_≡_, refl, sym}
 use mathlib.Core.Logic.{inl, inr}
-use mathlib.Core.Bool.{Bool, true, false, or-true}
+use mathlib.Core.Bool.{true, false, or-true}
 use mathlib.Core.List.{List, [], _∷_}
 use Prim.Native.Nat.{ℕ, zero, suc, _≤_, _<_}
 use native.Mathlib.Omega.{arith}
 use types.Run.{OneOf}
-use borrow.Author.Tests.{eq-eqb, ne-eqb, eqb-true, eqb-false}
+use borrow.Author.Tests.{eq-eqb, ne-eqb}
 use lib.Dec.{eqb}
 use Rattle.entries.specs.Entries.{listed}
-use Rattle.network_message.specs.Decoding.{isKnown, mayBeAll, isHeld, holdsParameter}
+use Rattle.network_message.specs.Decoding.{hasEntries, mayBeAll, isHeld, holdsParameter}
 
 -- ---- an arm whose keys are the list
 module _ (x : ℕ) where
@@ -26,28 +26,13 @@ module _ (x : ℕ) where
 
 -- ---- arms with a range among their keys
 module _ {f : ℕ} where
-  pub known-one : OneOf (0 ∷ 6 ∷ 64 ∷ 128 ∷ 133 ∷ []) f → isKnown f ≡ true
-  unfolding isKnown listed
-  known-one (inl e) = rw e
-  known-one (inr (inl e)) = rw e
-  known-one (inr (inr (inl e))) = rw e
-  known-one (inr (inr (inr (inl e)))) = rw e
-  known-one (inr (inr (inr (inr e)))) = rw e
-
-  pub known-none : (OneOf (0 ∷ 6 ∷ 64 ∷ 128 ∷ 133 ∷ []) f → ⊥) → (2 ≤ f → f < 5 → ⊥) → (130 ≤ f → f < 132 → ⊥) → isKnown f ≡ false
-  unfolding isKnown listed
-  known-none h r s =
+  pub entries-none : (f ≡ 6 → ⊥) → (2 ≤ f → f < 4 → ⊥) → hasEntries f ≡ false
+  unfolding listed
+  entries-none h r =
       rw (
-        ne-eqb 0 f (λ e. h (inl (sym e))),
         ne-eqb 2 f (λ e. r (omega arith) (omega arith)),
         ne-eqb 3 f (λ e. r (omega arith) (omega arith)),
-        ne-eqb 4 f (λ e. r (omega arith) (omega arith)),
-        ne-eqb 6 f (λ e. h (inr (inl (sym e)))),
-        ne-eqb 64 f (λ e. h (inr (inr (inl (sym e))))),
-        ne-eqb 128 f (λ e. h (inr (inr (inr (inl (sym e)))))),
-        ne-eqb 130 f (λ e. s (omega arith) (omega arith)),
-        ne-eqb 131 f (λ e. s (omega arith) (omega arith)),
-        ne-eqb 133 f (λ e. h (inr (inr (inr (inr (sym e)))))),
+        ne-eqb 6 f (λ e. h (sym e)),
       )
 
   pub all-none : (f ≡ 6 → ⊥) → (2 ≤ f → f < 5 → ⊥) → mayBeAll f ≡ false
@@ -85,23 +70,14 @@ some-all (suc (suc (suc zero))) h l = refl
 some-all (suc (suc (suc (suc zero)))) h l = refl
 some-all (suc (suc (suc (suc (suc n))))) h l = absurd (omega arith)
 
-pub some-known : (f : ℕ) → 2 ≤ f → f < 5 → isKnown f ≡ true
-unfolding isKnown listed
-some-known zero h l = absurd (omega arith)
-some-known (suc zero) h l = absurd (omega arith)
-some-known (suc (suc zero)) h l = refl
-some-known (suc (suc (suc zero))) h l = refl
-some-known (suc (suc (suc (suc zero)))) h l = refl
-some-known (suc (suc (suc (suc (suc n))))) h l = absurd (omega arith)
-
--- 130 and 131
-pub two-known : (f : ℕ) → 130 ≤ f → f < 132 → isKnown f ≡ true
-unfolding isKnown listed
-two-known f h l = go (eqb f 130) refl
-  where
-    go : (b : Bool) → eqb f 130 ≡ b → isKnown f ≡ true
-    go true e = let t = eqb-true f 130 e in rw t
-    go false e = let t : f ≡ 131 = omega (arith, eqb-false f 130 e) in rw t
+-- two and three
+pub some-entries : (f : ℕ) → 2 ≤ f → f < 4 → hasEntries f ≡ true
+unfolding listed
+some-entries zero h l = absurd (omega arith)
+some-entries (suc zero) h l = absurd (omega arith)
+some-entries (suc (suc zero)) h l = refl
+some-entries (suc (suc (suc zero))) h l = refl
+some-entries (suc (suc (suc (suc n)))) h l = absurd (omega arith)
 
 -- one to three
 pub some-held : (p : ℕ) → 1 ≤ p → p < 4 → isHeld p ≡ true

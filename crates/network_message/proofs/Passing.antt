@@ -8,7 +8,8 @@ use borrow.Author.Tests.{ne-eqb, eqb-true, eqb-false}
 use lib.Dec.{eqb}
 use Rattle.entries.specs.Entries.{listed}
 use Rattle.network_message.specs.declared.Command.{Command}
-use Rattle.network_message.specs.declared.Command.the-variants.{Refused, Request, Add, Delete, Clear, Create, AddressList, Parameter, Reset, PairParameter, PairReset}
+use Rattle.network_message.specs.declared.Command.the-variants.{Refused, Request, WithEntries, Clear, AddressList, Parameter, Reset, PairParameter, PairReset}
+use Rattle.filter_commands.specs.declared.pairs.Change.the-variants.{Adds, Deletes, Creates}
 use Rattle.checks.specs.Checks.{acknowledges}
 use Rattle.network_message.specs.Decoding.{parameterOf, isKnown, namesPorts, mayName, holdsParameter, entriesEnd, hasGoodBody, wrongEntry, payloadChecks, refusalOf, judged, commandOf, answered}
 use Rattle.checks.proofs.FirstNumber.{first-in}
@@ -69,7 +70,7 @@ last-known function known n0 n2 n3 n4 n6 n64 n128 n130 n131 =
     only true e = refl
     only false e = e
 
-pub by-function : (P : Command → Type 0) (function from to : ℕ) (payload : List ℕ) → isKnown function ≡ true → (function ≡ 0 → P (Request from to)) → (function ≡ 2 → P (Add from to 2 (entriesEnd 2 payload))) → (function ≡ 3 → P (Delete from to 2 (entriesEnd 2 payload))) → (function ≡ 4 → P (Clear from to)) → ((pass : Bool) → function ≡ 6 → P (Create from to pass 3 (entriesEnd 3 payload))) → (function ≡ 64 → P (AddressList to)) → (function ≡ 128 → P (Parameter (parameterOf payload))) → (function ≡ 130 → P Reset) → (function ≡ 131 → P (PairParameter from to (parameterOf payload))) → (function ≡ 133 → P (PairReset from to)) → P (commandOf function from to payload)
+pub by-function : (P : Command → Type 0) (function from to : ℕ) (payload : List ℕ) → isKnown function ≡ true → (function ≡ 0 → P (Request from to)) → (function ≡ 2 → P (WithEntries Adds from to 2 (entriesEnd 2 payload))) → (function ≡ 3 → P (WithEntries Deletes from to 2 (entriesEnd 2 payload))) → (function ≡ 4 → P (Clear from to)) → ((pass : Bool) → function ≡ 6 → P (WithEntries (Creates pass) from to 3 (entriesEnd 3 payload))) → (function ≡ 64 → P (AddressList to)) → (function ≡ 128 → P (Parameter (parameterOf payload))) → (function ≡ 130 → P Reset) → (function ≡ 131 → P (PairParameter from to (parameterOf payload))) → (function ≡ 133 → P (PairReset from to)) → P (commandOf function from to payload)
 unfolding commandOf
 by-function P function from to payload known request add delete clear create list parameter reset pair-parameter pair-reset =
     choose P (eqb function 0) (λ e. request (eqb-true function 0 e))

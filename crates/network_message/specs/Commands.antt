@@ -9,7 +9,7 @@ use lib.ListN.{length}
 use lib.Dec.{eqb}
 use Rattle.entries.specs.Entries.{wellFormed}
 use Rattle.network_message.specs.declared.Command.{Command}
-use Rattle.network_message.specs.declared.Command.the-variants.{Refused, Request, Add, Delete, Clear, Create, AddressList, Parameter, Reset, PairParameter, PairReset}
+use Rattle.network_message.specs.declared.Command.the-variants.{Refused, Request, WithEntries, Clear, AddressList, Parameter, Reset, PairParameter, PairReset}
 use Rattle.checks.specs.Checks.{acknowledges}
 use Rattle.network_message.specs.Decoding.{allPorts, isGeneral, isHeld, between}
 use Rattle.checks.specs.Ports.{isPort}
@@ -24,10 +24,8 @@ pub data Named : Type 0 where
 unfoldable pub named : Command → Named
 named (Refused number entry) = none
 named (Request from to) = pairs from to
-named (Add from to start end) = pairs from to
-named (Delete from to start end) = pairs from to
+named (WithEntries change from to start end) = pairs from to
 named (Clear from to) = pairs from to
-named (Create from to pass start end) = pairs from to
 named (AddressList p) = port p
 named (Parameter parameter) = whole
 named Reset = whole
@@ -64,10 +62,8 @@ pub record Holding (start end : ℕ) (payload : List ℕ) : Type 0 where
 abbrev pub Good : ℕ → List ℕ → Command → Type 0
 Good ports payload (Refused number entry) = acknowledges number ≡ true
 Good ports payload (Request from to) = Ports ports from to × (to ≤ ports)
-Good ports payload (Add from to start end) = Ports ports from to × Holding start end payload
-Good ports payload (Delete from to start end) = Ports ports from to × Holding start end payload
+Good ports payload (WithEntries change from to start end) = Ports ports from to × Holding start end payload
 Good ports payload (Clear from to) = Ports ports from to
-Good ports payload (Create from to pass start end) = Ports ports from to × Holding start end payload
 Good ports payload (AddressList p) = (1 ≤ p) × (p ≤ ports)
 Good ports payload (Parameter parameter) = isHeld parameter ≡ true
 Good ports payload Reset = Unit {0}

@@ -9,7 +9,8 @@ use lib.Dec.{ltb, eqb}
 use Rattle.entries.specs.Entries.{listed, every, entriesOf, whole, firstWrong}
 use Rattle.network_message.specs.declared.Command.{Command}
 use Rattle.network_message.specs.declared.judging.Judged.{Judged}
-use Rattle.network_message.specs.declared.Command.the-variants.{Refused, Request, Add, Delete, Clear, Create, AddressList, Parameter, Reset, PairParameter, PairReset}
+use Rattle.network_message.specs.declared.Command.the-variants.{Refused, Request, WithEntries, Clear, AddressList, Parameter, Reset, PairParameter, PairReset}
+use Rattle.filter_commands.specs.declared.pairs.Change.the-variants.{Adds, Deletes, Creates}
 use Rattle.checks.specs.Checks.{Check, check, first}
 use Rattle.checks.specs.Ports.{isPort}
 
@@ -83,6 +84,10 @@ holdsParameter function parameter =
     true)
 
 -- ---- 12: body wrong: length or filling
+-- Add, Delete and Create hold entries
+abbrev pub hasEntries : ℕ → Bool
+hasEntries function = listed function (2 ∷ 3 ∷ 6 ∷ [])
+
 -- "entries from byte 3", in Create "from byte 4"; bytes are counted from 0 here
 abbrev pub entriesStart : ℕ → ℕ
 entriesStart function = cond (eqb function 6) 3 2
@@ -101,10 +106,10 @@ between start end payload = take (end - start) (drop start payload)
 unfoldable pub holdsEntries : ℕ → List ℕ → Bool
 holdsEntries start payload = whole (between start (entriesEnd start payload) payload)
 
--- Add, Delete and Create hold entries, the others are of 8 bytes
+-- the others are of 8 bytes
 unfoldable pub hasGoodBody : ℕ → List ℕ → Bool
 hasGoodBody function payload =
-    cond (listed function (2 ∷ 3 ∷ 6 ∷ [])) (holdsEntries (entriesStart function) payload) (eqb (length payload) 8)
+    cond (hasEntries function) (holdsEntries (entriesStart function) payload) (eqb (length payload) 8)
 
 -- ---- 22: three bytes that aren't a PGN
 -- "the first such entry's number from 1", 0 where there is none
@@ -112,7 +117,7 @@ unfoldable pub wrongIn : ℕ → List ℕ → ℕ
 wrongIn start payload = firstWrong (entriesOf (between start (entriesEnd start payload) payload))
 
 unfoldable pub wrongEntry : ℕ → List ℕ → ℕ
-wrongEntry function payload = cond (listed function (2 ∷ 3 ∷ 6 ∷ [])) (wrongIn (entriesStart function) payload) 0
+wrongEntry function payload = cond (hasEntries function) (wrongIn (entriesStart function) payload) 0
 
 -- ---- 13: Create mode, in byte 3, not 0 or 1
 unfoldable pub hasWrongMode : ℕ → List ℕ → Bool
@@ -136,10 +141,10 @@ refusalOf ports port function from to payload = first (payloadChecks ports port 
 unfoldable pub commandOf : ℕ → ℕ → ℕ → List ℕ → Command
 commandOf function from to payload =
     cond (eqb function 0) (Request from to)
-    (cond (eqb function 2) (Add from to 2 (entriesEnd 2 payload))
-    (cond (eqb function 3) (Delete from to 2 (entriesEnd 2 payload))
+    (cond (eqb function 2) (WithEntries Adds from to 2 (entriesEnd 2 payload))
+    (cond (eqb function 3) (WithEntries Deletes from to 2 (entriesEnd 2 payload))
     (cond (eqb function 4) (Clear from to)
-    (cond (eqb function 6) (Create from to (eqb (getD payload 2 0) 1) 3 (entriesEnd 3 payload))
+    (cond (eqb function 6) (WithEntries (Creates (eqb (getD payload 2 0) 1)) from to 3 (entriesEnd 3 payload))
     (cond (eqb function 64) (AddressList to)
     (cond (eqb function 128) (Parameter (parameterOf payload))
     (cond (eqb function 130) Reset

@@ -18,28 +18,28 @@ ghost use mathlib.Core.Bool.{_&&_, _||_};
 ghost use Prim.Native.Nat.{_≤_};
 ghost use lib.ListN.{length};
 ghost use lib.Dec.{eqb};
-ghost use Rattle.network_message.specs.Decoding.{isKnown, allPorts, mayBeAll, isPair, namesPorts, mayName, isHeld, holdsParameter, isFilling, entriesEnd, holdsEntries, hasGoodBody, wrongIn, wrongEntry, hasWrongMode, judged};
+ghost use Rattle.network_message.specs.Decoding.{isKnown, allPorts, mayBeAll, isPair, namesPorts, mayName, isHeld, holdsParameter, isFilling, entriesStart, entriesEnd, holdsEntries, hasGoodBody, wrongIn, wrongEntry, hasWrongMode, judged};
 
 // To 15: all pairs from a port.
 const ALL_PORTS: u32 = 15;
 
 const FILLING: u8 = 0xFF;
 
-// 9: whether a function is listed.
+// 9: whether a function is listed. An arm for each, since of neighbours in one arm a range is made that is tested apart.
 fn is_known(function: u8) -> bool
     ensures { λ r. ⌜ r ≡ isKnown function ⌝ }
 {
     match function {
-        REQUEST
-        | ADD
-        | DELETE
-        | CLEAR
-        | CREATE
-        | ADDRESS_LIST
-        | PARAMETER
-        | RESET
-        | PAIR_PARAMETER
-        | PAIR_RESET => true,
+        REQUEST => true,
+        ADD => true,
+        DELETE => true,
+        CLEAR => true,
+        CREATE => true,
+        ADDRESS_LIST => true,
+        PARAMETER => true,
+        RESET => true,
+        PAIR_PARAMETER => true,
+        PAIR_RESET => true,
         _ => false,
     }
 }
@@ -148,6 +148,16 @@ fn is_filling(bytes: &[u8]) -> bool
     true
 }
 
+// Where the entries begin: in a Create behind the mode.
+pub fn entries_start(function: u8) -> usize
+    ensures { λ r. ⌜ (r ≡ entriesStart function) × (r ≤ 3) ⌝ }
+{
+    if function == CREATE {
+        return 3;
+    }
+    2
+}
+
 // Where the entries end: before the filling of an 8-byte payload, else with the last byte.
 pub fn entries_end(start: usize, payload: &[u8]) -> usize
     requires { ⌜ (start ≤ 3) × (8 ≤ length (now payload)) ⌝ }
@@ -179,9 +189,7 @@ fn has_good_body(function: u8, payload: &[u8]) -> bool
     ensures { λ r. ⌜ r ≡ hasGoodBody function (now (payload .entry)) ⌝ }
 {
     match function {
-        ADD => holds_entries(2, payload),
-        DELETE => holds_entries(2, payload),
-        CREATE => holds_entries(3, payload),
+        ADD | DELETE | CREATE => holds_entries(entries_start(function), payload),
         _ => payload.len() == 8,
     }
 }
@@ -201,9 +209,7 @@ fn wrong_entry(function: u8, payload: &[u8]) -> usize
     ensures { λ r. ⌜ r ≡ wrongEntry function (now (payload .entry)) ⌝ }
 {
     match function {
-        ADD => wrong_in(2, payload),
-        DELETE => wrong_in(2, payload),
-        CREATE => wrong_in(3, payload),
+        ADD | DELETE | CREATE => wrong_in(entries_start(function), payload),
         _ => 0,
     }
 }

@@ -1,10 +1,12 @@
 // The bytes of the network message: a payload is a command or is refused. It knows bytes and nothing of the unit: what a command does is another's to say.
 mod judging;
 
+use filter_commands::pairs::Change;
 ghost use mathlib.Core.Path.{_≡_};
 ghost use Prim.Native.Nat.{_≤_};
 ghost use lib.ListN.{length};
-ghost use Rattle.network_message.specs.Decoding.{functionOf, fromOf, toOf, parameterOf, wrongEntry, commandOf, decoded};
+ghost use Rattle.network_message.specs.declared.Command.the-variants.{WithEntries};
+ghost use Rattle.network_message.specs.Decoding.{functionOf, fromOf, toOf, parameterOf, entriesStart, entriesEnd, wrongEntry, commandOf, decoded};
 
 // The functions.
 pub const REQUEST: u8 = 0;
@@ -36,7 +38,8 @@ pub const ENTRIES: u32 = 3;
 
 pub const LOST: u32 = 9;
 
-// What a payload asks, or the number that refuses it, with 22 the first wrong entry's number from 1, else 0. A `to` of 15 is all pairs from that port. Entries are the payload's bytes from `start` up to `end`.
+// What a payload asks, or the number that refuses it, with 22 the first wrong entry's number from 1, else 0. A `to` of 15 is all pairs from that port.
+// Add, Delete and Create are a change with entries, the payload's bytes from `start` up to `end`.
 pub enum Command {
     Refused {
         number: u32,
@@ -46,13 +49,8 @@ pub enum Command {
         from: u32,
         to: u32,
     },
-    Add {
-        from: u32,
-        to: u32,
-        start: usize,
-        end: usize,
-    },
-    Delete {
+    WithEntries {
+        change: Change,
         from: u32,
         to: u32,
         start: usize,
@@ -61,13 +59,6 @@ pub enum Command {
     Clear {
         from: u32,
         to: u32,
-    },
-    Create {
-        from: u32,
-        to: u32,
-        pass: bool,
-        start: usize,
-        end: usize,
     },
     AddressList {
         port: u32,
@@ -109,6 +100,21 @@ fn parameter_of(payload: &[u8]) -> u32
     payload[2] as u32
 }
 
+// A change with the entries of a payload.
+fn with_entries(change: Change, function: u8, from: u32, to: u32, payload: &[u8]) -> Command
+    requires { ⌜ 8 ≤ length (now payload) ⌝ }
+    ensures { λ r. ⌜ r ≡ WithEntries change from to (entriesStart function) (entriesEnd (entriesStart function) (now (payload .entry))) ⌝ }
+{
+    let start = judging::entries_start(function);
+    Command::WithEntries {
+        change,
+        from,
+        to,
+        start,
+        end: judging::entries_end(start, payload),
+    }
+}
+
 // The command of a payload that is not refused.
 fn command_of(function: u8, from: u32, to: u32, payload: &[u8]) -> Command
     requires { ⌜ 8 ≤ length (now payload) ⌝ }
@@ -116,26 +122,16 @@ fn command_of(function: u8, from: u32, to: u32, payload: &[u8]) -> Command
 {
     match function {
         REQUEST => Command::Request { from, to },
-        ADD => Command::Add {
-            from,
-            to,
-            start: 2,
-            end: judging::entries_end(2, payload),
-        },
-        DELETE => Command::Delete {
-            from,
-            to,
-            start: 2,
-            end: judging::entries_end(2, payload),
-        },
+        ADD => with_entries(Change::Adds, function, from, to, payload),
+        DELETE => with_entries(Change::Deletes, function, from, to, payload),
         CLEAR => Command::Clear { from, to },
-        CREATE => Command::Create {
+        CREATE => with_entries(
+            Change::Creates(payload[2] == 1),
+            function,
             from,
             to,
-            pass: payload[2] == 1,
-            start: 3,
-            end: judging::entries_end(3, payload),
-        },
+            payload,
+        ),
         ADDRESS_LIST => Command::AddressList { port: to },
         PARAMETER => Command::Parameter {
             parameter: parameter_of(payload),

@@ -13,8 +13,6 @@ use Rattle.storage.specs.Blocks.{blockAt}
 use Rattle.filter.specs.Filter.{blockSize}
 use lib.Dec.{leb}
 use Rattle.checks.proofs.Tests.{both}
-use Rattle.storage.proofs.Walk.{Left, left-next, left-one, left-none}
-use Rattle.entries.specs.Entries.{every}
 use Rattle.identifier.specs.Identifier.{isPgn}
 use Rattle.plan_shape.specs.Plan.{Plan, below, numbersInRange, inRange, pairInRange, blockOf, mostSegments, mostUnits, portCount, pairsOfUnit}
 
@@ -61,20 +59,6 @@ pub part-long : (lists : List ℕ) (i : ℕ) → blockSize * i + blockSize ≤ l
 part-long lists i h =
     let size : blockSize * i + blockSize - blockSize * i ≡ blockSize = omega arith in
     rw size (length-take-le blockSize (drop (blockSize * i) lists) (omega (arith, length-drop (blockSize * i) lists)))
-
--- ---- a walk over a list whose elements are to be PGNs
-module _ {es : List ℕ} {i : ℕ} (L : Left (every isPgn es) (every isPgn) es i) where
-  pub every-on : i < length es → isPgn (getD es i 0) ≡ true → Left (every isPgn es) (every isPgn) es (i + 1)
-  unfolding every
-  every-on turn e = left-one L turn (rw e)
-
-  pub every-not : i < length es → isPgn (getD es i 0) ≡ false → every isPgn es ≡ false
-  unfolding every
-  every-not turn e = left-next L turn ∙ rw e
-
-  pub every-done : length es ≤ i → every isPgn es ≡ true
-  unfolding every
-  every-done h = left-none L h
 
 -- ---- the numbers in range
 pub record Numbers (segments units first pgn : ℕ) : Type 0 where

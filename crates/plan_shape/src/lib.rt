@@ -1,9 +1,10 @@
 // A plan of a machine: the segment on each port of its units, and their lists; and whether its numbers are in range, or refused with 28.
 use pgn_list::LIST_SIZE;
 ghost use mathlib.Core.Path.{_≡_};
-ghost use Prim.Native.Nat.{_*_, _≤_};
+ghost use mathlib.Core.Bool.{_||_};
+ghost use Prim.Native.Nat.{_*_, _/_, _%_, _≤_};
 ghost use lib.ListN.{length, getD};
-ghost use lib.Dec.{leb};
+ghost use lib.Dec.{leb, eqb};
 ghost use Rattle.identifier.specs.Identifier.{isPgn};
 ghost use Rattle.entries.specs.Entries.{every};
 ghost use Rattle.filter.specs.Filter.{blockSize, filterOf};
@@ -24,33 +25,35 @@ pub const PORTS_LENGTH: usize = PORTS * UNITS;
 
 pub const LISTS_LENGTH: usize = filter::BLOCK_SIZE * (PAIRS * UNITS);
 
-// Whether a word is a PGN.
-fn is_pgn(word: u64) -> bool
-    ensures { λ r. ⌜ r ≡ isPgn word ⌝ }
+// The low byte of a number whose PF is below 240, which a PGN has at 0; 0 where PF is 240 and up.
+fn spare_byte(word: u64) -> u64
+    ensures { λ r. ⌜ (eqb r 0 ≡ (leb 240 (word / 256 % 256) || eqb (word % 256) 0)) × (r ≤ 255) ⌝ }
 {
-    if 262144 <= word {
-        return false;
+    if word / 4096 % 16 == 15 {
+        return 0;
     }
-    identifier::is_pgn(word as u32)
+    word % 256
 }
 
-// Whether every listed number of a pair is a PGN.
+// Whether every listed number of a pair is a PGN: together they have no bit from 18 on, and no spare byte. No branch for each, so that the compiler judges several at once.
 fn lists_pgns(block: &[u64]) -> bool
     requires { ⌜ length (now block) ≡ blockSize ⌝ }
     ensures { λ r. ⌜ r ≡ every isPgn (filterOf (now (block .entry)) .entries) ⌝ }
 {
     let n = filter::count(block);
+    let mut bits: u64 = 0;
+    let mut spare: u64 = 0;
     let mut i = 0;
     while i < n {
         let listed = filter::pgn_at(block, i);
-        let good = is_pgn(listed);
-        if good {
-            i += 1;
-        } else {
-            return false;
-        }
+        bits = bits | listed;
+        spare += spare_byte(listed);
+        i += 1;
     }
-    true
+    if bits < 262144 {
+        return spare == 0;
+    }
+    false
 }
 
 // Whether a pair's numbers are in range.

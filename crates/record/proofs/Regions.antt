@@ -7,7 +7,7 @@ use Prim.Native.Nat.{ℕ, _+_, _*_, _≤_, _<_}
 use native.Mathlib.Omega.{arith}
 use borrow.Author.Tests.{ltb-true, ltb-false}
 use lib.Dec.{ltb}
-use lib.ListN.{length, getD, set, take, drop}
+use lib.ListN.{length, getD, set, take, drop, take-append-drop}
 use lib.Seq.{getD-take, getD-drop}
 use Rattle.storage.specs.Blocks.{blockAt}
 use Rattle.storage.proofs.Parts.{back, part-in, part-before, part-after, part-apart}
@@ -23,8 +23,8 @@ use Rattle.address_claims.specs.declared.Event.{Event}
 use Rattle.addresses.specs.Table.{tableOf}
 use Rattle.unit.specs.Count.{pairCount}
 use Rattle.unit.specs.Model.{modelOf, tableFrom, rowsFrom, pairsFrom, lossesFrom, recordLength, pairAt, queueOn, rowAt, withQueue, withRest, withPairs, withTable, withLosses}
-use Rattle.filter_commands.specs.Steps.{BlockChanging}
-use Rattle.record.specs.Steps.{PairChanging, PairAsking, RowJoining, RowTaking, LossesChanging, TableChanging, TableClaiming}
+use Rattle.filter_commands.specs.Changes.{Changing}
+use Rattle.record.specs.Steps.{PairChanging, PairJudging, PairAsking, RowJoining, RowTaking, LossesChanging, TableChanging, TableClaiming}
 use Rattle.filter.specs.Filter.{blockSize as filterLength}
 use Rattle.addresses.specs.Table.{tableLength}
 use Rattle.queue.specs.Queue.{blockLength as queueLength}
@@ -123,15 +123,27 @@ module _ (ports : ℕ) (words : List ℕ) (i : ℕ) (full : length words ≡ rec
   unfolding modelOf blockAt
   pair-of = blocks-at filterOf filterLength (pairsFrom ports) (pairCount ports) words i clear pair
 
-  pub pair-changed : (ys : List ℕ) (change : Filter → Filter) → length ys ≡ filterLength → BlockChanging (take filterLength (drop (pairsFrom ports + filterLength * i) words)) ys change
+  pub pair-changed : (ys : List ℕ) (change : Filter → Filter) → length ys ≡ filterLength → filterOf ys ≡ change (filterOf (take filterLength (drop (pairsFrom ports + filterLength * i) words)))
       → PairChanging ports words (back (pairsFrom ports + filterLength * i) filterLength words ys) i change
-  pair-changed ys change long C = record {
-    state = pair-back ∙ rw (C .state, pair-of);
+  pair-changed ys change long e = record {
+    state = pair-back ∙ rw (e, pair-of);
     others = word-apart (pairsFrom ports + filterLength * i) filterLength words ys long (omega arith);
   }
     where
       pair-back : modelOf ports (back (pairsFrom ports + filterLength * i) filterLength words ys) ≡ withRest (modelOf ports words) (withPairs (modelOf ports words .rest) (set (modelOf ports words .rest .pairs) i (filterOf ys)))
       pair-back = pair-lent ports words ys i full pair long
+
+  pub pair-judged : (ys : List ℕ) (may : Filter → Bool) (change : Filter → Filter) {r : Bool} → length ys ≡ filterLength
+      → Changing (take filterLength (drop (pairsFrom ports + filterLength * i) words)) ys (may (filterOf (take filterLength (drop (pairsFrom ports + filterLength * i) words)))) (change (filterOf (take filterLength (drop (pairsFrom ports + filterLength * i) words)))) r
+      → PairJudging ports words (back (pairsFrom ports + filterLength * i) filterLength words ys) i may change r
+  pair-judged ys may change long C = record {
+    done = rw pair-of (C .done);
+    changed = pair-changed ys change long (C .state);
+    refused = λ e. rw (C .refused (sym (C .done) ∙ e)) whole-again;
+  }
+    where
+      whole-again : back (pairsFrom ports + filterLength * i) filterLength words (take filterLength (drop (pairsFrom ports + filterLength * i) words)) ≡ words
+      whole-again = rw (take-append-drop filterLength (drop (pairsFrom ports + filterLength * i) words)) (take-append-drop (pairsFrom ports + filterLength * i) words)
 
 -- ---- a counter of losses
 module _ (ports : ℕ) (words : List ℕ) (i : ℕ) (full : length words ≡ recordLength ports) (counter : i ≤ pairCount ports) where

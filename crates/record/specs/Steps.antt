@@ -1,7 +1,7 @@
 -- The contracts of the accessors: what a lent block, changed or read, is in the model of the record.
 -- Assumes nothing.
 use Prim.Native.Nat.{ℕ, _+_, _*_, _≤_, _<_}
-use mathlib.Core.Bool.{Bool}
+use mathlib.Core.Bool.{Bool, false}
 use mathlib.Core.Logic.{_⊎_}
 use mathlib.Core.Path.{_≡_}
 use mathlib.Core.List.{List}
@@ -35,6 +35,12 @@ pub record PairChanging (ports : ℕ) (before after : List ℕ) (i : ℕ) (chang
   pub state : modelOf ports after
       ≡ withRest (modelOf ports before) (withPairs (modelOf ports before .rest) (set (modelOf ports before .rest .pairs) i (change (getD (modelOf ports before .rest .pairs) i clear))))
   pub others : (n : ℕ) → (n < pairsFrom ports + filterLength * i) ⊎ (pairsFrom ports + filterLength * i + filterLength ≤ n) → getD after n 0 ≡ getD before n 0
+
+-- or, if it may not be, not a word
+pub record PairJudging (ports : ℕ) (before after : List ℕ) (i : ℕ) (may : Filter → Bool) (change : Filter → Filter) (r : Bool) : Type 0 where
+  pub done : r ≡ may (getD (modelOf ports before .rest .pairs) i clear)
+  pub changed : PairChanging ports before after i change
+  pub refused : r ≡ false → after ≡ before
 
 -- a counter of losses was changed, and no other word
 pub record LossesChanging (ports : ℕ) (before after : List ℕ) (i : ℕ) (change : ℕ → ℕ) : Type 0 where

@@ -19,10 +19,10 @@ ghost use Rattle.pgn_list.specs.PgnList.{listSize};
 ghost use Rattle.queue.specs.Queue.{blockLength as queueLength};
 ghost use Rattle.losses.specs.Losses.{most, oneMore, counterLength};
 ghost use Rattle.replies.specs.Replies.{listReply, addressReply, Writing};
-ghost use Rattle.filter_commands.specs.Pairs.{holdsOf, changeOf};
+ghost use Rattle.filter_commands.specs.Pairs.{holdsOf, mayOf, changeOf};
 ghost use Rattle.unit.specs.Count.{pairCount};
 ghost use Rattle.unit.specs.Model.{modelOf, queueOn, recordLength, rowsFrom, pairsFrom, lossesFrom, pairAt, generalAt};
-ghost use Rattle.record.specs.Steps.{PairChanging, PairAsking, RowJoining, RowTaking, LossesChanging, TableChanging, TableClaiming};
+ghost use Rattle.record.specs.Steps.{PairChanging, PairJudging, PairAsking, RowJoining, RowTaking, LossesChanging, TableChanging, TableClaiming};
 
 // The place of a port's first pair among the pairs.
 fn first_pair(ports: usize, from: usize) -> usize
@@ -117,14 +117,24 @@ pub fn question(words: &[u64], ports: usize, i: usize, question: Question, entri
     filter_commands::pairs::answer(&words[a..e], question, entries)
 }
 
-// A command changes pair i.
-pub fn change(words: &mut [u64], ports: usize, i: usize, change: Change, entries: &[u8])
+// A command with entries changes pair i. Tells whether it was done.
+pub fn change(words: &mut [u64], ports: usize, i: usize, change: Change, entries: &[u8]) -> bool
     requires { ⌜ (ports ≤ 8) × (length (now words) ≡ recordLength ports) × (i < pairCount ports) ⌝ }
-    ensures { λ _. ⌜ PairChanging ports (now (words .entry)) (now (words .exit)) i (changeOf change (entriesOf (now (entries .entry)))) ⌝ }
+    ensures { λ r. ⌜ PairJudging ports (now (words .entry)) (now (words .exit)) i (mayOf change (entriesOf (now (entries .entry)))) (changeOf change (entriesOf (now (entries .entry)))) r ⌝ }
 {
     let a = filter_at(ports, i);
     let e = a + filter::BLOCK_SIZE;
-    filter_commands::pairs::apply(&mut words[a..e], change, entries);
+    filter_commands::pairs::apply(&mut words[a..e], change, entries)
+}
+
+// Pair i is cleared.
+pub fn clear(words: &mut [u64], ports: usize, i: usize)
+    requires { ⌜ (ports ≤ 8) × (length (now words) ≡ recordLength ports) × (i < pairCount ports) ⌝ }
+    ensures { λ _. ⌜ PairChanging ports (now (words .entry)) (now (words .exit)) i (λ _. clear) ⌝ }
+{
+    let a = filter_at(ports, i);
+    let e = a + filter::BLOCK_SIZE;
+    filter_commands::clear(&mut words[a..e]);
 }
 
 // A frame joins a port's queue, or is lost there. The place of a queue, as that of the table, does not depend on the number of ports.

@@ -1,336 +1,221 @@
-// One line of a script: its call on the unit, counted, and the answer as a line.
-use address_claims::Event;
-use bridge::Absent;
-use bridge::CountsAnswer;
-use bridge::FrameAnswer;
-use bridge::MessageAnswer;
-use bridge::StartAnswer;
-use bridge::TakeAnswer;
-use bridge::UnitAnswer;
+// One line of a script: its call on the unit through the functions that C calls, what came of it counted, and the answer as a line, made of the words that were told by
+// their places.
+use deorasaeng::COUNTS_WORDS;
+use deorasaeng::FRAME_WORDS;
+use deorasaeng::MESSAGE_WORDS;
+use deorasaeng::START_WORDS;
+use deorasaeng::TAKE_WORDS;
+use deorasaeng::UNIT_WORDS;
 use line_parts::print;
-use queue::Frame;
-use queue::Taken;
-use queue::Tally;
-use script::Call;
-use script::Wrong;
+use script_output::form;
 use script_output::reasons;
 use script_output::tally;
-use script_output::words;
 use std::num::wrapping_add_u64;
-use unit::Claim;
-use unit::NO_ADDRESS;
 use unit::Unit;
-ghost use Prim.Native.Nat.{_≤_};
+ghost use Prim.Native.Nat.{_≤_, _<_};
 ghost use lib.ListN.{length};
 
-// How many words the record of the largest unit takes, one of eight ports.
-pub const MOST_WORDS: usize = Unit::QUEUES_AT
+// The words of a run: what is counted, then the record, with room for that of the largest unit, one of eight ports.
+pub const STATE_WORDS: usize = tally::LENGTH
+    + Unit::QUEUES_AT
     + queue::BLOCK_LENGTH * 8
     + filter::BLOCK_SIZE * 56
     + losses::COUNTER_LENGTH * 57;
 
-// A line that is no call, or a call without a unit: its number and why.
-fn no_call(counts: &mut [u64], why: Wrong, out: &mut [u8]) -> usize
-    ensures { λ r. ⌜ r ≤ length (now (out .entry)) ⌝ }
-{
-    tally::no_call(counts);
-    let at = print::count(out, 0, b"? line ", tally::get(counts, tally::LINES));
-    let at = print::text(out, at, b": ");
-    words::wrong(out, at, why)
-}
+// The most words that a call tells.
+const MOST_TOLD: usize = COUNTS_WORDS;
 
-// A call that is refused: its letter and the number.
-fn refused(out: &mut [u8], letter: u8, number: u32) -> usize
-    ensures { λ r. ⌜ r ≤ length (now (out .entry)) ⌝ }
-{
-    let at = print::byte(out, 0, letter);
-    print::count(out, at, b" R ", number as u64)
-}
+// The bytes of a frame that is taken, and the least length of a reply buffer.
+const FRAME_BYTES: usize = 8;
 
-// A call that answers nothing but whether it is done: its letter, and the number that refused it.
-fn done_or_refused(out: &mut [u8], letter: u8, number: u32) -> usize
-    ensures { λ r. ⌜ r ≤ length (now (out .entry)) ⌝ }
-{
-    if number != 0 {
-        return refused(out, letter, number);
-    }
-    print::byte(out, 0, letter)
-}
+const REPLY_BYTES: usize = 1785;
 
+// ---- the call
 // Power-on.
-fn power_on(
-    words: &mut [u64],
-    counts: &mut [u64],
-    name: u64,
-    preferred: u32,
-    count: u32,
-    out: &mut [u8],
-) -> usize
-    ensures { λ r. ⌜ r ≤ length (now (out .entry)) ⌝ }
-{
-    let number = Unit::power_on_ports(words, name, preferred, count);
-    tally::unit(counts, unit::ports_of(words));
-    tally::call(counts, tally::POWER_ON, number);
-    done_or_refused(out, b'P', number)
-}
-
-// The word of a claim state.
-fn claim(out: &mut [u8], at: usize, c: Claim) -> usize
-    requires { ⌜ at ≤ length (now out) ⌝ }
-    ensures { λ r. ⌜ r ≤ length (now (out .entry)) ⌝ }
-{
-    print::one_of(out, at, b" Unstarted| Claiming| Claimed| Lost", c.word())
-}
-
-// Start's answer: what became of the unit, and the ports where its own frame was lost.
-fn start_answer(out: &mut [u8], a: StartAnswer) -> usize
-    ensures { λ r. ⌜ r ≤ length (now (out .entry)) ⌝ }
-{
-    if a.refusal != 0 {
-        return refused(out, b'S', a.refusal);
-    }
-    let at = print::byte(out, 0, b'S');
-    let became = a.claim;
-    let at = claim(out, at, became);
-    print::ports(out, at, a.unsent)
-}
-
-// Start.
-fn start(words: &mut [u64], counts: &mut [u64], out: &mut [u8]) -> usize
-    ensures { λ r. ⌜ r ≤ length (now (out .entry)) ⌝ }
-{
-    let a = bridge::start(words);
-    tally::call(counts, tally::START, a.refusal);
-    tally::ports(counts, tally::OWN_LOST, a.unsent);
-    start_answer(out, a)
-}
-
-// Quiet.
-fn quiet(words: &mut [u64], counts: &mut [u64], out: &mut [u8]) -> usize
-    ensures { λ r. ⌜ r ≤ length (now (out .entry)) ⌝ }
-{
-    let number = bridge::quiet(words);
-    tally::call(counts, tally::QUIET, number);
-    done_or_refused(out, b'Q', number)
-}
-
-// The unit's address, - for none.
-fn address(out: &mut [u8], at: usize, own: u8) -> usize
-    requires { ⌜ at ≤ length (now out) ⌝ }
-    ensures { λ r. ⌜ r ≤ length (now (out .entry)) ⌝ }
-{
-    if own == NO_ADDRESS {
-        return print::text(out, at, b" -");
-    }
-    print::next_number(out, at, own as u64)
-}
-
-// What power-on gave it: preferred address, NAME, number of ports.
-fn given_at_power_on(out: &mut [u8], at: usize, own: Unit) -> usize
-    requires { ⌜ at ≤ length (now out) ⌝ }
-    ensures { λ r. ⌜ r ≤ length (now (out .entry)) ⌝ }
-{
-    let at = print::next_number(out, at, own.preferred as u64);
-    let at = print::byte(out, at, b' ');
-    let at = print::hex(out, at, own.name, 16);
-    print::next_number(out, at, own.ports as u64)
-}
-
-// The unit: claim state, address, and what power-on gave it.
-fn told(out: &mut [u8], own: Unit) -> usize
-    ensures { λ r. ⌜ r ≤ length (now (out .entry)) ⌝ }
-{
-    let at = print::byte(out, 0, b'U');
-    let is = own.claim;
-    let at = claim(out, at, is);
-    let at = address(out, at, own.address);
-    given_at_power_on(out, at, own)
-}
-
-// The unit is read.
-fn read_unit(words: &[u64], counts: &mut [u64], out: &mut [u8]) -> usize
-    ensures { λ r. ⌜ r ≤ length (now (out .entry)) ⌝ }
-{
-    match bridge::unit(words) {
-        UnitAnswer::Refused(number) => {
-            tally::call(counts, tally::UNIT, number);
-            refused(out, b'U', number)
-        }
-        UnitAnswer::Told(own) => {
-            tally::call(counts, tally::UNIT, 0);
-            told(out, own)
-        }
-    }
-}
-
-// How many ports the unit has.
-fn ports_of(words: &[u64]) -> usize
-    ensures { λ r. ⌜ (2 ≤ r) × (r ≤ 8) ⌝ }
-{
-    unit::ports_of(words) as usize
-}
-
-// What became of a frame that is not refused, counted.
-fn count_fates(counts: &mut [u64], ports: usize, a: FrameAnswer)
-    requires { ⌜ ports ≤ 8 ⌝ }
-{
-    tally::consumed(counts, a.consumed);
-    tally::ports(counts, tally::ACCEPTED, a.accepted);
-    tally::ports(counts, tally::LOST, a.lost);
-    tally::ports(counts, tally::OWN_LOST, a.unsent);
-    tally::reasons(counts, a.reasons, ports);
-}
-
-// A frame's answer, counted.
-fn count_frame(counts: &mut [u64], ports: usize, a: FrameAnswer)
-    requires { ⌜ ports ≤ 8 ⌝ }
-{
-    tally::call(counts, tally::FRAME, a.refusal);
-    if a.refusal == 0 {
-        count_fates(counts, ports, a);
-    }
-}
-
-// The event's word, - for none.
-fn event_word(out: &mut [u8], at: usize, e: Event) -> usize
-    requires { ⌜ at ≤ length (now out) ⌝ }
-    ensures { λ r. ⌜ r ≤ length (now (out .entry)) ⌝ }
-{
-    print::one_of(
-        out,
-        at,
-        b" -| Withdrew| Defended| Displaced| Recorded| Refreshed| TookOver:| Beaten",
-        e.number() as u64,
-    )
-}
-
-// The same, with the NAME that an address was taken over from.
-fn event(out: &mut [u8], at: usize, e: Event) -> usize
-    requires { ⌜ at ≤ length (now out) ⌝ }
-    ensures { λ r. ⌜ r ≤ length (now (out .entry)) ⌝ }
-{
-    let next = event_word(out, at, e);
-    if let Event::TookOver(old) = e {
-        return print::hex(out, next, old, 16);
-    }
-    next
-}
-
-// Whether a frame was consumed.
-fn consumed(out: &mut [u8], is_consumed: bool) -> usize
-    ensures { λ r. ⌜ r ≤ length (now (out .entry)) ⌝ }
-{
-    if is_consumed {
-        return print::text(out, 0, b"F c");
-    }
-    print::text(out, 0, b"F -")
-}
-
-// That, the ports that accepted the frame, and those that lost it.
-fn forwarded(out: &mut [u8], a: FrameAnswer) -> usize
-    ensures { λ r. ⌜ r ≤ length (now (out .entry)) ⌝ }
-{
-    let at = consumed(out, a.consumed);
-    let at = print::ports(out, at, a.accepted);
-    print::ports(out, at, a.lost)
-}
-
-// That, the event, the ports where the unit's own frame was lost, and the entries compared.
-fn told_frame(out: &mut [u8], a: FrameAnswer) -> usize
-    ensures { λ r. ⌜ r ≤ length (now (out .entry)) ⌝ }
-{
-    let at = forwarded(out, a);
-    let e = a.event;
-    let at = event(out, at, e);
-    let at = print::ports(out, at, a.unsent);
-    print::next_number(out, at, a.compared as u64)
-}
-
-// A frame's answer: that, and the reasons at the ports of the unit, `ports` of them.
-fn frame_answer(out: &mut [u8], ports: usize, a: FrameAnswer) -> usize
-    requires { ⌜ ports ≤ 8 ⌝ }
-    ensures { λ r. ⌜ r ≤ length (now (out .entry)) ⌝ }
-{
-    if a.refusal != 0 {
-        return refused(out, b'F', a.refusal);
-    }
-    let at = told_frame(out, a);
-    reasons::told(out, at, a.reasons, ports)
+fn power_on(words: &mut [u64], line: &[u8]) -> u32 {
+    let name = script::hex_at(line, 1, 16);
+    let preferred = script::decimal_at(line, 2);
+    deorasaeng::deorasaeng_power_on_ports(words, name, preferred, script::ports(line))
 }
 
 // A frame.
-fn frame(
-    words: &mut [u64],
-    counts: &mut [u64],
-    line: &[u8],
-    port: u32,
-    id: u32,
-    out: &mut [u8],
-) -> usize
-    ensures { λ r. ⌜ r ≤ length (now (out .entry)) ⌝ }
+fn frame(words: &mut [u64], line: &[u8], told: &mut [u64]) -> u32
+    requires { ⌜ 10 ≤ length (now told) ⌝ }
 {
     let mut space = [0u8; 2048];
     let n = script::read_bytes(line, &mut space);
-    let a = bridge::frame(words, port, id, &space[0..n]);
-    let ports = ports_of(words);
-    count_frame(counts, ports, a);
-    frame_answer(out, ports, a)
+    let port = script::decimal_at(line, 1);
+    let id = script::identifier(line);
+    deorasaeng::deorasaeng_frame(words, port, id, &space[0..n], &mut told[0..FRAME_WORDS])
 }
 
-// The frame that a take gave.
-fn given(out: &mut [u8], f: Frame) -> usize
-    ensures { λ r. ⌜ r ≤ length (now (out .entry)) ⌝ }
+// A network message.
+fn message(words: &mut [u64], line: &[u8], told: &mut [u64], reply: &mut [u8]) -> u32
+    requires { ⌜ 10 ≤ length (now told) ⌝ }
 {
-    let at = print::text(out, 0, b"T ");
-    let at = print::hex(out, at, f.id as u64, 8);
-    let at = print::next_number(out, at, f.len as u64);
-    print::word_bytes(out, at, f.bytes, f.len)
+    let mut space = [0u8; 2048];
+    let n = script::read_bytes(line, &mut space);
+    let port = script::decimal_at(line, 1);
+    let requester = script::decimal_at(line, 2);
+    deorasaeng::deorasaeng_message(
+        words,
+        port,
+        requester,
+        &space[0..n],
+        reply,
+        &mut told[0..MESSAGE_WORDS],
+    )
 }
 
-// What a take gave.
-fn taken(counts: &mut [u64], t: Taken, out: &mut [u8]) -> usize
-    ensures { λ r. ⌜ r ≤ length (now (out .entry)) ⌝ }
+// A call that is of the unit itself, by its letter; one that is none of the others is Quiet.
+fn make_of_unit(words: &mut [u64], line: &[u8], letter: u8, told: &mut [u64]) -> u32
+    requires { ⌜ 10 ≤ length (now told) ⌝ }
 {
-    match t {
-        Taken::Given(f) => {
-            tally::count(counts, tally::GIVEN);
-            given(out, f)
-        }
-        Taken::Nothing => print::text(out, 0, b"T -"),
+    match letter {
+        b'P' => power_on(words, line),
+        b'S' => deorasaeng::deorasaeng_start(words, &mut told[0..START_WORDS]),
+        b'U' => deorasaeng::deorasaeng_unit(words, &mut told[0..UNIT_WORDS]),
+        _ => deorasaeng::deorasaeng_quiet(words),
     }
 }
 
-// A take.
-fn take(words: &mut [u64], counts: &mut [u64], port: u32, out: &mut [u8]) -> usize
-    ensures { λ r. ⌜ r ≤ length (now (out .entry)) ⌝ }
+// A call of a port, a take or its counts.
+fn make_of_port(words: &mut [u64], port: u32, letter: u8, told: &mut [u64], bytes: &mut [u8]) -> u32
+    requires { ⌜ (10 ≤ length (now told)) × (8 ≤ length (now bytes)) ⌝ }
 {
-    match bridge::take(words, port) {
-        TakeAnswer::Refused(number) => {
-            tally::call(counts, tally::TAKE, number);
-            refused(out, b'T', number)
-        }
-        TakeAnswer::Took(t) => {
-            tally::call(counts, tally::TAKE, 0);
-            taken(counts, t, out)
-        }
+    if letter == b'C' {
+        return deorasaeng::deorasaeng_counts(words, port, &mut told[0..COUNTS_WORDS]);
+    }
+    deorasaeng::deorasaeng_take(
+        words,
+        port,
+        &mut told[0..TAKE_WORDS],
+        &mut bytes[0..FRAME_BYTES],
+    )
+}
+
+// Makes a line's call, by its letter: the words that are told, the bytes that are written, and the number.
+fn make(words: &mut [u64], line: &[u8], letter: u8, told: &mut [u64], bytes: &mut [u8]) -> u32
+    requires { ⌜ (10 ≤ length (now told)) × (8 ≤ length (now bytes)) ⌝ }
+{
+    match letter {
+        b'F' => frame(words, line, told),
+        b'M' => message(words, line, told, bytes),
+        b'T' | b'C' => make_of_port(words, script::decimal_at(line, 1), letter, told, bytes),
+        _ => make_of_unit(words, line, letter, told),
     }
 }
 
-// The frames that wait, by their priority.
-fn by_priority(out: &mut [u8], at: usize, waiting: &[u64]) -> usize
+// How many ports the unit has that a call is for: at power-on the one that is made, else the one that there is.
+fn ports_for(state: &[u64], line: &[u8], letter: u8) -> usize
+    ensures { λ r. ⌜ (2 ≤ r) × (r ≤ 8) ⌝ }
+{
+    if letter == b'P' || state.len() < tally::LENGTH {
+        return Unit::count_of(script::ports(line) as u64) as usize;
+    }
+    unit::ports_of(&state[tally::LENGTH..]) as usize
+}
+
+// The same on that part of the state which is the record of a unit with so many ports.
+fn make_on_record(
+    state: &mut [u64],
+    ports: usize,
+    line: &[u8],
+    letter: u8,
+    told: &mut [u64],
+    bytes: &mut [u8],
+) -> u32
+    requires { ⌜ (2 ≤ ports) × (ports ≤ 8) × (10 ≤ length (now told)) × (8 ≤ length (now bytes)) ⌝ }
+{
+    let n = Unit::record_length(ports);
+    if state.len() < tally::LENGTH {
+        return 0;
+    }
+    if state.len() - tally::LENGTH < n {
+        return 0;
+    }
+    let end = tally::LENGTH + n;
+    make(&mut state[tally::LENGTH..end], line, letter, told, bytes)
+}
+
+// ---- what came of it, counted
+fn kind_of(letter: u8) -> usize
+    ensures { λ r. ⌜ r < 1000 ⌝ }
+{
+    match letter {
+        b'P' => tally::POWER_ON,
+        b'S' => tally::START,
+        b'Q' => tally::QUIET,
+        b'U' => tally::UNIT,
+        b'F' => tally::FRAME,
+        b'T' => tally::TAKE,
+        b'C' => tally::COUNTS,
+        _ => tally::MESSAGE,
+    }
+}
+
+// A frame: consumed, accepted, lost, the unit's own lost, and the reasons at the ports of the unit.
+fn count_frame(counts: &mut [u64], told: &[u64; MOST_TOLD], ports: usize)
+    requires { ⌜ ports ≤ 8 ⌝ }
+{
+    tally::mask(counts, tally::CONSUMED, told[0]);
+    tally::mask(counts, tally::ACCEPTED, told[1]);
+    tally::mask(counts, tally::LOST, told[2]);
+    tally::mask(counts, tally::OWN_LOST, told[5]);
+    tally::reasons(counts, told[7], ports);
+}
+
+// A call and what it was refused with; of Start the ports where the unit's own frame was lost, of a take whether it gave a frame.
+fn count(counts: &mut [u64], letter: u8, number: u32, told: &[u64; MOST_TOLD], ports: usize)
+    requires { ⌜ ports ≤ 8 ⌝ }
+{
+    tally::call(counts, kind_of(letter), number);
+    if number != 0 {
+        return;
+    }
+    match letter {
+        b'F' => count_frame(counts, told, ports),
+        b'S' => tally::mask(counts, tally::OWN_LOST, told[0]),
+        b'T' => tally::mask(counts, tally::GIVEN, told[0]),
+        _ => {}
+    }
+}
+
+// ---- the line
+// A frame: consumed, accepted, lost, the event and who was taken over from, the unit's own lost, the entries compared, and the reasons.
+fn tell_frame(out: &mut [u8], at: usize, told: &[u64; MOST_TOLD], ports: usize) -> usize
+    requires { ⌜ (at ≤ length (now out)) × (ports ≤ 8) ⌝ }
+    ensures { λ r. ⌜ r ≤ length (now (out .entry)) ⌝ }
+{
+    let next = form::fill(out, at, b" %c0 %p1 %p2 %e3%o4 %p5 %d6  ", told);
+    reasons::told(out, next, told[7], ports)
+}
+
+// As many bytes as a word says.
+fn first_bytes(out: &mut [u8], at: usize, bytes: &[u8], n: u64) -> usize
     requires { ⌜ at ≤ length (now out) ⌝ }
     ensures { λ r. ⌜ r ≤ length (now (out .entry)) ⌝ }
 {
-    let mut next = at;
-    let mut i = 0;
-    while i < waiting.len() {
-        next = print::next_number(out, next, waiting[i]);
-        i += 1;
+    if (bytes.len() as u64) < n {
+        return at;
     }
-    next
+    let end = n as usize;
+    print::bytes(out, at, &bytes[0..end])
 }
 
-// All that wait.
+// A take: whether there is a frame, its identifier, its length and its bytes.
+fn tell_take(out: &mut [u8], at: usize, told: &[u64; MOST_TOLD], bytes: &[u8]) -> usize
+    requires { ⌜ at ≤ length (now out) ⌝ }
+    ensures { λ r. ⌜ r ≤ length (now (out .entry)) ⌝ }
+{
+    if told[0] == 0 {
+        return print::text(out, at, b" -");
+    }
+    let next = form::fill(out, at, b" %x1 %d2", told);
+    first_bytes(out, next, bytes, told[2])
+}
+
+// All that wait, of each priority.
 fn all(waiting: &[u64]) -> u64 {
     let mut total: u64 = 0;
     let mut i = 0;
@@ -341,205 +226,133 @@ fn all(waiting: &[u64]) -> u64 {
     total
 }
 
-// Both, and the frames accepted and taken since power-on.
-fn counted(out: &mut [u8], t: Tally) -> usize
+// A port's counts: the frames that wait, by their priority and all, and those accepted and taken since power-on.
+fn tell_counts(out: &mut [u8], at: usize, told: &[u64]) -> usize
+    requires { ⌜ (at ≤ length (now out)) × (10 ≤ length (now told)) ⌝ }
     ensures { λ r. ⌜ r ≤ length (now (out .entry)) ⌝ }
 {
-    let waiting = t.waiting;
-    let at = print::byte(out, 0, b'C');
-    let at = by_priority(out, at, &waiting);
-    let at = print::count(out, at, b"  waiting ", all(&waiting));
-    let at = print::count(out, at, b", accepted ", t.accepted);
-    print::count(out, at, b", taken ", t.taken)
+    let next = form::fill(out, at, b" %d0 %d1 %d2 %d3 %d4 %d5 %d6 %d7", told);
+    let next = print::count(out, next, b"  waiting ", all(&told[0..8]));
+    form::fill(out, next, b", accepted %d8, taken %d9", told)
 }
 
-// A port's counts, or the number that refused the call.
-fn counts_answer(out: &mut [u8], a: CountsAnswer) -> usize
-    ensures { λ r. ⌜ r ≤ length (now (out .entry)) ⌝ }
-{
-    if a.refusal != 0 {
-        return refused(out, b'C', a.refusal);
-    }
-    let t = a.tally;
-    counted(out, t)
-}
-
-// A port's counts are read.
-fn read_counts(words: &[u64], counts: &mut [u64], port: u32, out: &mut [u8]) -> usize
-    ensures { λ r. ⌜ r ≤ length (now (out .entry)) ⌝ }
-{
-    let a = bridge::counts(words, port);
-    tally::call(counts, tally::COUNTS, a.refusal);
-    counts_answer(out, a)
-}
-
-// The number, the PGN, the length and the bytes that were written.
-fn written(out: &mut [u8], a: MessageAnswer, reply: &[u8]) -> usize
-    ensures { λ r. ⌜ r ≤ length (now (out .entry)) ⌝ }
-{
-    let at = print::byte(out, 0, b'M');
-    let at = print::next_number(out, at, a.refusal as u64);
-    let at = print::next_number(out, at, a.pgn as u64);
-    let at = print::next_number(out, at, a.length as u64);
-    let n = a.length as usize;
-    if n <= reply.len() {
-        return print::bytes(out, at, &reply[0..n]);
-    }
-    at
-}
-
-// Where a PGN is absent: the pair's To port, and the PGN.
-fn absent(out: &mut [u8], at: usize, told: Absent) -> usize
+// Which entry was wrong: with 22 its number, with 17 the pair's To port and the PGN that is absent.
+fn wrong_entry(out: &mut [u8], at: usize, number: u32, told: &[u64]) -> usize
     requires { ⌜ at ≤ length (now out) ⌝ }
     ensures { λ r. ⌜ r ≤ length (now (out .entry)) ⌝ }
 {
-    let next = print::count(out, at, b"  port ", told.to as u64);
-    print::count(out, next, b" PGN ", told.pgn)
+    match number {
+        22 => form::fill(out, at, b"  entry %d2", told),
+        17 => form::fill(out, at, b"  port %d3 PGN %d4", told),
+        _ => at,
+    }
 }
 
-// Which entry was wrong: with 22 its number, with 17 where it is absent.
-fn wrong_entry(out: &mut [u8], at: usize, number: u32, told: Absent) -> usize
+// A message: the number, the PGN, the length and the bytes that were written, and which entry was wrong.
+fn tell_message(
+    out: &mut [u8],
+    at: usize,
+    number: u32,
+    told: &[u64; MOST_TOLD],
+    reply: &[u8],
+) -> usize
     requires { ⌜ at ≤ length (now out) ⌝ }
     ensures { λ r. ⌜ r ≤ length (now (out .entry)) ⌝ }
 {
-    if number == 22 {
-        return print::count(out, at, b"  entry ", told.entry as u64);
-    }
-    if number == 17 {
-        return absent(out, at, told);
-    }
-    at
+    let next = print::count(out, at, b" ", number as u64);
+    let next = form::fill(out, next, b" %d0 %d1", told);
+    let next = first_bytes(out, next, reply, told[1]);
+    wrong_entry(out, next, number, told)
 }
 
-// A message's answer: what was written, and which entry was wrong.
-fn message_answer(out: &mut [u8], a: MessageAnswer, reply: &[u8]) -> usize
-    ensures { λ r. ⌜ r ≤ length (now (out .entry)) ⌝ }
-{
-    let at = written(out, a, reply);
-    let told = a.told;
-    wrong_entry(out, at, a.refusal, told)
-}
-
-// A network message, with a reply buffer of the least length.
-fn message(
-    words: &mut [u64],
-    counts: &mut [u64],
-    line: &[u8],
-    port: u32,
-    requester: u32,
+// A call that was done, behind its letter.
+fn tell_done(
     out: &mut [u8],
+    at: usize,
+    letter: u8,
+    told: &[u64; MOST_TOLD],
+    bytes: &[u8],
+    ports: usize,
 ) -> usize
+    requires { ⌜ (at ≤ length (now out)) × (ports ≤ 8) ⌝ }
     ensures { λ r. ⌜ r ≤ length (now (out .entry)) ⌝ }
 {
-    let mut space = [0u8; 2048];
-    let n = script::read_bytes(line, &mut space);
-    let mut reply = [0u8; 1785];
-    let a = bridge::message(words, port, requester, &space[0..n], &mut reply);
-    tally::call(counts, tally::MESSAGE, a.refusal);
-    message_answer(out, a, &reply)
-}
-
-// Whether nothing is wrong.
-fn is_nothing(why: Wrong) -> bool {
-    if let Wrong::Nothing = why {
-        true
-    } else {
-        false
+    match letter {
+        b'S' => form::fill(out, at, b" %s1 %p0", told),
+        b'U' => form::fill(out, at, b" %s0 %a1 %d2 %X3 %d4", told),
+        b'F' => tell_frame(out, at, told, ports),
+        b'T' => tell_take(out, at, told, bytes),
+        b'C' => tell_counts(out, at, told),
+        _ => at,
     }
 }
 
-// The one call that needs no unit.
-fn is_power_on(call: Call) -> bool {
-    if let Call::PowerOn {
-        name: _,
-        preferred: _,
-        ports: _,
-    } = call {
-        true
-    } else {
-        false
-    }
-}
-
-// Makes a call that is of the unit itself; one that is none of the others is Quiet.
-fn make_of_unit(words: &mut [u64], counts: &mut [u64], call: Call, out: &mut [u8]) -> usize
-    ensures { λ r. ⌜ r ≤ length (now (out .entry)) ⌝ }
-{
-    match call {
-        Call::PowerOn {
-            name,
-            preferred,
-            ports,
-        } => power_on(words, counts, name, preferred, ports, out),
-        Call::Start => start(words, counts, out),
-        Call::ReadUnit => read_unit(words, counts, out),
-        _ => quiet(words, counts, out),
-    }
-}
-
-// Makes a line's call.
-fn make(words: &mut [u64], counts: &mut [u64], line: &[u8], call: Call, out: &mut [u8]) -> usize
-    ensures { λ r. ⌜ r ≤ length (now (out .entry)) ⌝ }
-{
-    match call {
-        Call::Frame { port, id } => frame(words, counts, line, port, id, out),
-        Call::Take { port } => take(words, counts, port, out),
-        Call::Message { port, requester } => message(words, counts, line, port, requester, out),
-        Call::ReadCounts { port } => read_counts(words, counts, port, out),
-        _ => make_of_unit(words, counts, call, out),
-    }
-}
-
-// How many ports the unit has that a call is for: at power-on the one that is made, else the one that there is.
-fn ports_for(words: &[u64], call: Call) -> usize
-    ensures { λ r. ⌜ (2 ≤ r) × (r ≤ 8) ⌝ }
-{
-    match call {
-        Call::PowerOn {
-            name: _,
-            preferred: _,
-            ports,
-        } => Unit::count_of(ports as u64) as usize,
-        _ => ports_of(words),
-    }
-}
-
-// How much of the storage is the record of that unit.
-fn record_length(words: &[u64], call: Call) -> usize
-    ensures { λ r. ⌜ r ≤ length (now (words .entry)) ⌝ }
-{
-    let n = Unit::record_length(ports_for(words, call));
-    if n < words.len() {
-        return n;
-    }
-    words.len()
-}
-
-// Makes a line's call on the record.
-fn make_on_record(
-    words: &mut [u64],
-    counts: &mut [u64],
-    line: &[u8],
-    call: Call,
+// A call's answer: its letter, and what it tells or the number that refused it.
+fn tell(
     out: &mut [u8],
+    at: usize,
+    letter: u8,
+    number: u32,
+    told: &[u64; MOST_TOLD],
+    bytes: &[u8],
+    ports: usize,
 ) -> usize
+    requires { ⌜ (at ≤ length (now out)) × (ports ≤ 8) ⌝ }
     ensures { λ r. ⌜ r ≤ length (now (out .entry)) ⌝ }
 {
-    let n = record_length(words, call);
-    make(&mut words[0..n], counts, line, call, out)
+    let next = print::byte(out, at, letter);
+    if letter == b'M' {
+        return tell_message(out, next, number, told, bytes);
+    }
+    if number != 0 {
+        return print::count(out, next, b" R ", number as u64);
+    }
+    tell_done(out, next, letter, told, bytes, ports)
 }
 
-// The answer to a line without blanks at its ends: it is in `out`, and its length comes back. Before the first power-on there is no unit to call.
-pub fn answer(words: &mut [u64], counts: &mut [u64], line: &[u8], out: &mut [u8]) -> usize
+// ---- all of it
+// A line that is no call, or a call without a unit: its number and why.
+fn no_call(counts: &mut [u64], why: u64, out: &mut [u8], at: usize) -> usize
+    requires { ⌜ at ≤ length (now out) ⌝ }
     ensures { λ r. ⌜ r ≤ length (now (out .entry)) ⌝ }
 {
+    tally::no_call(counts);
+    let told = [tally::get(counts, tally::LINES), why];
+    form::fill(out, at, b"? line %d0: %w1", &told)
+}
+
+// The answer to a line that is a call.
+fn made(state: &mut [u64], line: &[u8], letter: u8, out: &mut [u8], at: usize) -> usize
+    requires { ⌜ at ≤ length (now out) ⌝ }
+    ensures { λ r. ⌜ r ≤ length (now (out .entry)) ⌝ }
+{
+    let ports = ports_for(state, line, letter);
+    let mut told = [0u64; MOST_TOLD];
+    let mut bytes = [0u8; REPLY_BYTES];
+    let number = make_on_record(state, ports, line, letter, &mut told, &mut bytes);
+    tally::unit(state, ports);
+    count(state, letter, number, &told, ports);
+    tell(out, at, letter, number, &told, &bytes, ports)
+}
+
+// Why a line is no call here: before the first power-on there is no unit to call.
+fn what_is_wrong(counts: &[u64], line: &[u8], letter: u8) -> u64 {
     let why = script::what_is_wrong(line);
-    if !is_nothing(why) {
-        return no_call(counts, why, out);
+    if why == script::NOTHING && letter != b'P' && !tally::is_on(counts) {
+        return script::NO_UNIT;
     }
-    let call = script::read_call(line);
-    if is_power_on(call) || tally::is_on(counts) {
-        return make_on_record(words, counts, line, call, out);
+    why
+}
+
+// The answer to a line without blanks at its ends, put into `out` at a place.
+pub fn answer(state: &mut [u64], line: &[u8], out: &mut [u8], at: usize) -> usize
+    requires { ⌜ at ≤ length (now out) ⌝ }
+    ensures { λ r. ⌜ r ≤ length (now (out .entry)) ⌝ }
+{
+    let letter = script::letter(line);
+    let why = what_is_wrong(state, line, letter);
+    if why != script::NOTHING {
+        return no_call(state, why, out, at);
     }
-    no_call(counts, Wrong::NoUnit, out)
+    made(state, line, letter, out, at)
 }

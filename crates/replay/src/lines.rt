@@ -1,58 +1,67 @@
 // One line of a script: passed over or answered, and what is written for it.
 use crate::calls;
 use line_parts::print;
+use script_output::form;
 use script_output::output;
 use script_output::tally;
-use script_output::words;
 ghost use Prim.Native.Nat.{_≤_};
 ghost use lib.ListN.{length};
 
 // Where an answer stands beside its call.
 const COLUMN: usize = 36;
 
-// The part of a line that is shown: all that a call can have.
-fn shown_length(line: &[u8]) -> usize
-    ensures { λ r. ⌜ r ≤ length (now (line .entry)) ⌝ }
+// The line as it is, as much as a call can have.
+fn shown(line: &[u8], out: &mut [u8]) -> usize
+    ensures { λ r. ⌜ r ≤ length (now (out .entry)) ⌝ }
 {
     if script::LONGEST_LINE < line.len() {
-        return script::LONGEST_LINE;
+        return print::text(out, 0, &line[0..script::LONGEST_LINE]);
     }
-    line.len()
+    print::text(out, 0, line)
 }
 
-// A line that is passed over, as it is.
-fn show(counts: &mut [u64], line: &[u8]) {
-    let mut space = [0u8; 8192];
-    let out: &mut [u8] = &mut space;
-    let n = shown_length(line);
-    let at = print::text(out, 0, &line[0..n]);
-    output::finish(counts, out, at);
+// A call, up to where its answer stands; nothing where answers stand alone.
+fn call(counts: &[u64], line: &[u8], out: &mut [u8]) -> usize
+    ensures { λ r. ⌜ r ≤ length (now (out .entry)) ⌝ }
+{
+    if tally::is_plain(counts) {
+        return 0;
+    }
+    let at = shown(line, out);
+    let at = print::pad(out, at, COLUMN);
+    print::text(out, at, b"  ")
 }
 
-// The words of the number that refused the last call, in parentheses; nothing for a call that was done.
-fn told(counts: &[u64], out: &mut [u8], at: usize) -> usize
+// The words of the number that refused the last call, in parentheses; nothing for a call that was done, and where answers stand alone.
+fn refused(counts: &[u64], out: &mut [u8], at: usize) -> usize
     requires { ⌜ at ≤ length (now out) ⌝ }
     ensures { λ r. ⌜ r ≤ length (now (out .entry)) ⌝ }
 {
-    let last = tally::get(counts, tally::LAST);
-    if last == 0 {
+    let told = [tally::get(counts, tally::LAST)];
+    if told[0] == 0 || tally::is_plain(counts) {
         return at;
     }
-    let next = print::text(out, at, b"  (");
-    let next = words::number(out, next, last);
-    print::byte(out, next, b')')
+    form::fill(out, at, b"  (%d0 %n0)", &told)
 }
 
 // A call, its answer, and the words of a refusal.
-fn show_beside(counts: &mut [u64], line: &[u8], answer: &[u8]) {
+fn answer(state: &mut [u64], line: &[u8]) {
     let mut space = [0u8; 8192];
     let out: &mut [u8] = &mut space;
-    let n = shown_length(line);
-    let at = print::text(out, 0, &line[0..n]);
-    let at = print::pad(out, at, COLUMN);
-    let at = print::text(out, at, b"  ");
-    let at = print::text(out, at, answer);
-    let at = told(counts, out, at);
+    let at = call(state, line, out);
+    let at = calls::answer(state, line, out, at);
+    let at = refused(state, out, at);
+    output::finish(state, out, at);
+}
+
+// A line that is passed over, as it is; nothing where answers stand alone.
+fn show(counts: &mut [u64], line: &[u8]) {
+    if tally::is_plain(counts) {
+        return;
+    }
+    let mut space = [0u8; 8192];
+    let out: &mut [u8] = &mut space;
+    let at = shown(line, out);
     output::finish(counts, out, at);
 }
 
@@ -64,36 +73,21 @@ fn is_passed_over(line: &[u8]) -> bool {
     line[0] == b'#'
 }
 
-// The answer to a call, the call beside it unless plain.
-fn answer(words: &mut [u64], counts: &mut [u64], line: &[u8], is_plain: bool) {
-    let mut space = [0u8; 4096];
-    let out: &mut [u8] = &mut space;
-    let n = calls::answer(words, counts, line, out);
-    if is_plain {
-        output::finish(counts, out, n);
-        return;
-    }
-    let written = &out[..];
-    show_beside(counts, line, &written[0..n]);
-}
-
 // A line without blanks at its ends.
-fn pass_trimmed(words: &mut [u64], counts: &mut [u64], line: &[u8], is_plain: bool) {
-    if !is_passed_over(line) {
-        answer(words, counts, line, is_plain);
-        return;
-    }
-    if !is_plain {
-        show(counts, line);
+fn pass_trimmed(state: &mut [u64], line: &[u8]) {
+    if is_passed_over(line) {
+        show(state, line);
+    } else {
+        answer(state, line);
     }
 }
 
 // A whole line of the script; it begins with no blank.
-pub fn pass(words: &mut [u64], counts: &mut [u64], line: &[u8], is_plain: bool) {
-    if tally::has_failed(counts) {
+pub fn pass(state: &mut [u64], line: &[u8]) {
+    if tally::has_failed(state) {
         return;
     }
-    tally::count(counts, tally::LINES);
+    tally::count(state, tally::LINES);
     let end = line_parts::words::end_of(line);
-    pass_trimmed(words, counts, &line[0..end], is_plain);
+    pass_trimmed(state, &line[0..end]);
 }

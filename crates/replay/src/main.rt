@@ -48,19 +48,12 @@ fn past_mark(counts: &[u64], line: &[u8]) -> usize
 }
 
 // One byte of the input: the line goes on, or is whole. Blanks at its beginning are passed over.
-fn feed(
-    words: &mut [u64],
-    counts: &mut [u64],
-    line: &mut [u8],
-    len: usize,
-    byte: u8,
-    is_plain: bool,
-) -> usize
+fn feed(state: &mut [u64], line: &mut [u8], len: usize, byte: u8) -> usize
     requires { ⌜ len ≤ length (now line) ⌝ }
     ensures { λ r. ⌜ r ≤ length (now (line .entry)) ⌝ }
 {
     if byte == b'\n' {
-        lines::pass(words, counts, &line[0..len], is_plain);
+        lines::pass(state, &line[0..len]);
         return 0;
     }
     if len == 0 && words::is_blank(byte) {
@@ -71,25 +64,18 @@ fn feed(
         return len;
     }
     let next = print::byte(line, len, byte);
-    past_mark(counts, &line[0..next])
+    past_mark(state, &line[0..next])
 }
 
 // Bytes of the input.
-fn feed_all(
-    words: &mut [u64],
-    counts: &mut [u64],
-    line: &mut [u8],
-    len: usize,
-    bytes: &[u8],
-    is_plain: bool,
-) -> usize
+fn feed_all(state: &mut [u64], line: &mut [u8], len: usize, bytes: &[u8]) -> usize
     requires { ⌜ len ≤ length (now line) ⌝ }
     ensures { λ r. ⌜ r ≤ length (now (line .entry)) ⌝ }
 {
     let mut next = len;
     let mut i = 0;
     while i < bytes.len() {
-        next = feed(words, counts, line, next, bytes[i], is_plain);
+        next = feed(state, line, next, bytes[i]);
         i += 1;
     }
     next
@@ -114,33 +100,27 @@ fn left(counts: &[u64], n: usize, len: usize) -> Turn
 }
 
 // One read of the input.
-fn read_some(
-    words: &mut [u64],
-    counts: &mut [u64],
-    line: &mut [u8],
-    len: usize,
-    is_plain: bool,
-) -> Turn
+fn read_some(state: &mut [u64], line: &mut [u8], len: usize) -> Turn
     requires { ⌜ len ≤ length (now line) ⌝ }
     ensures { λ r. ⌜ r .len ≤ length (now (line .entry)) ⌝ }
 {
     let mut buffer = io::large_buffer();
     let got = libc::read(STDIN_FILENO, &mut buffer);
-    note_failure(counts, got);
+    note_failure(state, got);
     let n = io::count(got, &buffer);
-    let next = feed_all(words, counts, line, len, &buffer[..n], is_plain);
-    left(counts, n, next)
+    let next = feed_all(state, line, len, &buffer[..n]);
+    left(state, n, next)
 }
 
 // The whole input. A proved loop has to end, and nothing says that the input does: so the turns are counted, from a number that no run uses up.
-fn read_all(words: &mut [u64], counts: &mut [u64], line: &mut [u8], is_plain: bool) -> usize
+fn read_all(state: &mut [u64], line: &mut [u8]) -> usize
     ensures { λ r. ⌜ r ≤ length (now (line .entry)) ⌝ }
 {
     let mut len = 0;
     let mut more = true;
     let mut turns = u64::MAX;
     while 0 < turns && more {
-        let turn = read_some(words, counts, line, len, is_plain);
+        let turn = read_some(state, line, len);
         len = turn.len;
         more = turn.more;
         turns -= 1;
@@ -164,18 +144,17 @@ fn tell(counts: &[u64]) {
 
 // A script, whether its last line is ended or not, and the summary. A line has room for one byte more than it may have, by which a longer line is known.
 fn run(is_plain: bool) {
-    let mut record = [0u64; calls::MOST_WORDS];
-    let mut tallied = [0u64; tally::LENGTH];
+    let mut words = [0u64; calls::STATE_WORDS];
     let mut space = [0u8; script::LONGEST_LINE + 1];
-    let words: &mut [u64] = &mut record;
-    let counts: &mut [u64] = &mut tallied;
+    let state: &mut [u64] = &mut words;
     let line: &mut [u8] = &mut space;
-    let len = read_all(words, counts, line, is_plain);
+    tally::keep_plain(state, is_plain);
+    let len = read_all(state, line);
     if 0 < len {
-        lines::pass(words, counts, &line[0..len], is_plain);
+        lines::pass(state, &line[0..len]);
     }
-    summary::write(counts, line);
-    tell(counts);
+    summary::write(state, line);
+    tell(state);
 }
 
 // The one argument that there may be.

@@ -1,4 +1,4 @@
-// The script format: whether a line is a call and what is wrong with it if not, the call that it is, and the bytes that its last word stands for.
+// The script format: whether a line is a call and what is wrong with it if not, the numbers that its words stand for, and the bytes of its last word.
 use line_parts::words;
 use line_parts::words::Narrow;
 use line_parts::words::Word;
@@ -9,55 +9,39 @@ ghost use lib.ListN.{length};
 // The most bytes of a line, blanks at its end aside; a longer one is no call.
 pub const LONGEST_LINE: usize = 4096;
 
-// One call of a script. The bytes of a frame or a message are the line's last word.
-pub enum Call {
-    PowerOn {
-        name: u64,
-        preferred: u32,
-        ports: u32,
-    },
-    Start,
-    Quiet,
-    ReadUnit,
-    Frame {
-        port: u32,
-        id: u32,
-    },
-    Take {
-        port: u32,
-    },
-    Message {
-        port: u32,
-        requester: u32,
-    },
-    ReadCounts {
-        port: u32,
-    },
-}
+// What a word after the letter stands for; `END` where a call has no more.
+const NAME: u64 = 0;
 
-// What a word after the letter stands for; `End` where a call has no more.
-pub enum Field {
-    Name,
-    Preferred,
-    Ports,
-    Port,
-    Identifier,
-    Bytes,
-    Requester,
-    Payload,
-    End,
-}
+const PREFERRED: u64 = 1;
 
-// Why a line is no call; `Nothing` if it is one.
-pub enum Wrong {
-    Nothing,
-    TooLong,
-    NoLetter,
-    Missing(Field),
-    Malformed(Field),
-    MoreWords,
-    NoUnit,
-}
+const PORTS: u64 = 2;
+
+const PORT: u64 = 3;
+
+const IDENTIFIER: u64 = 4;
+
+const BYTES: u64 = 5;
+
+const REQUESTER: u64 = 6;
+
+const PAYLOAD: u64 = 7;
+
+const END: u64 = 8;
+
+// Why a line is no call, as a number: 0 if it is one, and from `MISSING` and `MALFORMED` on one for each thing that a word stands for.
+pub const NOTHING: u64 = 0;
+
+const TOO_LONG: u64 = 1;
+
+const NO_LETTER: u64 = 2;
+
+const MORE_WORDS: u64 = 3;
+
+pub const NO_UNIT: u64 = 4;
+
+const MISSING: u64 = 5;
+
+const MALFORMED: u64 = 13;
 
 // A word that stands for a number of 64 bits, or for none.
 enum Wide {
@@ -154,91 +138,99 @@ fn is_bytes(word: &[u8]) -> bool {
 }
 
 // Whether a word can stand for a field.
-fn is_good(word: &[u8], field: Field) -> bool {
+fn is_good(word: &[u8], field: u64) -> bool {
     match field {
-        Field::Name => is_hex(word, 16),
-        Field::Preferred => is_decimal(word),
-        Field::Ports => is_decimal(word),
-        Field::Port => is_decimal(word),
-        Field::Identifier => is_hex(word, 8),
-        Field::Bytes => is_bytes(word),
-        Field::Requester => is_decimal(word),
-        Field::Payload => is_bytes(word),
-        Field::End => true,
+        NAME => is_hex(word, 16),
+        IDENTIFIER => is_hex(word, 8),
+        BYTES | PAYLOAD => is_bytes(word),
+        _ => is_decimal(word),
     }
 }
 
 // What is wrong where there is no word for a field; the number of ports may be left out.
-fn missing(field: Field) -> Wrong {
+fn missing(field: u64) -> u64
+    requires { ⌜ field ≤ 8 ⌝ }
+{
     match field {
-        Field::Ports | Field::End => Wrong::Nothing,
-        _ => Wrong::Missing(field),
+        PORTS | END => NOTHING,
+        _ => MISSING + field,
     }
 }
 
 // What is wrong with a word that is to stand for a field.
-fn judged(word: &[u8], field: Field) -> Wrong {
+fn judged(word: &[u8], field: u64) -> u64
+    requires { ⌜ field ≤ 8 ⌝ }
+{
     if word.len() == 0 {
         return missing(field);
     }
-    if let Field::End = field {
-        return Wrong::MoreWords;
+    if field == END {
+        return MORE_WORDS;
     }
     if is_good(word, field) {
-        return Wrong::Nothing;
+        return NOTHING;
     }
-    Wrong::Malformed(field)
+    MALFORMED + field
 }
 
-// The first of two that is something.
-fn first_wrong(a: Wrong, b: Wrong) -> Wrong {
-    if let Wrong::Nothing = a {
-        return b;
+// The same of a word of a line, unless something before it is wrong.
+fn judged_at(line: &[u8], k: usize, field: u64, before: u64) -> u64
+    requires { ⌜ field ≤ 8 ⌝ }
+{
+    if before != NOTHING {
+        return before;
     }
-    a
-}
-
-// The same of a word of a line.
-fn judged_at(line: &[u8], k: usize, field: Field) -> Wrong {
     let found = word_at(line, k);
     let start = found.start;
     let end = found.end;
     judged(&line[start..end], field)
 }
 
-// The words after the letter against three fields, the first that is wrong; the fields are filled up with `End`.
-fn fields(line: &[u8], a: Field, b: Field, c: Field) -> Wrong {
-    let wrong = first_wrong(judged_at(line, 1, a), judged_at(line, 2, b));
-    let wrong = first_wrong(wrong, judged_at(line, 3, c));
-    first_wrong(wrong, judged_at(line, 4, Field::End))
+// The words after the letter against three fields, the first that is wrong; the fields are filled up with `END`.
+fn fields(line: &[u8], a: u64, b: u64, c: u64) -> u64
+    requires { ⌜ (a ≤ 8) × (b ≤ 8) × (c ≤ 8) ⌝ }
+{
+    let wrong = judged_at(line, 1, a, NOTHING);
+    let wrong = judged_at(line, 2, b, wrong);
+    let wrong = judged_at(line, 3, c, wrong);
+    judged_at(line, 4, END, wrong)
 }
 
-// Why a line, without blanks at its ends, is no call.
-pub fn what_is_wrong(line: &[u8]) -> Wrong {
-    if LONGEST_LINE < line.len() {
-        return Wrong::TooLong;
+// The same by the call's letter.
+fn by_letter(line: &[u8], letter: u8) -> u64 {
+    match letter {
+        b'P' => fields(line, NAME, PREFERRED, PORTS),
+        b'S' | b'Q' | b'U' => fields(line, END, END, END),
+        b'F' => fields(line, PORT, IDENTIFIER, BYTES),
+        b'T' | b'C' => fields(line, PORT, END, END),
+        b'M' => fields(line, PORT, REQUESTER, PAYLOAD),
+        _ => NO_LETTER,
     }
+}
+
+// The letter of a line's call, 0 for none: its first byte, if a blank or nothing comes behind it.
+pub fn letter(line: &[u8]) -> u8 {
     if line.len() == 0 {
-        return Wrong::NoLetter;
+        return 0;
     }
     if 1 < line.len() {
         if !words::is_blank(line[1]) {
-            return Wrong::NoLetter;
+            return 0;
         }
     }
-    let letter = line[0];
-    match letter {
-        b'P' => fields(line, Field::Name, Field::Preferred, Field::Ports),
-        b'S' | b'Q' | b'U' => fields(line, Field::End, Field::End, Field::End),
-        b'F' => fields(line, Field::Port, Field::Identifier, Field::Bytes),
-        b'T' | b'C' => fields(line, Field::Port, Field::End, Field::End),
-        b'M' => fields(line, Field::Port, Field::Requester, Field::Payload),
-        _ => Wrong::NoLetter,
+    line[0]
+}
+
+// Why a line, without blanks at its ends, is no call.
+pub fn what_is_wrong(line: &[u8]) -> u64 {
+    if LONGEST_LINE < line.len() {
+        return TOO_LONG;
     }
+    by_letter(line, letter(line))
 }
 
 // The number that a word of a line stands for; 0 where it stands for none, which `what_is_wrong` has told.
-fn decimal_at(line: &[u8], k: usize) -> u32 {
+pub fn decimal_at(line: &[u8], k: usize) -> u32 {
     let found = word_at(line, k);
     let start = found.start;
     let end = found.end;
@@ -248,7 +240,8 @@ fn decimal_at(line: &[u8], k: usize) -> u32 {
     n
 }
 
-fn hex_at(line: &[u8], k: usize, longest: usize) -> u64 {
+// The same of hex digits, `longest` of them at most.
+pub fn hex_at(line: &[u8], k: usize, longest: usize) -> u64 {
     let found = word_at(line, k);
     let start = found.start;
     let end = found.end;
@@ -258,8 +251,8 @@ fn hex_at(line: &[u8], k: usize, longest: usize) -> u64 {
     n
 }
 
-// The number of ports, the third word; four where it is left out.
-fn ports_at(line: &[u8]) -> u32 {
+// The number of ports that a power-on has, its third word; four where it is left out.
+pub fn ports(line: &[u8]) -> u32 {
     let found = word_at(line, 3);
     if found.start == found.end {
         return Unit::PORTS;
@@ -267,61 +260,9 @@ fn ports_at(line: &[u8]) -> u32 {
     decimal_at(line, 3)
 }
 
-// P NAME PREFERRED [PORTS]
-fn power_on(line: &[u8]) -> Call {
-    Call::PowerOn {
-        name: hex_at(line, 1, 16),
-        preferred: decimal_at(line, 2),
-        ports: ports_at(line),
-    }
-}
-
-// F PORT ID BYTES. An identifier has eight digits at most, so that the remainder is the number.
-fn frame(line: &[u8]) -> Call {
-    Call::Frame {
-        port: decimal_at(line, 1),
-        id: (hex_at(line, 2, 8) % 4294967296) as u32,
-    }
-}
-
-// M PORT REQUESTER PAYLOAD
-fn message(line: &[u8]) -> Call {
-    Call::Message {
-        port: decimal_at(line, 1),
-        requester: decimal_at(line, 2),
-    }
-}
-
-// T PORT
-fn take(line: &[u8]) -> Call {
-    Call::Take {
-        port: decimal_at(line, 1),
-    }
-}
-
-// C PORT
-fn counts(line: &[u8]) -> Call {
-    Call::ReadCounts {
-        port: decimal_at(line, 1),
-    }
-}
-
-// The call that a line is, if nothing is wrong with it.
-pub fn read_call(line: &[u8]) -> Call {
-    if line.len() == 0 {
-        return Call::Start;
-    }
-    let letter = line[0];
-    match letter {
-        b'P' => power_on(line),
-        b'Q' => Call::Quiet,
-        b'U' => Call::ReadUnit,
-        b'F' => frame(line),
-        b'T' => take(line),
-        b'M' => message(line),
-        b'C' => counts(line),
-        _ => Call::Start,
-    }
+// A frame's identifier, its second word: eight digits at most, so that the remainder is the number.
+pub fn identifier(line: &[u8]) -> u32 {
+    (hex_at(line, 2, 8) % 4294967296) as u32
 }
 
 // Where a line's last word begins: after its last blank.

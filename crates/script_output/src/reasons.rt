@@ -1,8 +1,8 @@
 // The reasons why frames crossed to ports or stopped: in a frame's answer, and counted in the summary. They are told in the order of their numbers, but 0, that a
 // port was not asked, comes last.
+use crate::form;
 use crate::output;
 use crate::tally;
-use crate::words;
 use line_parts::print;
 ghost use Prim.Native.Nat.{_≤_, _<_};
 ghost use lib.ListN.{length};
@@ -21,8 +21,21 @@ fn part(out: &mut [u8], at: usize, first: usize) -> usize
     print::text(out, at, b", ")
 }
 
+// One of the list, by a form of the reason and the ports that have it, or how often it was met; nothing where that is 0.
+fn one(out: &mut [u8], at: usize, first: usize, form: &[u8], n: u64, reason: u64) -> usize
+    requires { ⌜ at ≤ length (now out) ⌝ }
+    ensures { λ r. ⌜ r ≤ length (now (out .entry)) ⌝ }
+{
+    if n == 0 {
+        return at;
+    }
+    let next = part(out, at, first);
+    let told = [n, reason];
+    form::fill(out, next, form, &told)
+}
+
 // 1 where the lowest four bits are a reason, else 0.
-fn bit(reasons: u64, reason: u64) -> u32 {
+fn bit(reasons: u64, reason: u64) -> u64 {
     if reasons % 16 == reason {
         return 1;
     }
@@ -30,7 +43,7 @@ fn bit(reasons: u64, reason: u64) -> u32 {
 }
 
 // The ports that have a reason, of the first `ports`, as a mask.
-fn having(reasons: u64, ports: usize, reason: u64) -> u32
+fn having(reasons: u64, ports: usize, reason: u64) -> u64
     requires { ⌜ ports ≤ 8 ⌝ }
 {
     let mut mask = 0;
@@ -42,58 +55,22 @@ fn having(reasons: u64, ports: usize, reason: u64) -> u32
     mask
 }
 
-// The ports of a mask and the reason that they have; nothing where there are none.
-fn group(out: &mut [u8], at: usize, first: usize, mask: u32, reason: u64) -> usize
-    requires { ⌜ at ≤ length (now out) ⌝ }
-    ensures { λ r. ⌜ r ≤ length (now (out .entry)) ⌝ }
-{
-    if mask == 0 {
-        return at;
-    }
-    let next = part(out, at, first);
-    let next = print::digits(out, next, mask);
-    let next = print::text(out, next, b": ");
-    words::reason(out, next, reason)
-}
-
-// Each reason that some of the ports have.
-fn groups(out: &mut [u8], first: usize, reasons: u64, ports: usize) -> usize
-    requires { ⌜ (first ≤ length (now out)) × (ports ≤ 8) ⌝ }
-    ensures { λ r. ⌜ r ≤ length (now (out .entry)) ⌝ }
-{
-    let mut next = first;
-    let mut k = 0;
-    while k < REASONS {
-        k += 1;
-        let mask = having(reasons, ports, k % REASONS);
-        next = group(out, next, first, mask, k % REASONS);
-    }
-    next
-}
-
-// The reasons of a frame's answer, after two blanks.
+// The reasons of a frame's answer: each that some of the ports have, behind these ports.
 pub fn told(out: &mut [u8], at: usize, reasons: u64, ports: usize) -> usize
     requires { ⌜ (at ≤ length (now out)) × (ports ≤ 8) ⌝ }
     ensures { λ r. ⌜ r ≤ length (now (out .entry)) ⌝ }
 {
-    let first = print::text(out, at, b"  ");
-    groups(out, first, reasons, ports)
-}
-
-// A reason and how often it was met; nothing where it never was.
-fn count(out: &mut [u8], at: usize, first: usize, reason: u64, n: u64) -> usize
-    requires { ⌜ at ≤ length (now out) ⌝ }
-    ensures { λ r. ⌜ r ≤ length (now (out .entry)) ⌝ }
-{
-    if n == 0 {
-        return at;
+    let mut next = at;
+    let mut k = 0;
+    while k < REASONS {
+        k += 1;
+        let mask = having(reasons, ports, k % REASONS);
+        next = one(out, next, at, b"%p0: %r1", mask, k % REASONS);
     }
-    let next = part(out, at, first);
-    let next = words::reason(out, next, reason);
-    print::count(out, next, b" ", n)
+    next
 }
 
-// Each reason that was met at a port, by its index from 0.
+// Each reason that was met at a port, by its index from 0, and how often.
 fn counted(counts: &[u64], out: &mut [u8], first: usize, index: usize) -> usize
     requires { ⌜ (first ≤ length (now out)) × (index < 8) ⌝ }
     ensures { λ r. ⌜ r ≤ length (now (out .entry)) ⌝ }
@@ -103,7 +80,7 @@ fn counted(counts: &[u64], out: &mut [u8], first: usize, index: usize) -> usize
     while k < REASONS {
         k += 1;
         let n = tally::met(counts, index, k % REASONS);
-        next = count(out, next, first, k % REASONS, n);
+        next = one(out, next, first, b"%r1 %d0", n, k % REASONS);
     }
     next
 }

@@ -1,23 +1,26 @@
 // The summary of a script: the calls of each kind, what came of them, and what became of frames at each port.
+use crate::form;
 use crate::output;
 use crate::reasons;
 use crate::tally;
-use crate::words;
-use line_parts::print;
 use std::num::wrapping_add_u64;
 use std::num::wrapping_sub_u64;
 ghost use Prim.Native.Nat.{_≤_, _<_};
 ghost use lib.ListN.{length};
 
-// One number, its words and how many calls it refused, as a line; nothing where it refused none.
+// A line by a form.
+fn line(counts: &mut [u64], out: &mut [u8], form: &[u8], told: &[u64]) {
+    let at = form::fill(out, 0, form, told);
+    output::finish(counts, out, at);
+}
+
+// A number, its words and how many calls it refused; nothing where it refused none.
 fn refusal(counts: &mut [u64], out: &mut [u8], number: usize, n: u64) {
     if n == 0 {
         return;
     }
-    let at = print::text(out, 0, b"    ");
-    let at = words::number(out, at, number as u64);
-    let at = print::count(out, at, b": ", n);
-    output::finish(counts, out, at);
+    let told = [number as u64, n];
+    line(counts, out, b"    %d0 %n0: %d1", &told);
 }
 
 // A line for each number that refused calls of a kind, rising.
@@ -32,66 +35,31 @@ fn by_number(counts: &mut [u64], out: &mut [u8], kind: usize)
     }
 }
 
-// How many calls of a kind were refused, the line's end, and a line for each number.
-fn refusals(counts: &mut [u64], out: &mut [u8], at: usize, kind: usize)
-    requires { ⌜ (at ≤ length (now out)) × (kind < 1000) ⌝ }
-{
-    let n = tally::sum(counts, kind, 1);
-    let end = print::count(out, at, b", refused ", n);
-    output::finish(counts, out, end);
-    by_number(counts, out, kind);
-}
-
-// A word, the calls of a kind, another word, and how many of them.
-fn head(out: &mut [u8], word: &[u8], calls: u64, what: &[u8], n: u64) -> usize
-    ensures { λ r. ⌜ r ≤ length (now (out .entry)) ⌝ }
-{
-    let next = print::count(out, 0, word, calls);
-    print::count(out, next, what, n)
-}
-
-// Power-ons, and lines that are no call.
-fn power_ons(counts: &mut [u64], out: &mut [u8]) {
-    let calls = tally::sum(counts, tally::POWER_ON, 0);
-    let others = tally::get(counts, tally::NO_CALL);
-    let at = head(
-        out,
-        b"power-on ",
-        calls,
-        b", lines that are no call ",
-        others,
-    );
-    output::finish(counts, out, at);
-    by_number(counts, out, tally::POWER_ON);
-}
-
-// Calls of a kind that were done or refused.
-fn done(counts: &mut [u64], out: &mut [u8], word: &[u8], what: &[u8], kind: usize)
+// What a line on the calls of a kind may tell: how many there were, were done and were refused; lines that are no call; frames consumed; takes that gave a frame,
+// and that found nothing waiting.
+fn told_of(counts: &[u64], kind: usize) -> [u64; 7]
     requires { ⌜ kind < 1000 ⌝ }
 {
-    let at = head(
-        out,
-        word,
+    let done = tally::get(counts, kind);
+    let given = tally::get(counts, tally::GIVEN);
+    [
         tally::sum(counts, kind, 0),
-        what,
-        tally::get(counts, kind),
-    );
-    refusals(counts, out, at, kind);
+        done,
+        tally::sum(counts, kind, 1),
+        tally::get(counts, tally::NO_CALL),
+        tally::get(counts, tally::CONSUMED),
+        given,
+        wrapping_sub_u64(done, given),
+    ]
 }
 
-// Start, Quiet, and how often the unit was read.
-fn claims(counts: &mut [u64], out: &mut [u8]) {
-    done(counts, out, b"Start ", b": done ", tally::START);
-    done(counts, out, b"Quiet ", b": done ", tally::QUIET);
-    done(counts, out, b"unit ", b": told ", tally::UNIT);
-}
-
-// Frames: how many the unit consumed.
-fn frames(counts: &mut [u64], out: &mut [u8]) {
-    let calls = tally::sum(counts, tally::FRAME, 0);
-    let consumed = tally::get(counts, tally::CONSUMED);
-    let at = head(out, b"frames ", calls, b": consumed ", consumed);
-    refusals(counts, out, at, tally::FRAME);
+// The calls of a kind: a line by a form, and one for each number that refused some.
+fn calls(counts: &mut [u64], out: &mut [u8], form: &[u8], kind: usize)
+    requires { ⌜ kind < 1000 ⌝ }
+{
+    let told = told_of(counts, kind);
+    line(counts, out, form, &told);
+    by_number(counts, out, kind);
 }
 
 // Frames that a pair stopped on the way to a port: as listed, 5, and as not listed, 6.
@@ -101,29 +69,23 @@ fn stopped(counts: &[u64], index: usize) -> u64
     wrapping_add_u64(tally::met(counts, index, 5), tally::met(counts, index, 6))
 }
 
-// What became of frames at a port, by its index from 0.
-fn fates(counts: &[u64], out: &mut [u8], index: usize) -> usize
-    requires { ⌜ index < 8 ⌝ }
-    ensures { λ r. ⌜ r ≤ length (now (out .entry)) ⌝ }
-{
-    let accepted = tally::get(counts, tally::ACCEPTED + index);
-    let at = head(out, b"  port ", index as u64 + 1, b": accepted ", accepted);
-    let at = print::count(out, at, b", stopped ", stopped(counts, index));
-    let at = print::count(out, at, b", lost ", tally::get(counts, tally::LOST + index));
-    print::count(
-        out,
-        at,
-        b", own lost ",
-        tally::get(counts, tally::OWN_LOST + index),
-    )
-}
-
-// That, and by which reasons.
+// What became of frames at a port, by its index from 0, and by which reasons.
 fn port(counts: &mut [u64], out: &mut [u8], index: usize)
     requires { ⌜ index < 8 ⌝ }
 {
-    let at = fates(counts, out, index);
-    output::finish(counts, out, at);
+    let told = [
+        index as u64 + 1,
+        tally::get(counts, tally::ACCEPTED + index),
+        stopped(counts, index),
+        tally::get(counts, tally::LOST + index),
+        tally::get(counts, tally::OWN_LOST + index),
+    ];
+    line(
+        counts,
+        out,
+        b"  port %d0: accepted %d1, stopped %d2, lost %d3, own lost %d4",
+        &told,
+    );
     reasons::write(counts, out, index);
 }
 
@@ -137,34 +99,61 @@ fn ports(counts: &mut [u64], out: &mut [u8]) {
     }
 }
 
-// Takes: how many gave a frame, and how many found nothing waiting.
-fn takes(counts: &mut [u64], out: &mut [u8]) {
-    let calls = tally::sum(counts, tally::TAKE, 0);
-    let given = tally::get(counts, tally::GIVEN);
-    let nothing = wrapping_sub_u64(tally::get(counts, tally::TAKE), given);
-    let at = head(out, b"takes ", calls, b": given ", given);
-    let at = print::count(out, at, b", nothing waiting ", nothing);
-    refusals(counts, out, at, tally::TAKE);
-}
-
 // Power-ons, Start, Quiet and the unit, after an empty line.
 fn beginnings(counts: &mut [u64], out: &mut [u8]) {
     output::finish(counts, out, 0);
-    power_ons(counts, out);
-    claims(counts, out);
+    calls(
+        counts,
+        out,
+        b"power-on %d0, lines that are no call %d3",
+        tally::POWER_ON,
+    );
+    calls(
+        counts,
+        out,
+        b"Start %d0: done %d1, refused %d2",
+        tally::START,
+    );
+    calls(
+        counts,
+        out,
+        b"Quiet %d0: done %d1, refused %d2",
+        tally::QUIET,
+    );
+    calls(counts, out, b"unit %d0: told %d1, refused %d2", tally::UNIT);
 }
 
-// Frames, what became of them at each port, takes, and how often a port's counts were read.
+// Frames, what became of them at each port, and takes.
 fn traffic(counts: &mut [u64], out: &mut [u8]) {
-    frames(counts, out);
+    calls(
+        counts,
+        out,
+        b"frames %d0: consumed %d4, refused %d2",
+        tally::FRAME,
+    );
     ports(counts, out);
-    takes(counts, out);
-    done(counts, out, b"counts ", b": told ", tally::COUNTS);
+    calls(
+        counts,
+        out,
+        b"takes %d0: given %d5, nothing waiting %d6, refused %d2",
+        tally::TAKE,
+    );
 }
 
 // The summary.
 pub fn write(counts: &mut [u64], out: &mut [u8]) {
     beginnings(counts, out);
     traffic(counts, out);
-    done(counts, out, b"messages ", b": answered ", tally::MESSAGE);
+    calls(
+        counts,
+        out,
+        b"counts %d0: told %d1, refused %d2",
+        tally::COUNTS,
+    );
+    calls(
+        counts,
+        out,
+        b"messages %d0: answered %d1, refused %d2",
+        tally::MESSAGE,
+    );
 }

@@ -1,4 +1,4 @@
-// What came of a script's calls, counted in words that the caller lends, for the summary.
+// What came of a script's calls, counted in the first words that the caller lends, for the summary.
 use std::num::wrapping_add_u64;
 ghost use Prim.Native.Nat.{_≤_, _<_};
 
@@ -46,8 +46,11 @@ pub const LAST: usize = ACCEPTED + 29;
 // The most ports that a unit had, 0 before the first power-on.
 pub const MOST_PORTS: usize = ACCEPTED + 30;
 
+// 1 where answers stand alone, without their calls.
+const PLAIN: usize = ACCEPTED + 31;
+
 // Sixteen words for each port, one for each number that a reason's four bits can have: frames that met it there.
-const MET: usize = ACCEPTED + 31;
+const MET: usize = ACCEPTED + 32;
 
 // How many words the counts take.
 pub const LENGTH: usize = MET + 128;
@@ -87,7 +90,7 @@ pub fn no_call(counts: &mut [u64]) {
 }
 
 // A unit of so many ports.
-pub fn unit(counts: &mut [u64], ports: u32) {
+pub fn unit(counts: &mut [u64], ports: usize) {
     if MOST_PORTS < counts.len() {
         if counts[MOST_PORTS] < ports as u64 {
             counts[MOST_PORTS] = ports as u64;
@@ -95,11 +98,11 @@ pub fn unit(counts: &mut [u64], ports: u32) {
     }
 }
 
-// One more at each port of a mask.
-pub fn ports(counts: &mut [u64], place: usize, mask: u32)
+// One more at each place, from one on, that a mask of eight bits has.
+pub fn mask(counts: &mut [u64], place: usize, bits: u64)
     requires { ⌜ place < 1000 ⌝ }
 {
-    let mut rest = mask;
+    let mut rest = bits;
     let mut i = 0;
     while i < 8 {
         if rest % 2 == 1 {
@@ -107,13 +110,6 @@ pub fn ports(counts: &mut [u64], place: usize, mask: u32)
         }
         rest /= 2;
         i += 1;
-    }
-}
-
-// Whether a frame was consumed.
-pub fn consumed(counts: &mut [u64], is_consumed: bool) {
-    if is_consumed {
-        count(counts, CONSUMED);
     }
 }
 
@@ -177,4 +173,15 @@ pub fn is_on(counts: &[u64]) -> bool {
 // Whether a read or a write failed; nothing is done after that.
 pub fn has_failed(counts: &[u64]) -> bool {
     0 < get(counts, FAILED)
+}
+
+// That answers stand alone, or beside their calls.
+pub fn keep_plain(counts: &mut [u64], is_plain: bool) {
+    if is_plain {
+        count(counts, PLAIN);
+    }
+}
+
+pub fn is_plain(counts: &[u64]) -> bool {
+    0 < get(counts, PLAIN)
 }

@@ -9,7 +9,7 @@ use native.Mathlib.Omega.{arith}
 use borrow.Author.Tests.{eq-eqb, ne-eqb}
 use lib.ListN.{length, getD, set, take, replicate}
 use lib.Seq.{getD-take}
-use Rattle.storage.proofs.Parts.{back, part-in, part-apart}
+use Rattle.storage.proofs.Parts.{back, part-in, part-apart, store-back}
 use Rattle.storage.proofs.Blocks.{blocks-apart, blocks-filled, part-filled}
 use Rattle.filter.specs.Filter.{filterOf, meant, clear}
 use Rattle.filter.specs.Filter.{blockSize as filterLength}
@@ -103,6 +103,31 @@ own-stored words u w full a p l m e ports =
       blocks-apart 0 5 words ys refl (omega arith) queueOf queueLength rowsFrom ports (inr (omega arith)),
       blocks-apart 0 5 words ys refl (omega arith) lossesOf counterLength (lossesFrom ports) (pairCount ports + 1) (inr (omega arith)),
       part-apart 0 5 words ys refl (omega arith) tableFrom tableLength (inr (omega arith)),
+    )
+
+-- the claim's word alone
+own-moved : (words : List ℕ) (claim : Claim) → 5 ≤ length words → unitOf (take 5 (set words 0 (claimWord claim))) ≡ moved (unitOf (take 5 words)) claim (unitOf (take 5 words) .address)
+unfolding unitOf portsOf
+own-moved [] claim h = absurd (omega arith)
+own-moved (x ∷ []) claim h = absurd (omega arith)
+own-moved (x ∷ y ∷ []) claim h = absurd (omega arith)
+own-moved (x ∷ y ∷ z ∷ []) claim h = absurd (omega arith)
+own-moved (x ∷ y ∷ z ∷ t ∷ []) claim h = absurd (omega arith)
+own-moved (x ∷ y ∷ z ∷ t ∷ u ∷ rest) claim h = rw (back-word claim)
+
+pub claim-stored : (words : List ℕ) (claim : Claim) (w : ℕ) → 5 ≤ length words → w ≡ claimWord claim → (ports : ℕ)
+    → modelOf ports (set words 0 w) ≡ withRest (modelOf ports words) (withOwn (modelOf ports words .rest) (moved (modelOf ports words .rest .own) claim (modelOf ports words .rest .own .address)))
+unfolding modelOf
+claim-stored words claim w full e ports =
+    let ys = claimWord claim ∷ [] in
+    rw (
+      e,
+      own-moved words claim full,
+      store-back 0 words (claimWord claim) (omega arith),
+      blocks-apart 0 1 words ys refl (omega arith) filterOf filterLength (pairsFrom ports) (pairCount ports) (inr (omega arith)),
+      blocks-apart 0 1 words ys refl (omega arith) queueOf queueLength rowsFrom ports (inr (omega arith)),
+      blocks-apart 0 1 words ys refl (omega arith) lossesOf counterLength (lossesFrom ports) (pairCount ports + 1) (inr (omega arith)),
+      part-apart 0 1 words ys refl (omega arith) tableFrom tableLength (inr (omega arith)),
     )
 
 -- ---- power-on: a record of zeros, with the fresh unit

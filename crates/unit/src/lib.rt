@@ -4,6 +4,7 @@ mod words;
 use queue::Frame;
 pub use words::ports_of;
 pub use words::read_unit;
+pub use words::store_claim;
 pub use words::store_unit;
 ghost use mathlib.Core.Path.{_≡_};
 ghost use Prim.Native.Nat.{_≤_};

@@ -6,6 +6,7 @@ ghost use Prim.Native.Nat.{ℕ, _≤_};
 ghost use lib.ListN.{length, replicate};
 ghost use Rattle.unit.specs.Count.{portsOf, Counting};
 ghost use Rattle.unit.specs.Model.{modelOf, ownLength, withOwn, withRest};
+ghost use Rattle.unit.specs.Own.{moved};
 
 // Every word 0.
 pub fn wipe(words: &mut [u64])
@@ -40,6 +41,14 @@ pub fn read_unit(words: &[u64]) -> Unit
         name: words[3],
         ports: Unit::count_of(words[4]),
     }
+}
+
+// The unit that the record holds is in another claim state.
+pub fn store_claim(words: &mut [u64], claim: Claim)
+    requires { ⌜ ownLength ≤ length (now words) ⌝ }
+    ensures { λ _. ⌜ ((ports : ℕ) → modelOf ports (now (words .exit)) ≡ withRest (modelOf ports (now (words .entry))) (withOwn (modelOf ports (now (words .entry)) .rest) (moved (modelOf ports (now (words .entry)) .rest .own) claim (modelOf ports (now (words .entry)) .rest .own .address)))) ⌝ }
+{
+    words[0] = claim.word();
 }
 
 // The record holds another unit.

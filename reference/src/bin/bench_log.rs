@@ -1,5 +1,5 @@
 //! bench_log run | from_candump | to_candump | map NAME=PORT,..: what the programs bench, from_candump (with --map) and to_candump are to print for standard input.
-//! bench_log log SEED RECORDS [bad] | text SEED LINES | bus SEED LINES: generated input for them.
+//! bench_log log SEED RECORDS [bad] | text SEED LINES | bus SEED LINES: generated input for them; frames SEED FRAMES: a log for `frame_parts_examples`.
 
 use std::io::{self, Read, Write};
 
@@ -35,7 +35,7 @@ fn number(argument: Option<&String>) -> u64 {
 }
 
 fn usage() -> ! {
-    eprintln!("usage: bench_log run | from_candump | to_candump | map NAME=PORT,.. | log SEED RECORDS [bad] | text SEED LINES | bus SEED LINES");
+    eprintln!("usage: bench_log run | from_candump | to_candump | map NAME=PORT,.. | log SEED RECORDS [bad] | frames SEED FRAMES | text SEED LINES | bus SEED LINES");
     std::process::exit(2);
 }
 
@@ -52,6 +52,9 @@ fn main() -> io::Result<()> {
         Some("log") => {
             let records = number(arguments.get(2)) as usize;
             io::stdout().write_all(&generate_log(number(arguments.get(1)), records, arguments.len() > 3))
+        }
+        Some("frames") => {
+            io::stdout().write_all(&generate_frames(number(arguments.get(1)), number(arguments.get(2)) as usize))
         }
         Some("text") => {
             io::stdout().write_all(&generate_text(number(arguments.get(1)), number(arguments.get(2)) as usize))

@@ -14,7 +14,7 @@ abbrev μ-loop : tie.MeasureT-loop
 μ-loop table₀ name keep dropped₀ address₀ table dropped address = places - address
 
 past-others-requires : tie.Need-past-others-requires Inv-loop μ-loop
-past-others-requires c κs = (c .before .before .pre, zero-le)
+past-others-requires c κs = (c .before .before .pre, omega arith, zero-le)
 
 loop-holds : tie.Need-loop-holds Inv-loop μ-loop
 loop-holds c = passed-skip (c .past-others .ensures) (passed-start (c .before .before .before .pre))
@@ -41,7 +41,7 @@ add-past-others : tie.Need-add-past-others Inv-loop μ-loop
 add-past-others c = omega arith
 
 past-others-requires-2 : tie.Need-past-others-requires-2 Inv-loop μ-loop
-past-others-requires-2 c κs = (stepped (c .before) .long, stepped (c .before) .within)
+past-others-requires-2 c κs = (stepped (c .before) .long, omega arith, stepped (c .before) .within)
 
 loop-less : tie.Need-loop-less Inv-loop μ-loop
 loop-less c = let far = c .past-others2 .ensures .onward in omega arith

@@ -1,4 +1,4 @@
--- `addresses::four_others` meets its contract: each of the four NAMEs was compared. Assumes nothing.
+-- `addresses::four_others` meets its contract: each of the four words was compared. Assumes nothing.
 use mathlib.Core.Bool.{false≢true}
 use native.Mathlib.Omega.{arith}
 use Rattle.addresses.proofs.Skipping.{four-read}
@@ -15,8 +15,8 @@ returns c = λ e. absurd (false≢true e)
 mul-at : tie.Need-mul-at
 mul-at c = search needs
 
-add-if2 : tie.Need-add-if2
-add-if2 c = search needs
+add-at : tie.Need-add-at
+add-at c = search needs
 
 mul-if2 : tie.Need-mul-if2
 mul-if2 c = search needs
@@ -64,7 +64,7 @@ returns-5 : tie.Need-returns-5
 returns-5 c = λ e. absurd (false≢true e)
 
 returns-6 : tie.Need-returns-6
-returns-6 c = λ _. four-read _ _ _ (search needs) (search needs) (search needs) (search needs) (search needs)
+returns-6 c = λ _. four-read _ _ _ _ (search needs) (search needs) (search needs) (search needs) (search needs)
 
 pub four-others-spec : {M : Type 1} → statement M
 four-others-spec =
@@ -73,7 +73,7 @@ four-others-spec =
     add-if1
     returns
     mul-at
-    add-if2
+    add-at
     mul-if2
     shared-slice-read-if2
     returns-2

@@ -3,7 +3,7 @@ use mathlib.Core.Logic.{⊎-elim}
 use Prim.Native.Nat.{_-_}
 use native.Mathlib.Omega.{arith}
 use Rattle.addresses.specs.Table.{places}
-use Rattle.addresses.proofs.Listing.{Written, written-start, written-not, written-except, written-one, written-done}
+use Rattle.addresses.proofs.Listing.{Written, written-start, written-not, written-except, written-one, written-others, written-done}
 use Rattle.addresses.proofs.list_on.Statement.{statement}
 use Rattle.addresses.proofs.list_on.Tie as tie
 
@@ -13,8 +13,11 @@ Inv-loop table port except out₀ n₀ address₀ out n address = Written table 
 abbrev μ-loop : tie.MeasureT-loop
 μ-loop table port except out₀ n₀ address₀ out n address = places - address
 
+past-others-requires : tie.Need-past-others-requires Inv-loop μ-loop
+past-others-requires c κs = omega arith
+
 loop-holds : tie.Need-loop-holds Inv-loop μ-loop
-loop-holds c = written-start
+loop-holds c = written-others (c .past-others .ensures) written-start
 
 is-held-on-requires : tie.Need-is-held-on-requires Inv-loop μ-loop
 is-held-on-requires c κs = omega arith
@@ -57,6 +60,7 @@ list-on-spec =
     (tie.spec
     Inv-loop
     μ-loop
+    past-others-requires
     loop-holds
     is-held-on-requires
     cast-out

@@ -8,16 +8,16 @@ use Rattle.addresses.proofs.past_others.Statement.{statement}
 use Rattle.addresses.proofs.past_others.Tie as tie
 
 abbrev Inv-loop : tie.InvT-loop
-Inv-loop table start name address₀ address = Skipping table start name address
+Inv-loop table word start value address₀ address = Skipping table word start value address
 
 abbrev μ-loop : tie.MeasureT-loop
-μ-loop table start name address₀ address = places - address
+μ-loop table word start value address₀ address = places - address
 
 loop-holds : tie.Need-loop-holds Inv-loop μ-loop
-loop-holds c = skip-none (c .before .pre .1)
+loop-holds c = skip-none (c .before .pre .2)
 
 four-others-requires : tie.Need-four-others-requires Inv-loop μ-loop
-four-others-requires c κs = (c .before .before .pre .0, c .loop .inv .within)
+four-others-requires c κs = (c .before .before .pre .0, c .before .before .pre .1, c .loop .inv .within)
 
 add-address : tie.Need-add-address Inv-loop μ-loop
 add-address c = let room = c .before .four-others .ensures (c .if1 .taken) .room in omega arith

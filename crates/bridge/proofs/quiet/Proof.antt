@@ -1,7 +1,6 @@
 -- `bridge::quiet` meets its contract, by the way that the code went. Assumes nothing.
 use mathlib.Core.Path.{sym, _∙_}
 use native.Mathlib.Omega.{arith}
-use Rattle.unit.proofs.Own.{moved-count}
 use Rattle.bridge.proofs.Answers.{quiet-short, quiet-wrong, quieted}
 use borrow.Author.Needs.{needs}
 use Rattle.bridge.proofs.quiet.Statement.{statement}
@@ -30,16 +29,8 @@ read-unit-requires c κs = search needs
 is-claiming-requires : tie.Need-is-claiming-requires
 is-claiming-requires c κs = search needs
 
-moved-requires : tie.Need-moved-requires
-moved-requires c κs = search needs
-
-store-unit-requires : tie.Need-store-unit-requires
-store-unit-requires c κs =
-    let at-moved = c .before in
-    let at-read = at-moved .before .before .before in
-    let start = c .before .before .before .before .before .before .before .before .before .before .before in
-    let m = moved-count 4 (start .args .words .now) (at-read .read-unit .ensures 4) (at-moved .moved .ensures) in
-    (omega arith, m .0, m .1)
+store-claim-requires : tie.Need-store-claim-requires
+store-claim-requires c κs = search needs
 
 same-length-2 : tie.Need-same-length-2
 same-length-2 c = search needs
@@ -47,17 +38,16 @@ same-length-2 c = search needs
 returns-2 : tie.Need-returns-2
 returns-2 c =
     let at-store = c .before .before in
-    let at-moved = at-store .before .before in
-    let at-claiming = at-moved .before .before in
+    let at-then = at-store .before .before in
+    let at-claiming = at-then .before in
     let at-read = at-claiming .before in
     let at-else = at-read .before .before in
     let at = at-else .before in
     rw (← (at .before .ports-of .ensures .count))
     (quieted (at-else .if1 .left ∙ at .record-length .ensures)
-    (rw (← (at-read .read-unit .ensures (at .before .ports-of .result))) (sym (at-claiming .is-claiming .ensures) ∙ at-moved .before .if2 .taken))
+    (rw (← (at-read .read-unit .ensures (at .before .ports-of .result))) (sym (at-claiming .is-claiming .ensures) ∙ at-then .if2 .taken))
     (omega arith)
-    (rw (← (at-read .read-unit .ensures (at .before .ports-of .result))) (at-moved .moved .ensures))
-    (at-store .store-unit .ensures _))
+    (at-store .store-claim .ensures _))
 
 same-length-3 : tie.Need-same-length-3
 same-length-3 c = search needs
@@ -82,8 +72,7 @@ quiet-spec =
     returns
     read-unit-requires
     is-claiming-requires
-    moved-requires
-    store-unit-requires
+    store-claim-requires
     same-length-2
     returns-2
     same-length-3

@@ -1,5 +1,8 @@
--- `bridge::unit` meets its contract, by what reading the unit ensures. Assumes nothing.
-use mathlib.Core.Path.{sym, _∙_}
+-- `bridge::unit` meets its contract, by what reading the unit ensures; its number of ports is the record's. Assumes nothing.
+use mathlib.Core.Path.{sym, ap, _∙_}
+use Rattle.unit.specs.declared.Unit.{Unit}
+use Rattle.unit.specs.Model.{modelOf}
+use Rattle.unit.proofs.Own.{own-ports}
 use Rattle.bridge.proofs.Answers.{unit-short, unit-read}
 use borrow.Author.Needs.{needs}
 use Rattle.bridge.proofs.unit.Statement.{statement}
@@ -26,7 +29,13 @@ returns-2 : tie.Need-returns-2
 returns-2 c =
     let at-else = c .before in
     let at = at-else .before in
-    rw (← (at .before .ports-of .ensures .count)) (unit-read (at-else .if1 .left ∙ at .record-length .ensures) (c .read-unit .ensures _))
+    let words = at .before .before .before .args .words .now in
+    let count = at .before .ports-of .ensures .count in
+    let own = modelOf (at .before .ports-of .result) words .rest .own in
+    rw (← count)
+    (unit-read (at-else .if1 .left ∙ at .record-length .ensures)
+    (rw (c .read-unit .ensures (at .before .ports-of .result))
+    (ap {B = Unit} (λ n. record { claim = own .claim; address = own .address; preferred = own .preferred; name = own .name; ports = n }) (count ∙ sym (own-ports (at .before .ports-of .result) words)))))
 
 pub unit-spec : {M : Type 1} → statement M
 unit-spec =

@@ -7,10 +7,10 @@ use Rattle.deorasaeng_examples.proofs.fill.Statement.{statement}
 use Rattle.deorasaeng_examples.proofs.fill.Tie as tie
 
 abbrev Inv-loop : tie.InvT-loop
-Inv-loop lent₀ i₀ lent i = (i ≤ 32) × (length lent ≡ length lent₀)
+Inv-loop lent₀ answer₀ i₀ lent answer i = (i ≤ 32) × (length lent ≡ length lent₀) × (length answer ≡ length answer₀)
 
 abbrev μ-loop : tie.MeasureT-loop
-μ-loop lent₀ i₀ lent i = 32 - i
+μ-loop lent₀ answer₀ i₀ lent answer i = 32 - i
 
 loop-holds : tie.Need-loop-holds Inv-loop μ-loop
 loop-holds c = search needs
@@ -30,6 +30,9 @@ loop-again c = search needs
 same-length : tie.Need-same-length Inv-loop μ-loop
 same-length c = search needs
 
+same-length-2 : tie.Need-same-length-2 Inv-loop μ-loop
+same-length-2 c = search needs
+
 returns : tie.Need-returns Inv-loop μ-loop
 returns c = search needs
 
@@ -45,4 +48,5 @@ fill-spec =
     loop-less
     loop-again
     same-length
+    same-length-2
     returns)

@@ -2,23 +2,32 @@
 use mathlib.Core.Path.{_≡_}
 use Prim.Native.Nat.{_≤_, _-_}
 use native.Mathlib.Omega.{arith}
+use borrow.Author.Tests.{not-true, not-false}
 use Rattle.entries.specs.Entries.{entriesOf}
-use Rattle.filter_commands.specs.Pairs.{changeOf}
-use Rattle.list_commands.proofs.PairLoop.{Walking, walk-start, walk-more, walk-done}
+use Rattle.list_commands.proofs.Allowing.{Going, go-start, go-more, go-refused, go-done}
 use Rattle.list_commands.proofs.change_each.Statement.{statement}
 use Rattle.list_commands.proofs.change_each.Tie as tie
 
 abbrev Inv-loop : tie.InvT-loop
-Inv-loop words₀ ports first end change entries i₀ words i = (first ≤ i) × (i ≤ end) × Walking ports first end words₀ words (changeOf change (entriesOf entries)) i
+Inv-loop words₀ ports first end change entries i₀ words i = (first ≤ i) × (i ≤ end) × Going ports first end words₀ words change (entriesOf entries) i
 
 abbrev μ-loop : tie.MeasureT-loop
 μ-loop words₀ ports first end change entries i₀ words i = end - i
 
 loop-holds : tie.Need-loop-holds Inv-loop μ-loop
-loop-holds c = (omega arith, omega arith, walk-start (omega arith))
+loop-holds c = (omega arith, omega arith, go-start (omega arith))
 
 change-requires : tie.Need-change-requires Inv-loop μ-loop
 change-requires c κs = omega arith
+
+same-length : tie.Need-same-length Inv-loop μ-loop
+same-length c = omega arith
+
+returns : tie.Need-returns Inv-loop μ-loop
+returns c =
+    let at = c .before .before .before in
+    let at-loop = at .before .before .before in
+    go-refused (at-loop .loop .inv .2) (at-loop .loop .inv .0) (omega arith) (at .change .ensures) (not-true _ (c .if1 .taken))
 
 add-i : tie.Need-add-i Inv-loop μ-loop
 add-i c = omega arith
@@ -28,19 +37,18 @@ loop-less c = omega arith
 
 loop-again : tie.Need-loop-again Inv-loop μ-loop
 loop-again c =
-    let at = c .before .before in
+    let at = c .before .before .before in
     let at-loop = at .before .before .before in
-    (omega arith, omega arith, walk-more (at-loop .loop .inv .2) (at-loop .loop .inv .0) (omega arith) (omega arith) (at .change .ensures))
+    (omega arith, omega arith, go-more (at-loop .loop .inv .2) (at-loop .loop .inv .0) (omega arith) (at .change .ensures) (not-false _ (c .if1 .left)) (omega arith))
 
-same-length : tie.Need-same-length Inv-loop μ-loop
-same-length c = omega arith
+same-length-2 : tie.Need-same-length-2 Inv-loop μ-loop
+same-length-2 c = omega arith
 
-returns : tie.Need-returns Inv-loop μ-loop
-returns c =
+returns-2 : tie.Need-returns-2 Inv-loop μ-loop
+returns-2 c =
     let at-loop = c .before in
-    let args = at-loop .before .before .before .args in
-    let e : at-loop .loop .i ≡ args .end = omega arith in
-    walk-done (args .change) _ (rw e at (at-loop .loop .inv .2))
+    let e : at-loop .loop .i ≡ at-loop .before .before .before .args .end = omega arith in
+    go-done (rw e at (at-loop .loop .inv .2))
 
 pub change-each-spec : {M : Type 1} → statement M
 change-each-spec =
@@ -50,8 +58,10 @@ change-each-spec =
     μ-loop
     loop-holds
     change-requires
+    same-length
+    returns
     add-i
     loop-less
     loop-again
-    same-length
-    returns)
+    same-length-2
+    returns-2)

@@ -41,22 +41,19 @@ returns-4 c = let at = c .before in let first = at .before .before in λ from to
 enum-told-3 : tie.Need-enum-told-3
 enum-told-3 c = search needs
 
-enum-told-4 : tie.Need-enum-told-4
-enum-told-4 c = search needs
-
 any-requires-5 : tie.Need-any-requires-5
 any-requires-5 c κs = search needs
 
 returns-5 : tie.Need-returns-5
 unfolding listRefusal listChecks
-returns-5 c = λ from to N. rw (c .before .before .enum-told4 .given .1, ← (c .before .any5 .ensures from to N), c .if5 .taken)
+returns-5 c = λ from to N. rw (c .before .before .enum-told3 .given .1, ← (c .before .any5 .ensures from to N), c .if5 .taken)
 
 any-requires-6 : tie.Need-any-requires-6
 any-requires-6 c κs = search needs
 
 returns-6 : tie.Need-returns-6
 unfolding listRefusal listChecks
-returns-6 c = let at = c .before in let first = at .before .before in λ from to N. rw (first .before .enum-told4 .given .1, ← (first .any5 .ensures from to N), at .before .if5 .left, ← (at .any6 .ensures from to N), c .if6 .taken)
+returns-6 c = let at = c .before in let first = at .before .before in λ from to N. rw (first .before .enum-told3 .given .1, ← (first .any5 .ensures from to N), at .before .if5 .left, ← (at .any6 .ensures from to N), c .if6 .taken)
 
 returns-7 : tie.Need-returns-7
 unfolding listRefusal listChecks
@@ -68,11 +65,7 @@ returns-8 c = let at = c .before in let first = at .before .before in λ from to
 
 returns-9 : tie.Need-returns-9
 unfolding listRefusal listChecks
-returns-9 c = λ from to N. rw (c .enum-told3 .given .1)
-
-returns-10 : tie.Need-returns-10
-unfolding listRefusal listChecks
-returns-10 c = let at = c .before in let first = at .before .before in λ from to N. rw (first .before .enum-told4 .given .1, ← (first .any5 .ensures from to N), at .before .if5 .left, ← (at .any6 .ensures from to N), c .if6 .left)
+returns-9 c = let at = c .before in let first = at .before .before in λ from to N. rw (first .before .enum-told3 .given .1, ← (first .any5 .ensures from to N), at .before .if5 .left, ← (at .any6 .ensures from to N), c .if6 .left)
 
 pub refusal-spec : {M : Type 1} → statement M
 refusal-spec =
@@ -89,12 +82,10 @@ refusal-spec =
     any-requires-4
     returns-4
     enum-told-3
-    enum-told-4
     any-requires-5
     returns-5
     any-requires-6
     returns-6
     returns-7
     returns-8
-    returns-9
-    returns-10)
+    returns-9)

@@ -41,51 +41,31 @@ change-requires c κs =
 enum-known-command-4 : tie.Need-enum-known-command-4
 enum-known-command-4 c = search needs
 
-change-requires-2 : tie.Need-change-requires-2
-change-requires-2 c κs =
+clear-requires : tie.Need-clear-requires
+clear-requires c κs =
     let told = c .before .before .before in
     let pre = told .before .before .before .before .before .pre in
     let G = rw (told .command4 .given .1) at (pre .5) in
-    (pre .0, pre .1, pre .2, pre .3, G .0 .least, G .0 .most, G .1 .forward, G .1 .inside, pre .4)
+    (pre .0, pre .1, pre .2, pre .3, G .least, G .most, pre .4)
 
 enum-known-command-5 : tie.Need-enum-known-command-5
 enum-known-command-5 c = search needs
-
-change-requires-3 : tie.Need-change-requires-3
-change-requires-3 c κs =
-    let told = c .before .before .before in
-    let pre = told .before .before .before .before .before .pre in
-    let G = rw (told .command5 .given .1) at (pre .5) in
-    (pre .0, pre .1, pre .2, pre .3, G .least, G .most, omega arith, omega (arith, pre .4), pre .4)
-
-enum-known-command-6 : tie.Need-enum-known-command-6
-enum-known-command-6 c = search needs
-
-change-requires-4 : tie.Need-change-requires-4
-change-requires-4 c κs =
-    let told = c .before .before .before in
-    let pre = told .before .before .before .before .before .pre in
-    let G = rw (told .command6 .given .1) at (pre .5) in
-    (pre .0, pre .1, pre .2, pre .3, G .0 .least, G .0 .most, G .1 .forward, G .1 .inside, pre .4)
-
-enum-known-command-7 : tie.Need-enum-known-command-7
-enum-known-command-7 c = search needs
 
 report-addresses-requires : tie.Need-report-addresses-requires
 report-addresses-requires c κs =
     let told = c .before .before .before in
     let pre = told .before .before .before .before .before .pre in
-    let G = rw (told .command7 .given .1) at (pre .5) in
+    let G = rw (told .command5 .given .1) at (pre .5) in
     (omega (arith, pre .1), pre .2, omega (arith, G .1, pre .0))
 
-enum-known-command-8 : tie.Need-enum-known-command-8
-enum-known-command-8 c = search needs
+enum-known-command-6 : tie.Need-enum-known-command-6
+enum-known-command-6 c = search needs
 
 report-general-requires : tie.Need-report-general-requires
 report-general-requires c κs =
     let told = c .before .before .before in
     let pre = told .before .before .before .before .before .pre in
-    let G = rw (told .command8 .given .1) at (pre .5) in
+    let G = rw (told .command6 .given .1) at (pre .5) in
     (pre .6, pre .0, pre .1, pre .2, G)
 
 enum-told : tie.Need-enum-told
@@ -94,8 +74,8 @@ enum-told c = search needs
 reset-general-requires : tie.Need-reset-general-requires
 reset-general-requires c κs = search needs
 
-enum-known-command-9 : tie.Need-enum-known-command-9
-enum-known-command-9 c = search needs
+enum-known-command-7 : tie.Need-enum-known-command-7
+enum-known-command-7 c = search needs
 
 shared-slice-read-report-pair : tie.Need-shared-slice-read-report-pair
 shared-slice-read-report-pair c = search needs
@@ -104,17 +84,17 @@ report-pair-requires : tie.Need-report-pair-requires
 report-pair-requires c κs =
     let told = c .before .before .before .before in
     let pre = told .before .before .before .before .before .pre in
-    let G = rw (told .command9 .given .1) at (pre .5) in
+    let G = rw (told .command7 .given .1) at (pre .5) in
     (pre .0, pre .1, pre .2, G .0 .least, G .0 .most, one-port (pre .0) (G .0) (G .1), G .1, G .0 .apart, G .2)
 
-enum-known-command-10 : tie.Need-enum-known-command-10
-enum-known-command-10 c = search needs
+enum-known-command-8 : tie.Need-enum-known-command-8
+enum-known-command-8 c = search needs
 
 reset-pair-requires : tie.Need-reset-pair-requires
 reset-pair-requires c κs =
     let told = c .before .before .before in
     let pre = told .before .before .before .before .before .pre in
-    let G = rw (told .command10 .given .1) at (pre .5) in
+    let G = rw (told .command8 .given .1) at (pre .5) in
     (pre .0, pre .1, pre .2, pre .3, pre .4, G .0 .least, G .0 .most, one-port (pre .0) (G .0) (G .1), G .1, G .0 .apart)
 
 same-length : tie.Need-same-length
@@ -158,7 +138,7 @@ same-length-7 c = search needs
 
 returns-4 : tie.Need-returns-4
 unfolding performedBy
-returns-4 c = let at = c .before .before .before .before in rw (at .before .before .before .before .command4 .given .1) (at .change2 .ensures)
+returns-4 c = let at = c .before .before .before .before in rw (at .before .before .before .before .command4 .given .1) (at .clear .ensures)
 
 same-length-8 : tie.Need-same-length-8
 same-length-8 c = search needs
@@ -168,7 +148,7 @@ same-length-9 c = search needs
 
 returns-5 : tie.Need-returns-5
 unfolding performedBy
-returns-5 c = let at = c .before .before .before .before in rw (at .before .before .before .before .command5 .given .1) (at .change3 .ensures)
+returns-5 c = let at = c .before .before in rw (at .before .before .before .before .command5 .given .1) (reply-given _ (at .report-addresses .ensures _))
 
 same-length-10 : tie.Need-same-length-10
 same-length-10 c = search needs
@@ -178,7 +158,7 @@ same-length-11 c = search needs
 
 returns-6 : tie.Need-returns-6
 unfolding performedBy
-returns-6 c = let at = c .before .before .before .before in rw (at .before .before .before .before .command6 .given .1) (at .change4 .ensures)
+returns-6 c = let at = c .before .before in rw (at .before .before .before .before .command6 .given .1) (reply-given _ (at .report-general .ensures))
 
 same-length-12 : tie.Need-same-length-12
 same-length-12 c = search needs
@@ -188,7 +168,7 @@ same-length-13 c = search needs
 
 returns-7 : tie.Need-returns-7
 unfolding performedBy
-returns-7 c = let at = c .before .before in rw (at .before .before .before .before .command7 .given .1) (reply-given _ (at .report-addresses .ensures _))
+returns-7 c = let at = c .before .before .before .before in rw (at .before .before .before .enum-told .given .1) (at .reset-general .ensures)
 
 same-length-14 : tie.Need-same-length-14
 same-length-14 c = search needs
@@ -198,7 +178,7 @@ same-length-15 c = search needs
 
 returns-8 : tie.Need-returns-8
 unfolding performedBy
-returns-8 c = let at = c .before .before in rw (at .before .before .before .before .command8 .given .1) (reply-given _ (at .report-general .ensures))
+returns-8 c = let at = c .before .before in rw (at .before .before .before .before .before .command7 .given .1) (reply-given _ (at .report-pair .ensures))
 
 same-length-16 : tie.Need-same-length-16
 same-length-16 c = search needs
@@ -208,27 +188,7 @@ same-length-17 c = search needs
 
 returns-9 : tie.Need-returns-9
 unfolding performedBy
-returns-9 c = let at = c .before .before .before .before in rw (at .before .before .before .enum-told .given .1) (at .reset-general .ensures)
-
-same-length-18 : tie.Need-same-length-18
-same-length-18 c = search needs
-
-same-length-19 : tie.Need-same-length-19
-same-length-19 c = search needs
-
-returns-10 : tie.Need-returns-10
-unfolding performedBy
-returns-10 c = let at = c .before .before in rw (at .before .before .before .before .before .command9 .given .1) (reply-given _ (at .report-pair .ensures))
-
-same-length-20 : tie.Need-same-length-20
-same-length-20 c = search needs
-
-same-length-21 : tie.Need-same-length-21
-same-length-21 c = search needs
-
-returns-11 : tie.Need-returns-11
-unfolding performedBy
-returns-11 c = let at = c .before .before .before .before in rw (at .before .before .before .before .command10 .given .1) (at .reset-pair .ensures)
+returns-9 c = let at = c .before .before .before .before in rw (at .before .before .before .before .command8 .given .1) (at .reset-pair .ensures)
 
 pub perform-spec : {M : Type 1} → statement M
 perform-spec =
@@ -243,21 +203,17 @@ perform-spec =
     enum-known-command-3
     change-requires
     enum-known-command-4
-    change-requires-2
+    clear-requires
     enum-known-command-5
-    change-requires-3
-    enum-known-command-6
-    change-requires-4
-    enum-known-command-7
     report-addresses-requires
-    enum-known-command-8
+    enum-known-command-6
     report-general-requires
     enum-told
     reset-general-requires
-    enum-known-command-9
+    enum-known-command-7
     shared-slice-read-report-pair
     report-pair-requires
-    enum-known-command-10
+    enum-known-command-8
     reset-pair-requires
     same-length
     returns
@@ -284,10 +240,4 @@ perform-spec =
     returns-8
     same-length-16
     same-length-17
-    returns-9
-    same-length-18
-    same-length-19
-    returns-10
-    same-length-20
-    same-length-21
-    returns-11)
+    returns-9)

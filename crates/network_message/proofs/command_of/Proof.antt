@@ -5,17 +5,17 @@ use Rattle.network_message.specs.Decoding.{commandOf}
 use Rattle.network_message.proofs.command_of.Statement.{statement}
 use Rattle.network_message.proofs.command_of.Tie as tie
 
-entries-end-requires : tie.Need-entries-end-requires
-entries-end-requires c κs = search needs
+with-entries-requires : tie.Need-with-entries-requires
+with-entries-requires c κs = search needs
 
-entries-end-requires-2 : tie.Need-entries-end-requires-2
-entries-end-requires-2 c κs = search needs
+with-entries-requires-2 : tie.Need-with-entries-requires-2
+with-entries-requires-2 c κs = search needs
 
 shared-slice-read-t9 : tie.Need-shared-slice-read-t9
 shared-slice-read-t9 c = search needs
 
-entries-end-requires-3 : tie.Need-entries-end-requires-3
-entries-end-requires-3 c κs = search needs
+with-entries-requires-3 : tie.Need-with-entries-requires-3
+with-entries-requires-3 c κs = search needs
 
 parameter-of-requires : tie.Need-parameter-of-requires
 parameter-of-requires c κs = search needs
@@ -29,11 +29,11 @@ returns c = rw (c .match .keys1)
 
 returns-2 : tie.Need-returns-2
 unfolding commandOf
-returns-2 c = rw (c .before .match .keys2, c .entries-end .ensures)
+returns-2 c = rw (c .before .match .keys2) (rw (c .before .match .keys2) at (c .with-entries .ensures))
 
 returns-3 : tie.Need-returns-3
 unfolding commandOf
-returns-3 c = rw (c .before .match .keys3, c .entries-end2 .ensures)
+returns-3 c = rw (c .before .match .keys3) (rw (c .before .match .keys3) at (c .with-entries2 .ensures))
 
 returns-4 : tie.Need-returns-4
 unfolding commandOf
@@ -41,7 +41,7 @@ returns-4 c = rw (c .match .keys4)
 
 returns-5 : tie.Need-returns-5
 unfolding commandOf
-returns-5 c = rw (c .before .before .match .keys5, c .entries-end3 .ensures)
+returns-5 c = rw (c .before .before .match .keys5) (rw (c .before .before .match .keys5) at (c .with-entries3 .ensures))
 
 returns-6 : tie.Need-returns-6
 unfolding commandOf
@@ -79,10 +79,10 @@ pub command-of-spec : {M : Type 1} → statement M
 command-of-spec =
     tie.close
     (tie.spec
-    entries-end-requires
-    entries-end-requires-2
+    with-entries-requires
+    with-entries-requires-2
     shared-slice-read-t9
-    entries-end-requires-3
+    with-entries-requires-3
     parameter-of-requires
     parameter-of-requires-2
     returns

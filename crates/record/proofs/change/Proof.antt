@@ -2,7 +2,7 @@
 use native.Mathlib.Omega.{arith}
 use Rattle.storage.proofs.Parts.{range-size}
 use Rattle.filter.specs.Filter.{blockSize as filterLength}
-use Rattle.record.proofs.Regions.{pair-changed}
+use Rattle.record.proofs.Regions.{pair-judged}
 use borrow.Author.Needs.{needs}
 use Rattle.record.proofs.change.Statement.{statement}
 use Rattle.record.proofs.change.Tie as tie
@@ -37,7 +37,7 @@ returns c =
     let at-filter = at .before .before in
     let args = at-filter .before .before .before .args in
     rw (range-size (at-filter .filter-at .result) filterLength, at-filter .filter-at .ensures)
-    (pair-changed (args .ports) (args .words .now) (args .i) (search needs) (search needs) (at .apply .last .0) _ (omega arith)
+    (pair-judged (args .ports) (args .words .now) (args .i) (search needs) (search needs) (at .apply .last .0) _ _ (omega arith)
     (rw (range-size (at-filter .filter-at .result) filterLength, at-filter .filter-at .ensures) at (at .apply .ensures)))
 
 pub change-spec : {M : Type 1} → statement M

@@ -7,10 +7,10 @@ use Rattle.replay.proofs.feed_all.Statement.{statement}
 use Rattle.replay.proofs.feed_all.Tie as tie
 
 abbrev Inv-loop : tie.InvT-loop
-Inv-loop words₀ counts₀ line₀ len bytes is-plain next₀ i₀ words counts line next i = (next ≤ length line₀) × (length line ≡ length line₀) × (length words ≡ length words₀) × (length counts ≡ length counts₀)
+Inv-loop state₀ line₀ len bytes next₀ i₀ state line next i = (next ≤ length line₀) × (length line ≡ length line₀) × (length state ≡ length state₀)
 
 abbrev μ-loop : tie.MeasureT-loop
-μ-loop words₀ counts₀ line₀ len bytes is-plain next₀ i₀ words counts line next i = length bytes - i
+μ-loop state₀ line₀ len bytes next₀ i₀ state line next i = length bytes - i
 
 loop-holds : tie.Need-loop-holds Inv-loop μ-loop
 loop-holds c = search needs
@@ -36,9 +36,6 @@ same-length c = search needs
 same-length-2 : tie.Need-same-length-2 Inv-loop μ-loop
 same-length-2 c = search needs
 
-same-length-3 : tie.Need-same-length-3 Inv-loop μ-loop
-same-length-3 c = search needs
-
 returns : tie.Need-returns Inv-loop μ-loop
 returns c = search needs
 
@@ -56,5 +53,4 @@ feed-all-spec =
     loop-again
     same-length
     same-length-2
-    same-length-3
     returns)

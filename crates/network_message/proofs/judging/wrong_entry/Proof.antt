@@ -1,53 +1,37 @@
 -- `network_message::judging::wrong_entry` meets its contract: by the arm that the function takes. Assumes nothing.
-use mathlib.Core.Path.{sym}
-use borrow.Author.Tests.{ne-eqb}
+use mathlib.Core.Path.{_≡_}
+use mathlib.Core.Bool.{true}
+use mathlib.Core.Logic.{⊎-elim}
+use native.Mathlib.Omega.{arith}
 use borrow.Author.Needs.{needs}
 use Rattle.entries.specs.Entries.{listed}
-use Rattle.network_message.specs.Decoding.{wrongEntry}
+use Rattle.network_message.specs.Decoding.{hasEntries, wrongEntry}
+use Rattle.network_message.proofs.Keys.{entries-none, some-entries}
 use Rattle.network_message.proofs.judging.wrong_entry.Statement.{statement}
 use Rattle.network_message.proofs.judging.wrong_entry.Tie as tie
+
+entries-start-requires : tie.Need-entries-start-requires
+entries-start-requires c κs = search needs
 
 wrong-in-requires : tie.Need-wrong-in-requires
 wrong-in-requires c κs = search needs
 
-wrong-in-requires-2 : tie.Need-wrong-in-requires-2
-wrong-in-requires-2 c κs = search needs
-
-wrong-in-requires-3 : tie.Need-wrong-in-requires-3
-wrong-in-requires-3 c κs = search needs
-
 returns : tie.Need-returns
-unfolding wrongEntry listed
-returns c =
-    let at = c .before in
-    simp (at .match .keys1) (c .wrong-in .ensures)
+unfolding wrongEntry
+returns c = rw (entries-none (c .before .match .rest .1) (λ h _. omega (arith, c .if1 .taken)))
 
 returns-2 : tie.Need-returns-2
-unfolding wrongEntry listed
-returns-2 c =
-    let at = c .before in
-    simp (at .match .keys2) (c .wrong-in2 .ensures)
+unfolding wrongEntry
+returns-2 c = rw (entries-none (c .before .before .match .rest .1) (λ _ h. omega (arith, c .if2 .left)))
 
 returns-3 : tie.Need-returns-3
 unfolding wrongEntry listed
 returns-3 c =
     let at = c .before in
-    simp (at .match .keys3) (c .wrong-in3 .ensures)
-
-returns-4 : tie.Need-returns-4
-unfolding wrongEntry listed
-returns-4 c =
-    let rest = c .match .rest in
-    simp (ne-eqb _ _ (λ e. rest .0 .0 .1 (sym e)), ne-eqb _ _ (λ e. rest .0 .1 (sym e)), ne-eqb _ _ (λ e. rest .1 (sym e)))
+    let function = at .before .before .before .args .function in
+    let some : hasEntries function ≡ true = ⊎-elim (λ k. rw (k .keys1)) (λ k. some-entries function (k .1 .left) (k .2 .taken)) (at .before .match .came) in
+    rw (some, ← (at .entries-start .ensures .0)) (c .wrong-in .ensures)
 
 pub wrong-entry-spec : {M : Type 1} → statement M
 wrong-entry-spec =
-    tie.close
-    (tie.spec
-    wrong-in-requires
-    wrong-in-requires-2
-    wrong-in-requires-3
-    returns
-    returns-2
-    returns-3
-    returns-4)
+    tie.close (tie.spec entries-start-requires wrong-in-requires returns returns-2 returns-3)

@@ -7,10 +7,10 @@ use Rattle.script_output.proofs.reasons.counted.Statement.{statement}
 use Rattle.script_output.proofs.reasons.counted.Tie as tie
 
 abbrev Inv-loop : tie.InvT-loop
-Inv-loop counts out₀ first index next₀ k₀ out next k = (next ≤ length out₀) × (length out ≡ length out₀) × (k ≤ 7)
+Inv-loop counts out₀ first index next₀ k₀ t8 out next k = (next ≤ length out₀) × (length out ≡ length out₀) × (k ≤ 7)
 
 abbrev μ-loop : tie.MeasureT-loop
-μ-loop counts out₀ first index next₀ k₀ out next k = 7 - k
+μ-loop counts out₀ first index next₀ k₀ t8 out next k = 7 - k
 
 loop-holds : tie.Need-loop-holds Inv-loop μ-loop
 loop-holds c = search needs
@@ -21,8 +21,11 @@ add-k c = search needs
 met-requires : tie.Need-met-requires Inv-loop μ-loop
 met-requires c κs = search needs
 
-count-requires : tie.Need-count-requires Inv-loop μ-loop
-count-requires c κs = search needs
+slice-aggregate-one : tie.Need-slice-aggregate-one Inv-loop μ-loop
+slice-aggregate-one c = search needs
+
+one-requires : tie.Need-one-requires Inv-loop μ-loop
+one-requires c κs = search needs
 
 loop-less : tie.Need-loop-less Inv-loop μ-loop
 loop-less c = search needs
@@ -45,7 +48,8 @@ counted-spec =
     loop-holds
     add-k
     met-requires
-    count-requires
+    slice-aggregate-one
+    one-requires
     loop-less
     loop-again
     same-length
