@@ -164,10 +164,10 @@ pub extern "C" fn deorasaeng_quiet(words: &mut [u64]) -> u32
 pub extern "C" fn deorasaeng_unit(words: &[u64], answer: &mut [u64]) -> u32
     ensures { λ r. ⌜ UnitCall (portsOf (now (words .entry))) (now (words .entry)) (now (answer .entry)) (now (answer .exit)) r ⌝ }
 {
+    let told = bridge::unit(words);
     if answer.len() != UNIT_WORDS {
         return 2;
     }
-    let told = bridge::unit(words);
     match told {
         UnitAnswer::Refused(number) => number,
         UnitAnswer::Told(unit) => flat_answers::tell_unit(answer, unit),

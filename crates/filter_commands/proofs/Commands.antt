@@ -7,7 +7,7 @@ use native.Mathlib.Decide.{decLt}
 use native.Mathlib.Omega.{arith}
 use borrow.Author.Tests.{eqb-false, ltb-false, lt-ltb, le-ltb}
 use lib.Dec.{ltb}
-use lib.ListN.{length, getD, set, take, drop, length-set}
+use lib.ListN.{length, getD, set, take, drop, length-set, take-append-drop}
 use lib.Seq.{length-take-le, take-at}
 use Rattle.storage.proofs.Parts.{back, length-back}
 use Rattle.filter.specs.Filter.{modePlace, countPlace, listPlace, listOf, blockSize, Filter, meant, filterOf, Counting, isCleared}
@@ -88,6 +88,14 @@ module _ {words xs : List ℕ} {n held : ℕ} (long : length words ≡ blockSize
       let few = few-entries (listOf words) xs n (omega (arith, list-long words long)) l small in
       let s : held ≤ listSize = omega (arith, E .number, ltb-false listSize (length (addAll (take n (listOf words)) xs)) few) in
       record { done = rw few; grown = λ _. part-relisted ys held long h (E .entries s); refused = λ f. absurd (true≢false f) }
+
+  -- a list that was not changed, lent as a part that came back
+  pub grow-not : {ys : List ℕ} → ys ≡ listOf words → Extending (listOf words) ys n xs held → listSize < held → Growing words (back listPlace listSize words ys) n xs false
+  grow-not {ys} same E h = record {
+    done = rw (counted E, lt-ltb listSize held h);
+    grown = λ f. absurd (false≢true f);
+    refused = λ _. rw same (rw (take-append-drop listSize (drop listPlace words)) (take-append-drop listPlace words));
+  }
 
   module _ {list exit : List ℕ} (copy : list ≡ listOf words) (E : Extending list exit n xs held) where
     pub grow-over : listSize < held → Growing words words n xs false

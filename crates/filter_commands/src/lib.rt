@@ -89,6 +89,19 @@ fn grow(block: &mut [u64], n: usize, bytes: &[u8]) -> bool
     true
 }
 
+// `grow` with a single entry, which is handed over as a number: the way to a call with a slice takes longer than this.
+fn grow_by_one(block: &mut [u64], n: usize, x: u64) -> bool
+    requires { ⌜ (length (now block) ≡ blockSize) × (n ≤ listSize) ⌝ }
+    ensures { λ r. ⌜ Growing (now (block .entry)) (now (block .exit)) n (x ∷ []) r ⌝ }
+{
+    let held = pgn_list::extend_by_one(&mut block[LIST..LIST_END], n, x);
+    if LIST_SIZE < held {
+        return false;
+    }
+    block[COUNT] = held as u64;
+    true
+}
+
 // Add: the entries join the list's end, a listed one stays where it is. Tells whether it was done.
 pub fn add(block: &mut [u64], bytes: &[u8]) -> bool
     requires { ⌜ length (now block) ≡ blockSize ⌝ }
@@ -98,6 +111,9 @@ pub fn add(block: &mut [u64], bytes: &[u8]) -> bool
         return false;
     }
     let n = filter::count(block);
+    if entries::count(bytes) == 1 {
+        return grow_by_one(block, n, entries::entry_at(bytes, 0));
+    }
     grow(block, n, bytes)
 }
 
@@ -135,6 +151,17 @@ pub fn delete(block: &mut [u64], bytes: &[u8]) -> bool
     true
 }
 
+// The entries become a block's list. Tells whether it was done: not where they are more than LIST_SIZE.
+fn begin(block: &mut [u64], bytes: &[u8]) -> bool
+    requires { ⌜ length (now block) ≡ blockSize ⌝ }
+    ensures { λ r. ⌜ Growing (now (block .entry)) (now (block .exit)) 0 (entriesOf (now (bytes .entry))) r ⌝ }
+{
+    if entries::count(bytes) == 1 {
+        return grow_by_one(block, 0, entries::entry_at(bytes, 0));
+    }
+    grow(block, 0, bytes)
+}
+
 // Create: a cleared pair gets a mode and a list. Tells whether it was done.
 pub fn create(block: &mut [u64], pass: bool, bytes: &[u8]) -> bool
     requires { ⌜ length (now block) ≡ blockSize ⌝ }
@@ -143,7 +170,7 @@ pub fn create(block: &mut [u64], pass: bool, bytes: &[u8]) -> bool
     if !filter::is_cleared(block) {
         return false;
     }
-    if !grow(block, 0, bytes) {
+    if !begin(block, bytes) {
         return false;
     }
     if pass {

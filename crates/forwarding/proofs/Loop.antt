@@ -3,7 +3,7 @@ use mathlib.Core.Path.{_≡_, refl, sym, ap, _∙_}
 use mathlib.Core.Bool.{Bool, true, false, true≢false, cond}
 use mathlib.Core.List.{List, [], _∷_}
 use Prim.Native.Nat.{ℕ, _+_, _*_, _/_, _%_, _^_, _≤_, _<_}
-use native.Mathlib.Nat.{add-zero, pow-suc, pow-succ', pow-le-pow-right, div-one, div-div-eq-div-mul}
+use native.Mathlib.Nat.{add-zero, mul-zero, pow-suc, pow-succ', pow-le-pow-right, div-one, div-div-eq-div-mul}
 use native.Mathlib.Numerals.{add-one}
 use native.Mathlib.Omega.{arith}
 use borrow.Author.Tests.{eq-eqb, ne-eqb}
@@ -16,13 +16,16 @@ use Rattle.pgn_list.specs.PgnList.{listSize}
 use Rattle.queue.specs.declared.Frame.{Frame}
 use Rattle.queue.specs.Queue.{Queued, sentAll, idle}
 use Rattle.unit.specs.declared.Sent.the-variants.{One}
+use Rattle.forwarding.specs.declared.Came.{Came}
+use Rattle.forwarding.specs.declared.Offered.{Offered}
 use Rattle.forwarding.specs.declared.Share.{Share}
 use Rattle.unit.specs.Ports.{each, inTurn, mask, bitAt, digits, total}
 use Rattle.unit.specs.Model.{Rest, Model, modelOf, queueOn, rowAt, withQueue, withQueues, withLosses, recordLength}
 use Rattle.forwarding.specs.Forwarding.{silent, sentIf, accepts, loses, losesOwn, lostFrom, lostOwn}
-use Rattle.forwarding.specs.Steps.{changedTo, share, forwardedTo, sharesTo, Losing, LosingAll, Sending, Offering, Forwarding, announcedTo, unsentTo, OwnJoining, Announcing}
+use Rattle.forwarding.specs.Steps.{changedTo, cameOf, forwardedTo, sharesTo, Losing, LosingAll, Sending, Offering, Forwarding, announcedTo, unsentTo, OwnJoining, Announcing}
 use Rattle.unit.proofs.Ports.{each-later, each-step, turn-step, turn-same, turn-none, mask-bit, mask-step, digits-step, digits-small, total-step, mask-small, choice-small, each-none, mask-none}
 use Rattle.record.proofs.Regions.{queues-long}
+use Rattle.forwarding.proofs.Sends.{joins, misses, joins-is, misses-is}
 use Rattle.unit.specs.declared.Sent.{Sent}
 
 -- ---- any loop over the ports
@@ -80,8 +83,8 @@ pub record Going (ports : ℕ) (start : List ℕ) (question : ℕ → Asked) (f 
   pub small : compared ≤ listSize * n
 
 -- forwarding changes queues alone, so what is asked of the rest is answered as it was at the start
-pub asked-still : {ports : ℕ} (question : Rest → ℕ → Asked) {start words after : List ℕ} {f : Frame} {accepted lost reasons compared bit weight n : ℕ} {r : Share} → Going ports start (question (modelOf ports start .rest)) f words accepted lost reasons compared bit weight n
-    → Sending ports words after (question (modelOf ports words .rest) n) n bit weight f r → Sending ports words after (question (modelOf ports start .rest) n) n bit weight f r
+pub asked-still : {ports : ℕ} (question : Rest → ℕ → Asked) {start words after : List ℕ} {f : Frame} {accepted lost reasons compared bit weight n : ℕ} {r : Offered} → Going ports start (question (modelOf ports start .rest)) f words accepted lost reasons compared bit weight n
+    → Sending ports words after (question (modelOf ports words .rest) n) n f r → Sending ports words after (question (modelOf ports start .rest) n) n f r
 asked-still question G S = rw (rest-still (G .along)) at S
 
 module _ {ports : ℕ} {start : List ℕ} {question : ℕ → Asked} {f : Frame} where
@@ -93,11 +96,20 @@ module _ {ports : ℕ} {start : List ℕ} {question : ℕ → Asked} {f : Frame}
       → Offering ports start words question f (record { accepted = accepted; lost = lost; reasons = reasons; compared = compared })
   going-done e G = record { answer = rw e at (G .answer); state = (rw e at (G .along .state)) ∙ ap (withLosses (withQueues (modelOf ports start) (each (λ q x. sentAll x (sentIf (question q) f)) ports (modelOf ports start .queues)))) (turn-none (λ q l. l) ports (modelOf ports start .seen .losses)) }
 
-  module _ {words after : List ℕ} {accepted lost reasons compared bit weight n : ℕ} {r : Share} (G : Going ports start question f words accepted lost reasons compared bit weight n) (S : Sending ports words after (question n) n bit weight f r) (more : n < ports) where
-    share-is : r ≡ share (2 ^ n) (16 ^ n) (question n) (rowAt (modelOf ports start) n)
-    share-is = rw (row-still (G .along), G .along .weight, G .place) at (S .answer)
+  module _ {words after : List ℕ} {accepted lost reasons compared bit weight n : ℕ} {r : Offered} (G : Going ports start question f words accepted lost reasons compared bit weight n) (S : Sending ports words after (question n) n f r) (more : n < ports) where
+    offered-is : r ≡ record { came = cameOf (question n) (rowAt (modelOf ports start) n); reason = reasonNumber (question n .reason); compared = question n .compared }
+    offered-is = rw (row-still (G .along)) at (S .answer)
 
-    pub going-more : length after ≡ recordLength ports → Going ports start question f after (accepted + r .accepted) (lost + r .lost) (reasons + r .reasons) (compared + r .compared) (2 * bit) (16 * weight) (n + 1)
+    joined-is : joins (r .came) ≡ accepts (question n) (rowAt (modelOf ports start) n)
+    joined-is = rw offered-is (joins-is (question n) (rowAt (modelOf ports start) n))
+
+    missed-is : misses (r .came) ≡ loses (question n) (rowAt (modelOf ports start) n)
+    missed-is = rw offered-is (misses-is (question n) (rowAt (modelOf ports start) n))
+
+    reason-is : r .reason ≡ reasonNumber (question n .reason)
+    reason-is = ap (λ (x : Offered). x .reason) offered-is
+
+    going-more : length after ≡ recordLength ports → Going ports start question f after (accepted + cond (joins (r .came)) bit 0) (lost + cond (misses (r .came)) bit 0) (reasons + weight * r .reason) (compared + r .compared) (2 * bit) (16 * weight) (n + 1)
     unfolding sharesTo
     going-more h = record {
       along = along-more (G .along) more h (S .state);
@@ -107,42 +119,51 @@ module _ {ports : ℕ} {start : List ℕ} {question : ℕ → Asked} {f : Frame}
           let l : lost ≡ _ = ap (λ (x : Share). x .lost) (G .answer) in
           let w : reasons ≡ _ = ap (λ (x : Share). x .reasons) (G .answer) in
           let d : compared ≡ _ = ap (λ (x : Share). x .compared) (G .answer) in
-          rw (a, l, w, d, share-is, mask-step, mask-step, digits-step, total-step);
+          let e : r .compared ≡ question n .compared = ap (λ (x : Offered). x .compared) offered-is in
+          rw (a, l, w, d, joined-is, missed-is, reason-is, e, G .along .weight, G .place, mask-step, mask-step, digits-step, total-step);
       small = omega (arith, S .small, G .small);
     }
 
+    -- by what became of the frame
+    pub going-stopped : r .came ≡ Came.Stopped → length after ≡ recordLength ports → Going ports start question f after accepted lost (reasons + weight * r .reason) (compared + r .compared) (2 * bit) (16 * weight) (n + 1)
+    going-stopped e h = rw (add-zero accepted, add-zero lost) at (rw e at (going-more h))
+
+    pub going-joined : r .came ≡ Came.Joined → length after ≡ recordLength ports → Going ports start question f after (accepted + bit) lost (reasons + weight * r .reason) (compared + r .compared) (2 * bit) (16 * weight) (n + 1)
+    going-joined e h = rw (add-zero lost) at (rw e at (going-more h))
+
+    pub going-lost : r .came ≡ Came.Lost → length after ≡ recordLength ports → Going ports start question f after accepted (lost + bit) (reasons + weight * r .reason) (compared + r .compared) (2 * bit) (16 * weight) (n + 1)
+    going-lost e h = rw (add-zero accepted) at (rw e at (going-more h))
+
     -- no sum overflows
-    pub sums : (accepted + r .accepted < 256) × (lost + r .lost < 256) × (compared + r .compared < 288) × (reasons + r .reasons < 2 ^ 36)
+    pub reasons-small : reasons + weight * r .reason < 2 ^ 36
     unfolding sharesTo
-    sums =
-        let row = rowAt (modelOf ports words) n in (
-          mask-sum (G .along) (λ q. accepts (question q) (rowAt (modelOf ports start) q)) more
-              (ap (λ (x : Share). x .accepted) (G .answer)) (rw (S .answer) (choice-small (accepts (question n) row) bit)),
-          mask-sum (G .along) (λ q. loses (question q) (rowAt (modelOf ports start) q)) more
-              (ap (λ (x : Share). x .lost) (G .answer)) (rw (S .answer) (choice-small (loses (question n) row) bit)),
-          omega (arith, S .small, G .small, G .along .few),
-          told-below,
-        )
+    reasons-small = rw told-sum (omega (arith, digits-small told (λ q. reason-below (question q .reason)) (n + 1), pow-le-pow-right {n = 16} (omega arith) {i = n + 1} {j = 8} (omega (arith, G .along .few))))
       where
         told : ℕ → ℕ
         told q = reasonNumber (question q .reason)
 
-        told-sum : reasons + r .reasons ≡ digits told (n + 1)
+        told-sum : reasons + weight * r .reason ≡ digits told (n + 1)
         told-sum =
             let w : reasons ≡ digits told n = ap (λ (x : Share). x .reasons) (G .answer) in
-            rw (w, share-is, digits-step)
+            rw (w, reason-is, G .place, digits-step)
 
-        told-below : reasons + r .reasons < 2 ^ 36
-        told-below = rw told-sum (omega (arith, digits-small told (λ q. reason-below (question q .reason)) (n + 1), pow-le-pow-right {n = 16} (omega arith) {i = n + 1} {j = 8} (omega (arith, G .along .few))))
+    pub compared-small : compared + r .compared < 288
+    compared-small = omega (arith, S .small, G .small, G .along .few)
 
-  pub weight-small : {words : List ℕ} {accepted lost reasons compared bit weight n : ℕ} → Going ports start question f words accepted lost reasons compared bit weight n → n < ports → weight ≤ 2 ^ 28
-  weight-small {n = n} G more = rw (G .place) (pow-le-pow-right {n = 16} (omega arith) {i = n} {j = 7} (omega (arith, G .along .few)))
+  module _ {words : List ℕ} {accepted lost reasons compared bit weight n : ℕ} (G : Going ports start question f words accepted lost reasons compared bit weight n) (more : n < ports) where
+    pub weight-small : weight ≤ 2 ^ 28
+    weight-small = rw (G .place) (pow-le-pow-right {n = 16} (omega arith) {i = n} {j = 7} (omega (arith, G .along .few)))
 
-  -- where nothing is asked, nothing is added
-  pub going-self : {words : List ℕ} {accepted lost reasons compared bit weight n : ℕ} → Going ports start question f words accepted lost reasons compared bit weight n → n < ports
-      → Sending ports words words (question n) n bit weight f (record { accepted = 0; lost = 0; reasons = 0; compared = 0 }) → Going ports start question f words accepted lost reasons compared (2 * bit) (16 * weight) (n + 1)
-  going-self {accepted = accepted} {lost = lost} {reasons = reasons} {compared = compared} G more S =
-      rw (add-zero accepted, add-zero lost, add-zero reasons, add-zero compared) at (going-more G S more (G .along .whole))
+    pub sets-small : (accepted + bit < 256) × (lost + bit < 256)
+    unfolding sharesTo
+    sets-small = (
+      mask-sum (G .along) (λ q. accepts (question q) (rowAt (modelOf ports start) q)) more (ap (λ (x : Share). x .accepted) (G .answer)) (omega arith),
+      mask-sum (G .along) (λ q. loses (question q) (rowAt (modelOf ports start) q)) more (ap (λ (x : Share). x .lost) (G .answer)) (omega arith),
+    )
+
+    -- where nothing is asked, nothing is added
+    pub going-self : Sending ports words words (question n) n f (record { came = Came.Stopped; reason = 0; compared = 0 }) → Going ports start question f words accepted lost reasons compared (2 * bit) (16 * weight) (n + 1)
+    going-self S = rw (mul-zero weight, add-zero reasons, add-zero compared) at (going-stopped G S more refl (G .along .whole))
 
 -- ---- the unit's own frame
 pub record Telling (ports : ℕ) (start : List ℕ) (f : Frame) (words : List ℕ) (lost bit n : ℕ) : Type 0 where

@@ -1,10 +1,10 @@
 -- A frame at one port, by the way that the code went. Assumes nothing.
 use mathlib.Core.Path.{_≡_, refl, sym, ap, _∙_}
-use mathlib.Core.Bool.{Bool, true, false, not, cond}
+use mathlib.Core.Bool.{Bool, true, false, not, cond, _&&_}
 use mathlib.Core.List.{List, []}
 use mathlib.Core.Logic.{inl, inr, ⊎-elim}
 use Prim.Native.Nat.{ℕ, _+_, _-_, _*_, _^_, _≤_, _<_}
-use native.Mathlib.Nat.{le-trans, mul-le-mul-left, mul-le-mul-right, mul-zero}
+use native.Mathlib.Nat.{le-trans, mul-le-mul-left, mul-le-mul-right}
 use native.Mathlib.Omega.{arith}
 use borrow.Author.Tests.{eq-eqb, ne-eqb, lt-ltb, le-ltb}
 use lib.Seq.{set-getD}
@@ -17,9 +17,10 @@ use Rattle.delivery.specs.Row.{room}
 use Rattle.unit.specs.Count.{pairCount}
 use Rattle.unit.specs.Model.{Model, modelOf, queueOn, rowAt, withQueue, withLosses, pairsFrom, pairAt, generalAt}
 use Rattle.unit.proofs.Count.{pair-below}
-use Rattle.forwarding.specs.Forwarding.{silent, verdict, countedAt, lostFrom, lostOwn}
+use Rattle.forwarding.specs.declared.Came.{Came}
+use Rattle.forwarding.specs.Forwarding.{silent, verdict, accepts, loses, countedAt, lostFrom, lostOwn}
 use Rattle.record.specs.Steps.{PairAsking, RowJoining, LossesChanging}
-use Rattle.forwarding.specs.Steps.{Losing, Joining, Sending, Standing, OwnJoining}
+use Rattle.forwarding.specs.Steps.{Losing, Joining, cameOf, Sending, Standing, OwnJoining}
 
 queue-same : (m : Model) (q : ℕ) → m ≡ withQueue m q (queueOn m q)
 queue-same m q = rw (set-getD (m .queues) q idle)
@@ -65,18 +66,45 @@ module _ {ports : ℕ} {before after : List ℕ} {p q : ℕ} {f : Frame} {w : Bo
 pub lost-both : {ports : ℕ} {before between after : List ℕ} {p q : ℕ} → LossesChanging ports before between (pairAt ports p q) oneMore → LossesChanging ports between after (generalAt ports) oneMore → Losing ports before after p q
 lost-both {ports} {p = p} {q = q} C D = record { state = D .state ∙ ap (more (generalAt ports)) (C .state) }
 
-module _ {ports : ℕ} {before : List ℕ} {p q bit weight : ℕ} (pgn : ℕ) {f : Frame} where
+-- whether a frame joined, and whether it was lost
+abbrev pub joins : Came → Bool
+joins Came.Stopped = false
+joins Came.Joined = true
+joins Came.Lost = false
+
+abbrev pub misses : Came → Bool
+misses Came.Stopped = false
+misses Came.Joined = false
+misses Came.Lost = true
+
+pub joins-is : (v : Asked) (row : List Frame) → joins (cameOf v row) ≡ accepts v row
+joins-is v row = go (crosses (v .reason)) (room size row)
+  where
+    go : (c w : Bool) → joins (cond c (cond w Came.Joined Came.Lost) Came.Stopped) ≡ (c && w)
+    go true true = refl
+    go true false = refl
+    go false w = refl
+
+pub misses-is : (v : Asked) (row : List Frame) → misses (cameOf v row) ≡ loses v row
+misses-is v row = go (crosses (v .reason)) (room size row)
+  where
+    go : (c w : Bool) → misses (cond c (cond w Came.Joined Came.Lost) Came.Stopped) ≡ (c && not w)
+    go true true = refl
+    go true false = refl
+    go false w = refl
+
+module _ {ports : ℕ} {before : List ℕ} {p q : ℕ} (pgn : ℕ) {f : Frame} where
   -- the arrival port
-  pub send-self : p ≡ q → Sending ports before before (verdict ports (modelOf ports before .rest .pairs) p pgn q) q bit weight f (record { accepted = 0; lost = 0; reasons = 0; compared = 0 })
+  pub send-self : p ≡ q → Sending ports before before (verdict ports (modelOf ports before .rest .pairs) p pgn q) q f (record { came = Came.Stopped; reason = 0; compared = 0 })
   unfolding verdict
   send-self e = record {
-    answer = rw (eq-eqb p q e, mul-zero weight);
+    answer = rw (eq-eqb p q e);
     state = rw (eq-eqb p q e) (queue-same (modelOf ports before) q);
     small = omega arith;
   }
 
   module _ {v : Asked} {told : ℕ} (ne : p ≡ q → ⊥) (P : PairAsking ports before p q pgn v) (T : told ≡ reasonNumber (v .reason)) where
-    pub send-stopped : crosses (v .reason) ≡ false → Sending ports before before (verdict ports (modelOf ports before .rest .pairs) p pgn q) q bit weight f (record { accepted = 0; lost = 0; reasons = weight * told; compared = v .compared })
+    pub send-stopped : crosses (v .reason) ≡ false → Sending ports before before (verdict ports (modelOf ports before .rest .pairs) p pgn q) q f (record { came = Came.Stopped; reason = told; compared = v .compared })
     send-stopped e = record {
       answer = rw (verdict-is ne P, e, T);
       state = rw (verdict-is ne P, e) (queue-same (modelOf ports before) q);
@@ -84,7 +112,7 @@ module _ {ports : ℕ} {before : List ℕ} {p q bit weight : ℕ} (pgn : ℕ) {f
     }
 
     pub send-permitted : {after : List ℕ} {w : Bool} (b : Bool) → crosses (v .reason) ≡ true → w ≡ b → RowJoining ports before after q f w
-        → Sending ports before after (verdict ports (modelOf ports before .rest .pairs) p pgn q) q bit weight f (record { accepted = cond b bit 0; lost = cond (not b) bit 0; reasons = weight * told; compared = v .compared })
+        → Sending ports before after (verdict ports (modelOf ports before .rest .pairs) p pgn q) q f (record { came = cond b Came.Joined Came.Lost; reason = told; compared = v .compared })
     send-permitted b e h J = record {
       answer = rw (verdict-is ne P, e, ← (J .answer), h, T);
       state = rw (verdict-is ne P, e) (J .state);

@@ -7,7 +7,7 @@ use mathlib.Core.Path.{_≡_}
 use mathlib.Core.List.{List, [], _∷_}
 use Rattle.delivery.specs.Row.{room}
 use Rattle.filter.specs.declared.Asked.{Asked}
-use Rattle.filter.specs.Filter.{reasonNumber, blockSize as filterLength}
+use Rattle.filter.specs.Filter.{crosses, reasonNumber, blockSize as filterLength}
 use Rattle.pgn_list.specs.PgnList.{listSize}
 use Rattle.queue.specs.declared.Frame.{Frame}
 use Rattle.queue.specs.Queue.{Queued, size, sentAll, joined}
@@ -16,6 +16,8 @@ use Rattle.unit.specs.Ports.{each, inTurn, mask, digits, total}
 use Rattle.unit.specs.Model.{Model, queueOn, rowAt, withQueue, withQueues, withLosses, pairsFrom, pairAt, modelOf}
 use Rattle.unit.specs.Count.{pairCount}
 use Rattle.unit.specs.Own.{framesSent}
+use Rattle.forwarding.specs.declared.Came.{Came}
+use Rattle.forwarding.specs.declared.Offered.{Offered}
 use Rattle.forwarding.specs.declared.Share.{Share}
 use Rattle.forwarding.specs.Forwarding.{verdict, sentIf, accepts, loses, losesOwn, lostFrom, lostOwn}
 
@@ -44,24 +46,19 @@ pub record Joining (ports : ℕ) (before after : List ℕ) (p q : ℕ) (f : Fram
   pub state : modelOf ports after ≡ joinedFrom ports (modelOf ports before) p q f
 
 -- ---- a frame, by any question that is asked of a port: where port q answered v, and where the first n ports answered `question`
-abbrev pub share : ℕ → ℕ → Asked → List Frame → Share
-share bit weight v row = record {
-  accepted = cond (accepts v row) bit 0;
-  lost = cond (loses v row) bit 0;
-  reasons = weight * reasonNumber (v .reason);
-  compared = v .compared;
-}
+abbrev pub cameOf : Asked → List Frame → Came
+cameOf v row = cond (crosses (v .reason)) (cond (room size row) Came.Joined Came.Lost) Came.Stopped
 
-pub record Sending (ports : ℕ) (before after : List ℕ) (v : Asked) (q bit weight : ℕ) (f : Frame) (r : Share) : Type 0 where
-  pub answer : r ≡ share bit weight v (rowAt (modelOf ports before) q)
+pub record Sending (ports : ℕ) (before after : List ℕ) (v : Asked) (q : ℕ) (f : Frame) (r : Offered) : Type 0 where
+  pub answer : r ≡ record { came = cameOf v (rowAt (modelOf ports before) q); reason = reasonNumber (v .reason); compared = v .compared }
   pub state : modelOf ports after ≡ withQueue (modelOf ports before) q (sentAll (queueOn (modelOf ports before) q) (sentIf v f))
   pub small : r .compared ≤ listSize
 
 -- from any other port, by the pair whose filter begins at a word, whatever the number of ports
-abbrev pub SendingAt : (before after : List ℕ) (at q bit weight pgn : ℕ) (f : Frame) (r : Share) → Type 0
-SendingAt before after at q bit weight pgn f r =
+abbrev pub SendingAt : (before after : List ℕ) (at q pgn : ℕ) (f : Frame) (r : Offered) → Type 0
+SendingAt before after at q pgn f r =
     (ports p : ℕ) → q < ports → (p ≡ q → ⊥) → pairAt ports p q < pairCount ports → at ≡ pairsFrom ports + filterLength * pairAt ports p q
-    → Sending ports before after (verdict ports (modelOf ports before .rest .pairs) p pgn q) q bit weight f r
+    → Sending ports before after (verdict ports (modelOf ports before .rest .pairs) p pgn q) q f r
 
 -- where the filter begins that port p's frame meets next, before port n: port p itself has none
 abbrev pub Standing : ℕ → ℕ → ℕ → ℕ → Type 0

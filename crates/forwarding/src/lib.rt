@@ -45,42 +45,53 @@ pub fn join(words: &mut [u64], ports: usize, from: usize, to: usize, f: Frame) -
     false
 }
 
+// What became of a frame at a port.
+enum Came {
+    Stopped,
+    Joined,
+    Lost,
+}
+
+// What became of a frame at a port, the number of the pair's reason, the entries compared.
+struct Offered {
+    came: Came,
+    reason: u32,
+    compared: u32,
+}
+
 // A frame from one port at another: the pair, whose filter begins at a word, is asked, and the frame joins where it is permitted.
-fn send(words: &mut [u64], at: usize, to: usize, bit: u32, weight: u64, pgn: u32, f: Frame) -> Share
-    requires { ⌜ (at + filterLength ≤ length (now words)) × (rowsFrom + queueLength * to + queueLength ≤ length (now words)) × (weight ≤ 2 ^ 32) ⌝ }
-    ensures { λ r. ⌜ SendingAt (now (words .entry)) (now (words .exit)) at to bit weight pgn f r ⌝ }
+fn send(words: &mut [u64], at: usize, to: usize, pgn: u32, f: Frame) -> Offered
+    requires { ⌜ (at + filterLength ≤ length (now words)) × (rowsFrom + queueLength * to + queueLength ≤ length (now words)) ⌝ }
+    ensures { λ r. ⌜ SendingAt (now (words .entry)) (now (words .exit)) at to pgn f r ⌝ }
 {
     let v = record::ask_filter(words, at, pgn);
-    let reason = v.reason;
-    let reasons = weight * reason.number() as u64;
+    let why = v.reason;
+    let reason = why.number();
     let compared = v.compared;
-    if reason.crosses() {
+    if why.crosses() {
         let waits = record::join_row(words, to, f);
         if waits {
-            return Share {
-                accepted: bit,
-                lost: 0,
-                reasons,
+            return Offered {
+                came: Came::Joined,
+                reason,
                 compared,
             };
         }
-        return Share {
-            accepted: 0,
-            lost: bit,
-            reasons,
+        return Offered {
+            came: Came::Lost,
+            reason,
             compared,
         };
     }
-    Share {
-        accepted: 0,
-        lost: 0,
-        reasons,
+    Offered {
+        came: Came::Stopped,
+        reason,
         compared,
     }
 }
 
 // A frame from one port at every other, along the filters of the pairs from it; the port itself has none. What is lost is not counted here, so that the
-// way of a loss takes no register in the loop.
+// way of a loss takes no register in the loop; and a port's bit is added on the way that the frame went, not a 0 on the others.
 fn offer(words: &mut [u64], ports: usize, from: usize, pgn: u32, f: Frame) -> Share
     requires { ⌜ (ports ≤ 8) × (length (now words) ≡ recordLength ports) × (from < ports) ⌝ }
     ensures { λ r. ⌜ Offering ports (now (words .entry)) (now (words .exit)) (verdict ports (modelOf ports (now (words .entry)) .rest .pairs) from pgn) f r ⌝ }
@@ -95,12 +106,20 @@ fn offer(words: &mut [u64], ports: usize, from: usize, pgn: u32, f: Frame) -> Sh
     let mut to: usize = 0;
     while to < ports {
         if from != to {
-            let s = send(words, at, to, bit, weight, pgn, f);
-            accepted += s.accepted;
-            lost += s.lost;
-            reasons += s.reasons;
+            let s = send(words, at, to, pgn, f);
+            reasons += weight * s.reason as u64;
             compared += s.compared;
             at += filter::BLOCK_SIZE;
+            let came = s.came;
+            match came {
+                Came::Stopped => {}
+                Came::Joined => {
+                    accepted += bit;
+                }
+                Came::Lost => {
+                    lost += bit;
+                }
+            }
         }
         bit = 2 * bit;
         weight = 16 * weight;

@@ -6,8 +6,8 @@
    bytes may be handed in as NULL, 0; any other may not.
 
    Platform: x86-64 Linux, the System V calling convention, any linker for ELF. Needed are memcpy and memset and nothing else: no heap, no call of the operating
-   system, no data outside the record. SSE registers and the red zone are used. Some 23 KB of code and constants, 9,872 bytes of record for four ports, at most 1.3 KB
-   of stack, 7 KB in a call on a plan. For other platforms there is no proved library today; the project's reference/, in safe Rust, is an unproved stand-in.
+   system, no data outside the record. SSE registers and the red zone are used. Some 21 KB of code and constants, 9,872 bytes of record for four ports, at most 1.3 KB
+   of stack, 6 KB in a call on a plan. For other platforms there is no proved library today; the project's reference/, in safe Rust, is an unproved stand-in.
    docs/INTEGRATION.md has the loop of a box, interrupts, locking and stack.
 
    An answer is lent storage of the length given below, in words; another length is number 2. On a refusal it is left as it was (deorasaeng_message says

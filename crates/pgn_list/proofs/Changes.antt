@@ -89,6 +89,20 @@ held-all {entry} {list} {n} {xs} {held} {i} H done =
     let v : addAll (take n entry) xs ≡ take held list = left-none (H .left) done in
     record { number = rw v (omega (arith, H .few, length-take-le held list (omega (arith, H .few, H .long)))); entries = λ l. sym v }
 
+-- a single entry
+module _ {list : List ℕ} {n x : ℕ} (long : length list ≡ listSize) (few : n ≤ listSize) where
+  one-start : Held list list n (x ∷ []) n 0
+  one-start = record { left = left-all refl; few = few; long = long }
+
+  pub one-stays : listed x (take n list) ≡ true → Extending list list n (x ∷ []) n
+  one-stays h = held-all (held-listed one-start (omega arith) refl h) (omega arith)
+
+  pub one-joins : listed x (take n list) ≡ false → (n ≡ listSize → ⊥) → Extending list (set list n x) n (x ∷ []) (n + 1)
+  one-joins h room = held-all (held-new one-start (omega arith) refl h room) (omega arith)
+
+  pub one-over : listed x (take n list) ≡ false → n ≡ listSize → Extending list list n (x ∷ []) (listSize + 1)
+  one-over h full = held-over one-start (omega arith) refl h full
+
 -- ---- a question of every entry: it is answered by the first for which it is no
 module _ (test : ℕ → Bool) {xs : List ℕ} {i x : ℕ} (L : Left (every test xs) (every test) xs i) (turn : i < length xs) (e : x ≡ getD xs i 0) where
   pub every-not : test x ≡ false → every test xs ≡ false

@@ -3,7 +3,7 @@ mod index;
 
 ghost use mathlib.Core.Path.{_≡_};
 ghost use mathlib.Core.List.{[], _∷_};
-ghost use Prim.Native.Nat.{_≤_};
+ghost use Prim.Native.Nat.{_≤_, _<_};
 ghost use lib.ListN.{length, take};
 ghost use Rattle.entries.specs.Entries.{listed, every, entriesOf};
 ghost use Rattle.pgn_list.specs.PgnList.{listSize};
@@ -82,6 +82,21 @@ fn extend_by_search(list: &mut [u64], n: usize, bytes: &[u8]) -> usize
         i += 1;
     }
     held
+}
+
+// `extend` with a single entry. A list that does not hold it stays as it is.
+pub fn extend_by_one(list: &mut [u64], n: usize, x: u64) -> usize
+    requires { ⌜ (length (now list) ≡ listSize) × (n ≤ listSize) ⌝ }
+    ensures { λ r. ⌜ Extending (now (list .entry)) (now (list .exit)) n (x ∷ []) r × (listSize < r → now (list .exit) ≡ now (list .entry)) ⌝ }
+{
+    if is_listed(list, n, x) {
+        return n;
+    }
+    if n == LIST_SIZE {
+        return LIST_SIZE + 1;
+    }
+    list[n] = x;
+    n + 1
 }
 
 // Adds the entries to the first n of a list: one that is not listed goes to the end. Tells how many they are then; LIST_SIZE + 1 stands for

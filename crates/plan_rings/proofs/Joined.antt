@@ -1,16 +1,16 @@
 -- Labels: equal labels are joined by links, and joined have equal labels. Assumes nothing.
 use mathlib.Core.Path.{_≡_, refl, sym, ap, _∙_}
 use mathlib.Core.Bool.{Bool, true, false, cond}
-use mathlib.Core.Logic.{_⊎_, inl, inr, ⊎-elim}
+use mathlib.Core.Logic.{_⊎_, inl, inr}
 use mathlib.Core.List.{List, [], _∷_}
 use Prim.Native.Nat.{ℕ, _+_, _*_, _/_, _%_, _≤_, _<_}
-use native.Mathlib.Decide.{ℕ-discrete}
+use native.Mathlib.Decide.{ℕ-discrete, decLt}
 use native.Mathlib.Omega.{arith}
-use borrow.Author.Tests.{eqb-true, eqb-false, eq-eqb}
-use lib.ListN.{length, getD}
+use borrow.Author.Tests.{eqb-true, eq-eqb}
+use lib.ListN.{length}
 use lib.Dec.{eqb}
-use Rattle.plan_shape.specs.Plan.{Plan, Crossing, Joins, onward, segmentAt, mostSegments, mostUnits, portCount}
-use Rattle.plan_rings.specs.Rings.{unitNode, nodes, label, Relabeled}
+use Rattle.plan_shape.specs.Plan.{Plan, Crossing, mostSegments, mostUnits, portCount}
+use Rattle.plan_rings.specs.Rings.{unitNode, nodes, label, Fresh, Relabeled}
 use Rattle.plan_rings.proofs.PathsIn.{segmentOf, unitOf, enterLink, leaveLink, between, JoinsIn, PathIn, Conn, path-end, path-head, path-tail, conn-none, conn-more, conn-trans, conn-one, conn-sym}
 
 -- the plan's links lead to segments of the plan
@@ -94,12 +94,14 @@ pub record Labeled (plan : Plan) (k : ℕ) (labels : List ℕ) : Type 0 where
   pub long : length labels ≡ nodes
   pub same : (i : ℕ) → i < k → (segmentOf plan i ≡ 0 → ⊥) → label labels (segmentOf plan i) ≡ label labels (unitNode (unitOf i))
   pub tied : (x y : ℕ) → x < nodes → y < nodes → label labels x ≡ label labels y → Tied plan k x y
+  pub fresh : Fresh labels
 
 pub labeled-start : {plan : Plan} {labels : List ℕ} → length labels ≡ nodes → ((i : ℕ) → i < nodes → label labels i ≡ i) → Labeled plan 0 labels
 labeled-start long own = record {
   long = long;
   same = λ i h u. absurd (none i h);
   tied = λ x y hx hy e. inl (sym (own x hx) ∙ e ∙ own y hy);
+  fresh = λ x hx _. own x hx;
 }
   where
     none : (i : ℕ) → i < 0 → ⊥
@@ -110,6 +112,7 @@ labeled-past {plan} {k} {labels} z B = record {
   long = B .long;
   same = earlier;
   tied = λ x y hx hy e. tied-more plan k x y (B .tied x y hx hy e);
+  fresh = B .fresh;
 }
   where
     earlier : (i : ℕ) → i < k + 1 → (segmentOf plan i ≡ 0 → ⊥) → label labels (segmentOf plan i) ≡ label labels (unitNode (unitOf i))
@@ -119,8 +122,8 @@ labeled-past {plan} {k} {labels} z B = record {
     ]
 
 module _ {plan : Plan} {k : ℕ} {before after : List ℕ} (L : Linked plan) (h : k < portCount * plan .units) (u : segmentOf plan k ≡ 0 → ⊥) (B : Labeled plan k before)
-    (R : Relabeled (label before (segmentOf plan k)) (label before (unitNode (unitOf k))) before after) where
-  relabel-at : (x : ℕ) → x < nodes → (b : Bool) → eqb (label before x) (label before (segmentOf plan k)) ≡ b → label after x ≡ cond b (label before (unitNode (unitOf k))) (label before x)
+    (R : Relabeled (label before (unitNode (unitOf k))) (label before (segmentOf plan k)) before after) where
+  relabel-at : (x : ℕ) → x < nodes → (b : Bool) → eqb (label before x) (label before (unitNode (unitOf k))) ≡ b → label after x ≡ cond b (label before (segmentOf plan k)) (label before x)
   relabel-at x l b e = R .at x (omega (arith, B .long)) ∙ rw e
 
   -- what had one label still has
@@ -136,12 +139,12 @@ module _ {plan : Plan} {k : ℕ} {before after : List ℕ} (L : Linked plan) (h 
   -- the link's two ends have one label now
   ends : label after (segmentOf plan k) ≡ label after (unitNode (unitOf k))
   ends =
-      relabel-at (segmentOf plan k) segment-small true (eq-eqb (label before (segmentOf plan k)) (label before (segmentOf plan k)) refl)
-      ∙ sym (go (eqb (label before (unitNode (unitOf k))) (label before (segmentOf plan k))) refl)
+      go (eqb (label before (segmentOf plan k)) (label before (unitNode (unitOf k)))) refl
+      ∙ sym (relabel-at (unitNode (unitOf k)) unit-small true (eq-eqb (label before (unitNode (unitOf k))) (label before (unitNode (unitOf k))) refl))
     where
-      go : (b : Bool) → eqb (label before (unitNode (unitOf k))) (label before (segmentOf plan k)) ≡ b → label after (unitNode (unitOf k)) ≡ label before (unitNode (unitOf k))
-      go true e = relabel-at (unitNode (unitOf k)) unit-small true e
-      go false e = relabel-at (unitNode (unitOf k)) unit-small false e
+      go : (b : Bool) → eqb (label before (segmentOf plan k)) (label before (unitNode (unitOf k))) ≡ b → label after (segmentOf plan k) ≡ label before (segmentOf plan k)
+      go true e = relabel-at (segmentOf plan k) segment-small true e
+      go false e = relabel-at (segmentOf plan k) segment-small false e
 
   more-same : (i : ℕ) → i < k + 1 → (segmentOf plan i ≡ 0 → ⊥) → label after (segmentOf plan i) ≡ label after (unitNode (unitOf i))
   more-same i l v = elim (ℕ-discrete i k) [
@@ -159,16 +162,30 @@ module _ {plan : Plan} {k : ℕ} {before after : List ℕ} (L : Linked plan) (h 
       (tied-more plan k (unitNode (unitOf k)) y (B .tied (unitNode (unitOf k)) y unit-small ly (sym f))))
 
   more-tied : (x y : ℕ) → x < nodes → y < nodes → label after x ≡ label after y → Tied plan (k + 1) x y
-  more-tied x y lx ly e = go (eqb (label before x) (label before (segmentOf plan k))) refl (eqb (label before y) (label before (segmentOf plan k))) refl
+  more-tied x y lx ly e = go (eqb (label before x) (label before (unitNode (unitOf k)))) refl (eqb (label before y) (label before (unitNode (unitOf k)))) refl
     where
-      go : (b : Bool) → eqb (label before x) (label before (segmentOf plan k)) ≡ b → (d : Bool) → eqb (label before y) (label before (segmentOf plan k)) ≡ d → Tied plan (k + 1) x y
+      go : (b : Bool) → eqb (label before x) (label before (unitNode (unitOf k))) ≡ b → (d : Bool) → eqb (label before y) (label before (unitNode (unitOf k))) ≡ d → Tied plan (k + 1) x y
       go true p true q = tied-more plan k x y (B .tied x y lx ly (eqb-true _ _ p ∙ sym (eqb-true _ _ q)))
-      go true p false q = over x y lx ly (eqb-true _ _ p) (sym (relabel-at y ly false q) ∙ sym e ∙ relabel-at x lx true p)
-      go false p true q = tied-sym plan (k + 1) y x (over y x ly lx (eqb-true _ _ q) (sym (relabel-at x lx false p) ∙ e ∙ relabel-at y ly true q))
+      go true p false q = tied-sym plan (k + 1) y x (over y x ly lx (sym (relabel-at y ly false q) ∙ sym e ∙ relabel-at x lx true p) (eqb-true _ _ p))
+      go false p true q = over x y lx ly (sym (relabel-at x lx false p) ∙ e ∙ relabel-at y ly true q) (eqb-true _ _ q)
       go false p false q = tied-more plan k x y (B .tied x y lx ly (sym (relabel-at x lx false p) ∙ e ∙ relabel-at y ly false q))
 
+  -- the segment's label is a segment's
+  more-fresh : Fresh after
+  more-fresh x l = go (eqb (label before x) (label before (unitNode (unitOf k)))) refl
+    where
+      segments : label before (segmentOf plan k) ≤ mostSegments
+      segments = elim (decLt mostSegments (label before (segmentOf plan k))) [
+        | yes m ↦ absurd (omega (arith, B .fresh (segmentOf plan k) segment-small m, L .inRange k h))
+        | no m ↦ omega (arith, m)
+      ]
+
+      go : (b : Bool) → eqb (label before x) (label before (unitNode (unitOf k))) ≡ b → mostSegments < label after x → label after x ≡ x
+      go true e m = absurd (omega (arith, relabel-at x l true e, segments))
+      go false e m = relabel-at x l false e ∙ B .fresh x l (omega (arith, relabel-at x l false e))
+
   pub labeled-more : Labeled plan (k + 1) after
-  labeled-more = record { long = R .long ∙ B .long; same = more-same; tied = more-tied }
+  labeled-more = record { long = R .long ∙ B .long; same = more-same; tied = more-tied; fresh = more-fresh }
 
 -- ---- a path leads to the same label
 pub label-path : {plan : Plan} {k s t : ℕ} {labels : List ℕ} (cs : List Crossing) → Labeled plan k labels → PathIn plan k s cs t → label labels s ≡ label labels t

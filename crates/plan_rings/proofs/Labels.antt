@@ -1,5 +1,5 @@
 -- The labels, place by place: each its own, and one turned into another. Assumes nothing.
-use mathlib.Core.Path.{_≡_, refl, sym, ap, _∙_}
+use mathlib.Core.Path.{_≡_, refl, sym, _∙_}
 use mathlib.Core.Bool.{true, false, cond, true≢false}
 use mathlib.Core.Logic.{inl, inr}
 use mathlib.Core.List.{List}
@@ -10,8 +10,8 @@ use borrow.Author.Tests.{eq-eqb, ne-eqb}
 use lib.ListN.{length, getD, set, length-set}
 use lib.Seq.{getD-set-same, getD-set-other}
 use lib.Dec.{eqb}
-use Rattle.plan_shape.specs.Plan.{portCount}
-use Rattle.plan_rings.specs.Rings.{nodes, unitNode, label, Numbered, Relabeled, Linking}
+use Rattle.plan_shape.specs.Plan.{mostSegments, portCount}
+use Rattle.plan_rings.specs.Rings.{nodes, unitNode, label, Fresh, Numbered, Relabeled, Linking}
 
 -- ---- numbered up to n
 pub record NumberedTo (labels : List ℕ) (n : ℕ) : Type 0 where
@@ -55,33 +55,33 @@ module _ {from to : ℕ} {before : List ℕ} where
       none i l = omega arith
 
   module _ {now : List ℕ} {n : ℕ} (R : RelabeledTo from to before now n) where
-    pub relabel-one : n < length before → label now n ≡ from → RelabeledTo from to before (set now n to) (n + 1)
-    relabel-one h e = record {
-      long = length-set now n to ∙ R .long;
+    pub relabel-one : {v : ℕ} → n < length before → v ≡ cond (eqb (label now n) from) to (label now n) → RelabeledTo from to before (set now n v) (n + 1)
+    relabel-one {v} h e = record {
+      long = length-set now n v ∙ R .long;
       done = λ i l. at i l (ℕ-discrete i n);
-      rest = λ i l. getD-set-other now n i to 0 (λ z. later i l z) ∙ R .rest i (omega arith);
+      rest = λ i l. getD-set-other now n i v 0 (λ z. later i l z) ∙ R .rest i (omega arith);
     }
       where
         later : (i : ℕ) → n + 1 ≤ i → i ≡ n → ⊥
         later i l z = omega arith
 
-        at : (i : ℕ) → i < n + 1 → Dec (i ≡ n) → label (set now n to) i ≡ cond (eqb (label before i) from) to (label before i)
-        at i l (yes z) = rw (z, getD-set-same now n to 0 (omega (arith, R .long)), eq-eqb (label before n) from (sym (R .rest n (omega arith)) ∙ e))
-        at i l (no ne) = getD-set-other now n i to 0 ne ∙ R .done i (omega arith)
-
-    pub relabel-past : (label now n ≡ from → ⊥) → RelabeledTo from to before now (n + 1)
-    relabel-past ne = record {
-      long = R .long;
-      done = λ i l. at i l (ℕ-discrete i n);
-      rest = λ i l. R .rest i (omega arith);
-    }
-      where
-        at : (i : ℕ) → i < n + 1 → Dec (i ≡ n) → label now i ≡ cond (eqb (label before i) from) to (label before i)
-        at i l (yes z) = rw (z, ne-eqb (label before n) from (λ f. ne (R .rest n (omega arith) ∙ f))) (R .rest n (omega arith))
-        at i l (no other) = R .done i (omega arith)
+        at : (i : ℕ) → i < n + 1 → Dec (i ≡ n) → label (set now n v) i ≡ cond (eqb (label before i) from) to (label before i)
+        at i l (yes z) = rw (z, getD-set-same now n v 0 (omega (arith, R .long)), ← (R .rest n (omega arith))) e
+        at i l (no ne) = getD-set-other now n i v 0 ne ∙ R .done i (omega arith)
 
     pub relabel-done : length before ≤ n → Relabeled from to before now
     relabel-done h = record { long = R .long; at = λ i l. R .done i (omega arith) }
+
+-- ---- a node to which nothing is joined is relabeled alone
+pub relabel-alone : {before : List ℕ} {from to : ℕ} (node : ℕ) → length before ≡ nodes → node < nodes → mostSegments < node → Fresh before → from ≡ label before node → from ≡ node → Relabeled from to before (set before node to)
+relabel-alone {before} {from} {to} node long h m fresh e own = record { long = length-set before node to; at = λ i l. at i l (ℕ-discrete i node) }
+  where
+    apart : (i : ℕ) → i < length before → (i ≡ node → ⊥) → label before i ≡ from → ⊥
+    apart i l ne f = ne (sym (fresh i (omega arith) (omega arith)) ∙ f ∙ own)
+
+    at : (i : ℕ) → i < length before → Dec (i ≡ node) → label (set before node to) i ≡ cond (eqb (label before i) from) to (label before i)
+    at i l (yes z) = rw (z, getD-set-same before node to 0 (omega arith), eq-eqb (label before node) from (sym e))
+    at i l (no ne) = getD-set-other before node i to 0 ne ∙ rw (ne-eqb (label before i) from (apart i l ne))
 
 -- ---- a link
 module _ {ports : List ℕ} {link : ℕ} {before : List ℕ} where
@@ -92,5 +92,5 @@ module _ {ports : List ℕ} {link : ℕ} {before : List ℕ} where
   link-again ne e = record { again = λ _. (ne, e); joined = λ z. absurd (true≢false z) }
 
   pub link-joined : {after : List ℕ} → (getD ports link 0 ≡ 0 → ⊥) → (label before (getD ports link 0) ≡ label before (unitNode (link / portCount)) → ⊥)
-      → Relabeled (label before (getD ports link 0)) (label before (unitNode (link / portCount))) before after → Linking ports link before after false
+      → Relabeled (label before (unitNode (link / portCount))) (label before (getD ports link 0)) before after → Linking ports link before after false
   link-joined ne apart R = record { again = λ z. absurd (true≢false (sym z)); joined = λ _. inr (ne, (apart, R)) }

@@ -1,5 +1,5 @@
--- Which segments and units are joined: a label for each, place s for segment s, places 17 and up for the units. Assumes nothing.
-use Prim.Native.Nat.{ℕ, _+_, _/_, _<_}
+-- Which segments and units are joined: a label for each, place s for segment s, places 32 and up for the units. Assumes nothing.
+use Prim.Native.Nat.{ℕ, _+_, _*_, _/_, _<_}
 use mathlib.Core.Path.{_≡_}
 use mathlib.Core.Bool.{Bool, true, false, cond}
 use mathlib.Core.Logic.{_⊎_}
@@ -9,10 +9,10 @@ use lib.Dec.{eqb}
 use Rattle.plan_shape.specs.Plan.{mostSegments, mostUnits, portCount}
 
 abbrev pub unitNode : ℕ → ℕ
-unitNode unit = mostSegments + 1 + unit
+unitNode unit = 2 * mostSegments + unit
 
 abbrev pub nodes : ℕ
-nodes = mostSegments + 1 + mostUnits
+nodes = 2 * mostSegments + mostUnits
 
 abbrev pub label : List ℕ → ℕ → ℕ
 label labels node = getD labels node 0
@@ -27,8 +27,12 @@ pub record Relabeled (from to : ℕ) (before after : List ℕ) : Type 0 where
   pub long : length after ≡ length before
   pub at : (i : ℕ) → i < length before → label after i ≡ cond (eqb (label before i) from) to (label before i)
 
+-- a label past the segments' is that of a node to which nothing is joined: no other has it
+abbrev pub Fresh : List ℕ → Type 0
+Fresh labels = (node : ℕ) → node < nodes → mostSegments < label labels node → label labels node ≡ node
+
 -- a link, which is a port of a unit, joins the segment on it to the unit: told are those that were joined before
 pub record Linking (ports : List ℕ) (link : ℕ) (before after : List ℕ) (r : Bool) : Type 0 where
   pub again : r ≡ true → (getD ports link 0 ≡ 0 → ⊥) × (label before (getD ports link 0) ≡ label before (unitNode (link / portCount)))
   pub joined : r ≡ false → ((getD ports link 0 ≡ 0) × (after ≡ before))
-      ⊎ ((getD ports link 0 ≡ 0 → ⊥) × ((label before (getD ports link 0) ≡ label before (unitNode (link / portCount)) → ⊥) × Relabeled (label before (getD ports link 0)) (label before (unitNode (link / portCount))) before after))
+      ⊎ ((getD ports link 0 ≡ 0 → ⊥) × ((label before (getD ports link 0) ≡ label before (unitNode (link / portCount)) → ⊥) × Relabeled (label before (unitNode (link / portCount))) (label before (getD ports link 0)) before after))

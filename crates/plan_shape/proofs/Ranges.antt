@@ -1,6 +1,6 @@
 -- A test of each number below n, one after the other; and what a plan whose numbers are in range has. Assumes nothing.
-use mathlib.Core.Path.{_≡_, refl, sym, ap, _∙_}
-use mathlib.Core.Bool.{Bool, true, false, _&&_, true≢false}
+use mathlib.Core.Path.{_≡_, refl}
+use mathlib.Core.Bool.{Bool, true, false, _&&_}
 use mathlib.Core.List.{List}
 use Prim.Native.Nat.{ℕ, zero, suc, _+_, _-_, _*_, _≤_, _<_}
 use native.Mathlib.Decide.{ℕ-discrete}
@@ -8,13 +8,15 @@ use native.Mathlib.Numerals.{add-one}
 use native.Mathlib.Omega.{arith}
 use borrow.Author.Tests.{leb-true}
 use lib.ListN.{length, getD, take, drop, length-drop}
-use lib.Seq.{length-take-le}
+use lib.Bits.{bitOr, or-add-and, and-le-l, and-le-r}
+use lib.Seq.{length-take-le, getD-take, getD-drop}
 use Rattle.storage.specs.Blocks.{blockAt}
 use Rattle.filter.specs.Filter.{blockSize}
 use lib.Dec.{leb}
 use Rattle.checks.proofs.Tests.{both}
 use Rattle.identifier.specs.Identifier.{isPgn}
 use Rattle.plan_shape.specs.Plan.{Plan, below, numbersInRange, inRange, pairInRange, blockOf, mostSegments, mostUnits, portCount, pairsOfUnit}
+use Rattle.plan_shape.specs.Steps.{FourPairs, Passing}
 
 -- ---- below n
 pub below-none : (test : ℕ → Bool) → below test 0 ≡ true
@@ -47,6 +49,9 @@ below-at test (suc n) i h t =
       | no ne ↦ below-at test n i (omega arith) (p .0)
     ]
 
+abbrev pub inLists : List ℕ → ℕ → Bool
+inLists lists i = pairInRange (blockOf lists i)
+
 -- ---- the part that is lent for a pair
 pub part-block : (lists : List ℕ) (i : ℕ) → take (blockSize * i + blockSize - blockSize * i) (drop (blockSize * i) lists) ≡ blockOf lists i
 unfolding blockAt
@@ -59,6 +64,54 @@ pub part-long : (lists : List ℕ) (i : ℕ) → blockSize * i + blockSize ≤ l
 part-long lists i h =
     let size : blockSize * i + blockSize - blockSize * i ≡ blockSize = omega arith in
     rw size (length-take-le blockSize (drop (blockSize * i) lists) (omega (arith, length-drop (blockSize * i) lists)))
+
+-- ---- four pairs at a time
+-- a pair whose mode is 0 is in range
+pub cleared : (lists : List ℕ) (i : ℕ) → getD lists (blockSize * i + 0) 0 ≡ 0 → pairInRange (blockOf lists i) ≡ true
+unfolding pairInRange blockAt
+cleared lists i e =
+    let start : 0 + blockSize * i + 0 ≡ blockSize * i + 0 = omega arith in
+    let within : 0 < blockSize = omega arith in
+    let mode : getD (blockOf lists i) 0 0 ≡ 0 = rw (getD-take, getD-drop, start) e in
+    rw mode
+
+or-none : (a b : ℕ) → bitOr a b ≡ 0 → (a ≡ 0) × (b ≡ 0)
+or-none a b e = (omega (arith, or-add-and a b, and-le-r a b), omega (arith, or-add-and a b, and-le-l a b))
+
+pub four-cleared : (lists : List ℕ) (i n : ℕ) → i + 4 ≤ n → getD lists (blockSize * i + 0) 0 ≡ 0
+    → bitOr (bitOr (getD lists (blockSize * i + 0 + blockSize) 0) (getD lists (blockSize * i + 0 + 2 * blockSize) 0)) (getD lists (blockSize * i + 0 + 3 * blockSize) 0) ≡ 0 → FourPairs lists i n
+four-cleared lists i n room first rest =
+    let one : blockSize * i + 0 + blockSize ≡ blockSize * (i + 1) + 0 = omega arith in
+    let two : blockSize * i + 0 + 2 * blockSize ≡ blockSize * (i + 2) + 0 = omega arith in
+    let three : blockSize * i + 0 + 3 * blockSize ≡ blockSize * (i + 3) + 0 = omega arith in
+    let second = getD lists (blockSize * i + 0 + blockSize) 0 in
+    let third = getD lists (blockSize * i + 0 + 2 * blockSize) 0 in
+    let three-none = or-none (bitOr second third) (getD lists (blockSize * i + 0 + 3 * blockSize) 0) rest in
+    let two-none = or-none second third (three-none .0) in
+    record {
+      room = room;
+      first = cleared lists i first;
+      second = cleared lists (i + 1) (rw one at (two-none .0));
+      third = cleared lists (i + 2) (rw two at (two-none .1));
+      fourth = cleared lists (i + 3) (rw three at (three-none .1));
+    }
+
+module _ {lists : List ℕ} {start n : ℕ} where
+  pub pass-none : start ≤ n → Passing lists start n start
+  pass-none h = record { onward = omega arith; within = h; good = λ e. e }
+
+  pub pass-four : {i : ℕ} → Passing lists start n i → FourPairs lists i n → Passing lists start n (i + 4)
+  pass-four {i} P F = record { onward = omega (arith, P .onward); within = F .room; good = λ e. four (P .good e) }
+    where
+      four : below (inLists lists) i ≡ true → below (inLists lists) (i + 4) ≡ true
+      four h =
+          let two : i + 1 + 1 ≡ i + 2 = omega arith in
+          let three : i + 2 + 1 ≡ i + 3 = omega arith in
+          let more : i + 3 + 1 ≡ i + 4 = omega arith in
+          let a = below-more (inLists lists) i h (F .first) in
+          let b = rw two at (below-more (inLists lists) (i + 1) a (F .second)) in
+          let c = rw three at (below-more (inLists lists) (i + 2) b (F .third)) in
+          rw more at (below-more (inLists lists) (i + 3) c (F .fourth))
 
 -- ---- the numbers in range
 pub record Numbers (segments units first pgn : ℕ) : Type 0 where

@@ -1,7 +1,7 @@
 // A plan of a machine: the segment on each port of its units, and their lists; and whether its numbers are in range, or refused with 28.
 use pgn_list::LIST_SIZE;
 ghost use mathlib.Core.Path.{_≡_};
-ghost use mathlib.Core.Bool.{_||_};
+ghost use mathlib.Core.Bool.{true, _||_};
 ghost use Prim.Native.Nat.{_*_, _/_, _%_, _≤_};
 ghost use lib.ListN.{length, getD};
 ghost use lib.Dec.{leb, eqb};
@@ -9,6 +9,7 @@ ghost use Rattle.identifier.specs.Identifier.{isPgn};
 ghost use Rattle.entries.specs.Entries.{every};
 ghost use Rattle.filter.specs.Filter.{blockSize, filterOf};
 ghost use Rattle.plan_shape.specs.Plan.{planOf, below, pairInRange, numbersInRange, inRange, blockOf, mostUnits, pairsOfUnit, portsLength, listsLength};
+ghost use Rattle.plan_shape.specs.Steps.{FourPairs, Passing};
 
 // "up to 16 segments and 16 units", "each of eight ports".
 pub const SEGMENTS: usize = 16;
@@ -89,20 +90,52 @@ fn are_ports(ports: &[u64], n: usize, segments: u64) -> bool
     true
 }
 
+// Whether four more of the first n pairs stand from one on, and each is cleared.
+fn four_cleared(lists: &[u64], i: usize, n: usize) -> bool
+    requires { ⌜ (length (now lists) ≡ listsLength) × (n ≤ pairsOfUnit * mostUnits) × (i ≤ n) ⌝ }
+    ensures { λ r. ⌜ (r ≡ true → FourPairs (now (lists .entry)) i n) ⌝ }
+{
+    if n < i + 4 {
+        return false;
+    }
+    let at = filter::BLOCK_SIZE * i + filter::MODE;
+    if lists[at] != filter::CLEARED {
+        return false;
+    }
+    let two = lists[at + filter::BLOCK_SIZE] | lists[at + 2 * filter::BLOCK_SIZE];
+    two | lists[at + 3 * filter::BLOCK_SIZE] == filter::CLEARED
+}
+
+// A pair from `start` on before which all are cleared. Four at a time are passed over.
+fn past_cleared(lists: &[u64], start: usize, n: usize) -> usize
+    requires { ⌜ (length (now lists) ≡ listsLength) × (n ≤ pairsOfUnit * mostUnits) × (start ≤ n) ⌝ }
+    ensures { λ r. ⌜ Passing (now (lists .entry)) start n r ⌝ }
+{
+    let mut i = start;
+    while four_cleared(lists, i, n) {
+        i += 4;
+    }
+    i
+}
+
 // Whether each of the first n pairs is in range.
 fn are_pairs(lists: &[u64], n: usize) -> bool
     requires { ⌜ (length (now lists) ≡ listsLength) × (n ≤ pairsOfUnit * mostUnits) ⌝ }
     ensures { λ r. ⌜ r ≡ below (λ i. pairInRange (blockOf (now (lists .entry)) i)) n ⌝ }
 {
-    let mut i = 0;
+    let mut i = past_cleared(lists, 0, n);
     while i < n {
         let a = filter::BLOCK_SIZE * i;
-        let e = a + filter::BLOCK_SIZE;
-        let good = is_pair(&lists[a..e]);
-        if good {
-            i += 1;
+        if lists[a + filter::MODE] == filter::CLEARED {
+            i = past_cleared(lists, i + 1, n);
         } else {
-            return false;
+            let e = a + filter::BLOCK_SIZE;
+            let good = is_pair(&lists[a..e]);
+            if good {
+                i += 1;
+            } else {
+                return false;
+            }
         }
     }
     true

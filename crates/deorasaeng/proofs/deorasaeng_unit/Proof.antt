@@ -4,11 +4,11 @@ use borrow.Author.Needs.{needs}
 use Rattle.deorasaeng.proofs.deorasaeng_unit.Statement.{statement}
 use Rattle.deorasaeng.proofs.deorasaeng_unit.Tie as tie
 
-returns : tie.Need-returns
-returns c = unit-wrong (c .if1 .taken)
-
 unit-requires : tie.Need-unit-requires
 unit-requires c κs = search needs
+
+returns : tie.Need-returns
+returns c = unit-wrong (c .if1 .taken)
 
 enum-known-told : tie.Need-enum-known-told
 enum-known-told c = search needs
@@ -22,7 +22,7 @@ tell-unit-requires c κs = search needs
 returns-2 : tie.Need-returns-2
 returns-2 c =
     let at = c .before .before .before in
-    unit-left (at .unit .ensures) (at .before .if1 .left) (c .before .told .given .1)
+    unit-left (at .before .unit .ensures) (at .if1 .left) (c .before .told .given .1)
 
 same-length : tie.Need-same-length
 same-length c = search needs
@@ -30,14 +30,14 @@ same-length c = search needs
 returns-3 : tie.Need-returns-3
 returns-3 c =
     let at = c .before .before .before .before .before .before .before in
-    unit-told (at .unit .ensures) (at .before .if1 .left) (c .before .before .before .before .before .told2 .given .1) (c .before .before .tell-unit .ensures)
+    unit-told (at .before .unit .ensures) (at .if1 .left) (c .before .before .before .before .before .told2 .given .1) (c .before .before .tell-unit .ensures)
 
 pub deorasaeng-unit-spec : {M : Type 1} → statement M
 deorasaeng-unit-spec =
     tie.close
     (tie.spec
-    returns
     unit-requires
+    returns
     enum-known-told
     enum-known-told-2
     tell-unit-requires

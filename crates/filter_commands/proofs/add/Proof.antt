@@ -1,6 +1,7 @@
--- `filter_commands::add` meets its contract: refused on a cleared pair, else the list grows. Assumes nothing.
+-- `filter_commands::add` meets its contract: refused on a cleared pair, else the list grows, by one entry or by several. Assumes nothing.
 use mathlib.Core.Path.{sym, _∙_}
-use Rattle.filter_commands.proofs.Commands.{add-cleared, add-grown}
+use Rattle.entries.specs.Entries.{entriesOf}
+use Rattle.filter_commands.proofs.Commands.{only-one, add-cleared, add-grown}
 use borrow.Author.Needs.{needs}
 use Rattle.filter_commands.proofs.add.Statement.{statement}
 use Rattle.filter_commands.proofs.add.Tie as tie
@@ -17,16 +18,42 @@ returns c = add-cleared _ _ (sym (c .before .is-cleared .ensures) ∙ c .if1 .ta
 count-requires : tie.Need-count-requires
 count-requires c κs = search needs
 
-grow-requires : tie.Need-grow-requires
-grow-requires c κs = search needs
+count-requires-2 : tie.Need-count-requires-2
+count-requires-2 c κs = search needs
+
+entry-at-requires : tie.Need-entry-at-requires
+entry-at-requires c κs = search needs
+
+grow-by-one-requires : tie.Need-grow-by-one-requires
+grow-by-one-requires c κs = search needs
 
 same-length-2 : tie.Need-same-length-2
 same-length-2 c = search needs
 
 returns-2 : tie.Need-returns-2
 returns-2 c =
-    let if1 = c .before .before .before .before .before .before in
-    add-grown _ _ (sym (if1 .before .is-cleared .ensures) ∙ if1 .if1 .left) (c .before .before .before .before .count .ensures) (c .before .before .grow .result) (c .before .before .grow .ensures)
+    let grown = c .before .before in
+    let entry = grown .before in
+    let single = entry .before .before in
+    let counted = single .before in
+    let held = counted .before in
+    let if1 = held .before .before in
+    let start = if1 .before .before .before .before .before in
+    rw (only-one (entriesOf (start .args .bytes .now)) (sym (counted .count2 .ensures) ∙ single .if2 .taken) (entry .entry-at .ensures))
+    (add-grown _ _ (sym (if1 .before .is-cleared .ensures) ∙ if1 .if1 .left) (held .count .ensures) (grown .grow-by-one .result) (grown .grow-by-one .ensures))
+
+grow-requires : tie.Need-grow-requires
+grow-requires c κs = search needs
+
+same-length-3 : tie.Need-same-length-3
+same-length-3 c = search needs
+
+returns-3 : tie.Need-returns-3
+returns-3 c =
+    let grown = c .before .before in
+    let held = grown .before .before .before .before in
+    let if1 = held .before .before in
+    add-grown _ _ (sym (if1 .before .is-cleared .ensures) ∙ if1 .if1 .left) (held .count .ensures) (grown .grow .result) (grown .grow .ensures)
 
 pub add-spec : {M : Type 1} → statement M
 add-spec =
@@ -36,6 +63,11 @@ add-spec =
     same-length
     returns
     count-requires
-    grow-requires
+    count-requires-2
+    entry-at-requires
+    grow-by-one-requires
     same-length-2
-    returns-2)
+    returns-2
+    grow-requires
+    same-length-3
+    returns-3)

@@ -1,4 +1,4 @@
--- `filter_commands::create` meets its contract: refused on a pair that is not cleared, else the list grows from nothing and the mode is stored. Assumes nothing.
+-- `filter_commands::create` meets its contract: refused on a pair that is not cleared, else the list begins anew and the mode is stored. Assumes nothing.
 use mathlib.Core.Path.{sym, _∙_}
 use borrow.Author.Tests.{not-true, not-false}
 use Rattle.filter_commands.proofs.Commands.{create-listing, create-over, create-pass, create-block}
@@ -15,8 +15,8 @@ same-length c = search needs
 returns : tie.Need-returns
 returns c = create-listing _ _ _ (sym (c .before .is-cleared .ensures) ∙ not-true _ (c .if1 .taken))
 
-grow-requires : tie.Need-grow-requires
-grow-requires c κs = search needs
+begin-requires : tie.Need-begin-requires
+begin-requires c κs = search needs
 
 same-length-2 : tie.Need-same-length-2
 same-length-2 c = search needs
@@ -24,7 +24,7 @@ same-length-2 c = search needs
 returns-2 : tie.Need-returns-2
 returns-2 c =
     let if1 = c .before .before .before .before .before in
-    create-over _ _ _ (sym (if1 .before .is-cleared .ensures) ∙ not-false _ (if1 .if1 .left)) (not-true _ (c .if2 .taken)) (c .before .before .before .grow .ensures)
+    create-over _ _ _ (sym (if1 .before .is-cleared .ensures) ∙ not-false _ (if1 .if1 .left)) (not-true _ (c .if2 .taken)) (c .before .before .before .begin .ensures)
 
 slice-write-block : tie.Need-slice-write-block
 slice-write-block c = search needs
@@ -38,7 +38,7 @@ same-length-3 c = search needs
 returns-3 : tie.Need-returns-3
 returns-3 c =
     let if1 = c .before .before .before .before .before .before in
-    create-pass _ _ _ (sym (if1 .before .is-cleared .ensures) ∙ not-false _ (if1 .if1 .left)) (if1 .before .before .before .before .before .pre) (not-false _ (c .before .if2 .left)) (c .before .before .before .before .grow .ensures) (c .if3 .taken)
+    create-pass _ _ _ (sym (if1 .before .is-cleared .ensures) ∙ not-false _ (if1 .if1 .left)) (if1 .before .before .before .before .before .pre) (not-false _ (c .before .if2 .left)) (c .before .before .before .before .begin .ensures) (c .if3 .taken)
 
 same-length-4 : tie.Need-same-length-4
 same-length-4 c = search needs
@@ -46,7 +46,7 @@ same-length-4 c = search needs
 returns-4 : tie.Need-returns-4
 returns-4 c =
     let if1 = c .before .before .before .before .before .before in
-    create-block _ _ _ (sym (if1 .before .is-cleared .ensures) ∙ not-false _ (if1 .if1 .left)) (if1 .before .before .before .before .before .pre) (not-false _ (c .before .if2 .left)) (c .before .before .before .before .grow .ensures) (c .if3 .left)
+    create-block _ _ _ (sym (if1 .before .is-cleared .ensures) ∙ not-false _ (if1 .if1 .left)) (if1 .before .before .before .before .before .pre) (not-false _ (c .before .if2 .left)) (c .before .before .before .before .begin .ensures) (c .if3 .left)
 
 pub create-spec : {M : Type 1} → statement M
 create-spec =
@@ -55,7 +55,7 @@ create-spec =
     is-cleared-requires
     same-length
     returns
-    grow-requires
+    begin-requires
     same-length-2
     returns-2
     slice-write-block

@@ -8,11 +8,11 @@ use Rattle.filter.specs.declared.Asked.{Asked}
 use Rattle.queue.specs.declared.Frame.{Frame}
 use Rattle.unit.specs.Model.{Rest, modelOf}
 use Rattle.unit.proofs.Count.{pairs-most}
-use Rattle.forwarding.specs.declared.Share.{Share}
+use Rattle.forwarding.specs.declared.Offered.{Offered}
 use Rattle.forwarding.specs.Forwarding.{verdict}
 use Rattle.forwarding.specs.Steps.{Sending, SendingAt, Standing}
-use Rattle.forwarding.proofs.Sends.{send-self, stand-self, stand-pair, stand-count, stand-next}
-use Rattle.forwarding.proofs.Loop.{Going, asked-still, going-start, going-more, going-self, going-done, sums, bit-small, weight-small}
+use Rattle.forwarding.proofs.Sends.{told-small, send-self, stand-self, stand-pair, stand-count, stand-next}
+use Rattle.forwarding.proofs.Loop.{Going, asked-still, going-start, going-stopped, going-joined, going-lost, going-self, going-done, reasons-small, compared-small, sets-small, bit-small, weight-small}
 use Rattle.forwarding.proofs.offer.Statement.{statement}
 use Rattle.forwarding.proofs.offer.Tie as tie
 
@@ -28,9 +28,9 @@ abbrev μ-loop : tie.MeasureT-loop
 μ-loop words₀ ports from pgn f accepted₀ lost₀ reasons₀ compared₀ bit₀ weight₀ at₀ to₀ words accepted lost reasons compared bit weight at to = ports - to
 
 -- what came of the frame at another port
-came : (pgn : ℕ) {ports from : ℕ} {start words after : List ℕ} {f : Frame} {accepted lost reasons compared bit weight at n : ℕ} {r : Share}
+came : (pgn : ℕ) {ports from : ℕ} {start words after : List ℕ} {f : Frame} {accepted lost reasons compared bit weight at n : ℕ} {r : Offered}
     → Going ports start (question ports from pgn (modelOf ports start .rest)) f words accepted lost reasons compared bit weight n × Standing ports from at n
-    → from < ports → n < ports → (from ≡ n → ⊥) → SendingAt words after at n bit weight pgn f r → Sending ports words after (question ports from pgn (modelOf ports start .rest) n) n bit weight f r
+    → from < ports → n < ports → (from ≡ n → ⊥) → SendingAt words after at n pgn f r → Sending ports words after (question ports from pgn (modelOf ports start .rest) n) n f r
 came pgn {ports} {from} I port more ne S =
     asked-still (question ports from pgn) (I .0) (S ports from more ne (stand-count port (I .1) ne more) (stand-pair port (I .1) ne))
 
@@ -46,76 +46,69 @@ send-requires c κs =
     let at-loop = at-if .before .before in
     let port = at-loop .before .before .before .pre .2 in
     let L = at-loop .loop .inv .1 in
-    omega (arith, stand-pair port L (at-if .if1 .taken), stand-count port L (at-if .if1 .taken) (at-if .before .loop-test .taken), weight-small (at-loop .loop .inv .0) (at-if .before .loop-test .taken))
+    omega (arith, stand-pair port L (at-if .if1 .taken), stand-count port L (at-if .if1 .taken) (at-if .before .loop-test .taken))
 
-add-accepted : tie.Need-add-accepted Inv-loop μ-loop
-add-accepted c =
+cast-reasons : tie.Need-cast-reasons Inv-loop μ-loop
+cast-reasons c = omega (arith, c .struct-known .given)
+
+mul-reasons : tie.Need-mul-reasons Inv-loop μ-loop
+mul-reasons c =
     let at-send = c .before .before .before in
     let at-if = at-send .before .before in
     let at-loop = at-if .before .before in
     let start = at-loop .before .before .before in
     let more = at-if .before .loop-test .taken in
     let S = came (start .args .pgn) (at-loop .loop .inv) (start .pre .2) more (at-if .if1 .taken) (at-send .send .ensures) in
-    omega (arith, sums (at-loop .loop .inv .0) S more .0)
+    omega (arith, reasons-small (at-loop .loop .inv .0) S more)
 
-add-lost : tie.Need-add-lost Inv-loop μ-loop
-add-lost c =
+add-reasons : tie.Need-add-reasons Inv-loop μ-loop
+add-reasons c =
+    let at-send = c .before .before .before in
+    let at-if = at-send .before .before in
+    let at-loop = at-if .before .before in
+    let start = at-loop .before .before .before in
+    let more = at-if .before .loop-test .taken in
+    let S = came (start .args .pgn) (at-loop .loop .inv) (start .pre .2) more (at-if .if1 .taken) (at-send .send .ensures) in
+    omega (arith, reasons-small (at-loop .loop .inv .0) S more)
+
+add-compared : tie.Need-add-compared Inv-loop μ-loop
+add-compared c =
     let at-send = c .before .before .before .before in
     let at-if = at-send .before .before in
     let at-loop = at-if .before .before in
     let start = at-loop .before .before .before in
     let more = at-if .before .loop-test .taken in
     let S = came (start .args .pgn) (at-loop .loop .inv) (start .pre .2) more (at-if .if1 .taken) (at-send .send .ensures) in
-    omega (arith, sums (at-loop .loop .inv .0) S more .1)
-
-add-reasons : tie.Need-add-reasons Inv-loop μ-loop
-add-reasons c =
-    let at-send = c .before .before .before .before .before in
-    let at-if = at-send .before .before in
-    let at-loop = at-if .before .before in
-    let start = at-loop .before .before .before in
-    let more = at-if .before .loop-test .taken in
-    let S = came (start .args .pgn) (at-loop .loop .inv) (start .pre .2) more (at-if .if1 .taken) (at-send .send .ensures) in
-    omega (arith, sums (at-loop .loop .inv .0) S more .3)
-
-add-compared : tie.Need-add-compared Inv-loop μ-loop
-add-compared c =
-    let at-send = c .before .before .before .before .before .before in
-    let at-if = at-send .before .before in
-    let at-loop = at-if .before .before in
-    let start = at-loop .before .before .before in
-    let more = at-if .before .loop-test .taken in
-    let S = came (start .args .pgn) (at-loop .loop .inv) (start .pre .2) more (at-if .if1 .taken) (at-send .send .ensures) in
-    omega (arith, sums (at-loop .loop .inv .0) S more .2)
+    omega (arith, compared-small (at-loop .loop .inv .0) S more)
 
 add-at : tie.Need-add-at Inv-loop μ-loop
 add-at c =
-    let at-if = c .before .before .before .before .before .before .before .before in
+    let at-if = c .before .before .before .before .before .before in
     let at-loop = at-if .before .before in
     let start = at-loop .before .before .before in
     let L = at-loop .loop .inv .1 in
     omega (arith, stand-pair (start .pre .2) L (at-if .if1 .taken), stand-count (start .pre .2) L (at-if .if1 .taken) (at-if .before .loop-test .taken), pairs-most {ports = start .args .ports} (start .pre .0))
 
--- where the ways meet, one more port is passed
-stepped : (c : tie.Joined1 Inv-loop μ-loop) → let at-loop = c .before .before in let args = at-loop .before .before .before .args in Going (args .ports) (args .words .now) (question (args .ports) (args .from) (args .pgn) (modelOf (args .ports) (args .words .now) .rest)) (args .f) (c .if1 .words) (c .if1 .accepted) (c .if1 .lost) (c .if1 .reasons) (c .if1 .compared) (2 * at-loop .loop .bit) (16 * at-loop .loop .weight) (at-loop .loop .to + 1) × Standing (args .ports) (args .from) (c .if1 .at) (at-loop .loop .to + 1)
-stepped c =
-    let at-loop = c .before .before in
-    let start = at-loop .before .before .before in
-    let args = start .args in
-    let port = start .pre .2 in
-    let more = c .before .loop-test .taken in
-    let G = at-loop .loop .inv .0 in
-    let L = at-loop .loop .inv .1 in
-    ⊎-elim
-    (λ w. rw (w .9, w .10, w .11, w .12, w .13, w .14) (
-      going-more G (came (args .pgn) (at-loop .loop .inv) port more (w .0 .taken) (w .2 .ensures)) more (omega arith),
-      stand-next port L (w .0 .taken),
-    ))
-    (λ w. rw (w .1, w .2, w .3, w .4, w .5, w .6) (
-      going-self G more (asked-still (question (args .ports) (args .from) (args .pgn)) G (send-self (args .pgn) (w .0 .left))),
-      stand-self port L (w .0 .left),
-    ))
-    (c .if1 .came)
+enum-told : tie.Need-enum-told Inv-loop μ-loop
+enum-told c = c .match .keys1
+
+enum-told-2 : tie.Need-enum-told-2 Inv-loop μ-loop
+enum-told-2 c = c .match .keys2
+
+add-accepted : tie.Need-add-accepted Inv-loop μ-loop
+add-accepted c =
+    let at-loop = c .before .before .before .before .before .before .before .before .before .before in
+    let more = c .before .before .before .before .before .before .before .before .before .loop-test .taken in
+    omega (arith, sets-small (at-loop .loop .inv .0) more .0)
+
+enum-told-3 : tie.Need-enum-told-3 Inv-loop μ-loop
+enum-told-3 c = c .match .keys3
+
+add-lost : tie.Need-add-lost Inv-loop μ-loop
+add-lost c =
+    let at-loop = c .before .before .before .before .before .before .before .before .before .before in
+    let more = c .before .before .before .before .before .before .before .before .before .loop-test .taken in
+    omega (arith, sets-small (at-loop .loop .inv .0) more .1)
 
 mul-bit : tie.Need-mul-bit Inv-loop μ-loop
 mul-bit c = omega (arith, bit-small (c .before .before .loop .inv .0 .along) (c .before .loop-test .taken))
@@ -130,7 +123,36 @@ loop-less : tie.Need-loop-less Inv-loop μ-loop
 loop-less c = omega arith
 
 loop-again : tie.Need-loop-again Inv-loop μ-loop
-loop-again c = stepped c
+loop-again c =
+    let at-loop = c .before .before in
+    let start = at-loop .before .before .before in
+    let args = start .args in
+    let port = start .pre .2 in
+    let more = c .before .loop-test .taken in
+    let G = at-loop .loop .inv .0 in
+    let L = at-loop .loop .inv .1 in
+    ⊎-elim
+    (λ w. rw (w .9, w .10, w .11, w .12, w .13, w .14) (
+      going-stopped G (came (args .pgn) (at-loop .loop .inv) port more (w .0 .taken) (w .2 .ensures)) more (w .8 .given .1) (omega arith),
+      stand-next port L (w .0 .taken),
+    ))
+    (λ w. ⊎-elim
+    (λ w. rw (w .9, w .10, w .11, w .12, w .13, w .14) (
+      going-joined G (came (args .pgn) (at-loop .loop .inv) port more (w .0 .taken) (w .2 .ensures)) more (w .8 .given .1) (omega arith),
+      stand-next port L (w .0 .taken),
+    ))
+    (λ w. ⊎-elim
+    (λ w. rw (w .9, w .10, w .11, w .12, w .13, w .14) (
+      going-lost G (came (args .pgn) (at-loop .loop .inv) port more (w .0 .taken) (w .2 .ensures)) more (w .8 .given .1) (omega arith),
+      stand-next port L (w .0 .taken),
+    ))
+    (λ w. rw (w .1, w .2, w .3, w .4, w .5, w .6) (
+      going-self G more (asked-still (question (args .ports) (args .from) (args .pgn)) G (send-self (args .pgn) (w .0 .left))),
+      stand-self port L (w .0 .left),
+    ))
+    w)
+    w)
+    (c .if1 .came)
 
 same-length : tie.Need-same-length Inv-loop μ-loop
 same-length c = omega arith
@@ -147,11 +169,16 @@ offer-spec =
     filters-from-requires
     loop-holds
     send-requires
-    add-accepted
-    add-lost
+    cast-reasons
+    mul-reasons
     add-reasons
     add-compared
     add-at
+    enum-told
+    enum-told-2
+    add-accepted
+    enum-told-3
+    add-lost
     mul-bit
     mul-weight
     add-to

@@ -1,9 +1,7 @@
 -- `forwarding::send` meets its contract, by the way that the code went. Assumes nothing.
 use mathlib.Core.Bool.{true, false}
 use mathlib.Core.Path.{sym, _∙_}
-use native.Mathlib.Omega.{arith}
-use Rattle.filter.proofs.Reasons.{reason-below}
-use Rattle.forwarding.proofs.Sends.{told-small, send-stopped, send-permitted}
+use Rattle.forwarding.proofs.Sends.{send-stopped, send-permitted}
 use borrow.Author.Needs.{needs}
 use Rattle.forwarding.proofs.send.Statement.{statement}
 use Rattle.forwarding.proofs.send.Tie as tie
@@ -13,14 +11,6 @@ ask-filter-requires c κs = search needs
 
 number-requires : tie.Need-number-requires
 number-requires c κs = search needs
-
-cast-reasons : tie.Need-cast-reasons
-cast-reasons c = search needs
-
-mul-reasons : tie.Need-mul-reasons
-mul-reasons c =
-    let start = c .before .before .before .before in
-    omega (arith, told-small (start .args .weight) (c .number .result) (start .pre .2) (rw (c .number .ensures) (reason-below (c .before .ask-filter .result .reason))))
 
 crosses-requires : tie.Need-crosses-requires
 crosses-requires c κs = search needs
@@ -69,8 +59,6 @@ send-spec =
     (tie.spec
     ask-filter-requires
     number-requires
-    cast-reasons
-    mul-reasons
     crosses-requires
     join-row-requires
     same-length

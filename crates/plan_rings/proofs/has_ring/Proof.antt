@@ -35,7 +35,7 @@ links-again-requires : tie.Need-links-again-requires Inv-loop μ-loop
 links-again-requires c κs =
     let at-loop = c .before .before in
     let start = at-loop .before .before .before .before .before in
-    (omega arith, start .pre .2 (at-loop .loop .link) (c .before .loop-test .taken), omega arith, at-loop .loop .inv [] .labeled .long)
+    (omega arith, start .pre .2 (at-loop .loop .link) (c .before .loop-test .taken), omega arith, at-loop .loop .inv [] .labeled .long, at-loop .loop .inv [] .labeled .fresh)
 
 returns : tie.Need-returns Inv-loop μ-loop
 returns c lists =

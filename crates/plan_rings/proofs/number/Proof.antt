@@ -1,6 +1,7 @@
 -- `plan_rings::number` meets its contract: the places below i have their own label. Assumes nothing.
 use Prim.Native.Nat.{_-_}
 use native.Mathlib.Omega.{arith}
+use Rattle.plan_rings.specs.Rings.{nodes}
 use Rattle.plan_rings.proofs.Labels.{NumberedTo, number-start, number-more, number-done}
 use Rattle.plan_rings.proofs.number.Statement.{statement}
 use Rattle.plan_rings.proofs.number.Tie as tie
@@ -9,13 +10,13 @@ abbrev Inv-loop : tie.InvT-loop
 Inv-loop labels₀ i₀ labels i = NumberedTo labels i
 
 abbrev μ-loop : tie.MeasureT-loop
-μ-loop labels₀ i₀ labels i = 33 - i
+μ-loop labels₀ i₀ labels i = nodes - i
 
 loop-holds : tie.Need-loop-holds Inv-loop μ-loop
 loop-holds c = number-start (omega arith)
 
-mul-labels : tie.Need-mul-labels Inv-loop μ-loop
-mul-labels c = omega arith
+cast-labels : tie.Need-cast-labels Inv-loop μ-loop
+cast-labels c = omega arith
 
 slice-write-labels : tie.Need-slice-write-labels Inv-loop μ-loop
 slice-write-labels c = omega arith
@@ -42,7 +43,7 @@ number-spec =
     Inv-loop
     μ-loop
     loop-holds
-    mul-labels
+    cast-labels
     slice-write-labels
     add-i
     loop-less

@@ -1,15 +1,16 @@
 -- `plan_walk::from_segment` and `plan_walk::from_unit`, which call each other, meet their contracts. The measure of both is the number of unvisited units and segments: each marks one before it calls the other.
 -- Assumes nothing.
 use native.Mathlib.Omega.{arith}
+use borrow.Author.Needs.{needs}
 use Prim.Native.Nat.{_+_, _-_, _*_}
-use mathlib.Core.Path.{sym, _∙_}
-use mathlib.Core.Bool.{true≢false}
+use mathlib.Core.Path.{_≡_, sym, _∙_}
 use mathlib.Core.Logic.{⊎-elim}
-use lib.ListN.{length-set}
+use lib.ListN.{getD}
 use Rattle.plan_shape.specs.Plan.{planOf}
 use Rattle.plan_walk.specs.Walk.{unitPlace, unvisited}
 use Rattle.plan_walk.proofs.Marks.{falls-to}
-use Rattle.plan_walk.proofs.Turns.{FromSegment, FromUnit, walk-marked, walk-told, unit-start, unit-past, unit-more, unit-done, segment-start, segment-past, segment-more, segment-done}
+use Rattle.plan_walk.proofs.Bits.{shifted}
+use Rattle.plan_walk.proofs.Turns.{FromSegment, FromUnit, walk-marked, walk-told, unit-start, unit-past, unit-more, unit-done, segment-start, segment-past, segment-more, segment-next, segment-done}
 use Prim.Native.Nat.{ℕ, _<_}
 use borrow.Fn.Kinds.{In}
 use borrow.Fn.PlainCycle.{Measures, is, falls, and}
@@ -19,16 +20,16 @@ use Rattle.plan_walk.proofs.+from_segment+from_unit.Lts-from_segment as
 use Rattle.plan_walk.proofs.from_unit.Reads as from-unit
 use Rattle.plan_walk.proofs.from_unit.Kinds as from-unit-kinds
 use Rattle.plan_walk.proofs.+from_segment+from_unit.Lts-from_unit as from-unit-lts
-use Rattle.plan_walk.proofs.enters.Reads as enters-reads
 use Rattle.plan_walk.proofs.further.Reads as further-reads
+use Rattle.plan_walk.proofs.wide.Reads as wide-reads
 use Rattle.plan_walk.proofs.+from_segment+from_unit.{statement}
 use Rattle.plan_walk.proofs.+from_segment+from_unit.Tie.{close}
 
 abbrev μ-from-segment : Measures 4 from-segment-kinds.ps ℕ
-μ-from-segment κs a = unvisited (a .1 .1 .1 .1 .1 .0 .now)
+μ-from-segment κs a = unvisited (a .1 .1 .1 .1 .1 .1 .0 .now)
 
 abbrev μ-from-unit : Measures 4 from-unit-kinds.ps ℕ
-μ-from-unit κs a = unvisited (a .1 .1 .1 .1 .1 .1 .0 .now)
+μ-from-unit κs a = unvisited (a .1 .1 .1 .1 .1 .1 .1 .0 .now)
 
 abbrev from-segment-at : ℕ → In 4 from-segment-kinds.ps
 from-segment-at t =
@@ -50,166 +51,174 @@ from-unit-below t =
     and 4 from-unit-kinds.ps (falls 4 from-unit-kinds.ps _<_ μ-from-unit t) from-unit.Pre
 
 abbrev from-segment-Inv-loop : from-segment-lts.InvT-loop
-from-segment-Inv-loop ports lists units pgn segment visited₀ heard₀ end link₀ visited heard link =
-    FromSegment (planOf units ports lists) pgn visited₀ heard₀ segment visited heard link
+from-segment-Inv-loop ports lists units pgn segment chain visited₀ heard all₀ end link₀ visited all link =
+    FromSegment (planOf units ports lists) pgn chain visited₀ all₀ segment visited all link × (link < end → getD ports link 0 ≡ segment)
 
 abbrev from-segment-μ-loop : from-segment-lts.MeasureT-loop
-from-segment-μ-loop ports lists units pgn segment visited₀ heard₀ end link₀ visited heard link = end - link
+from-segment-μ-loop ports lists units pgn segment chain visited₀ heard all₀ end link₀ visited all link = end - link
 
-from-segment-mul-visited : (t : ℕ) → from-segment-lts.Need-mul-visited (
-  enters-reads.Asked,
-  enters-reads.Learnt,
+from-segment-element-write-visited : (t : ℕ) → from-segment-lts.Need-element-write-visited (
+  wide-reads.Asked,
+  wide-reads.Learnt,
   from-unit-below t,
   from-unit.Post,
 ) (from-segment-at t) from-segment.Post from-segment-Inv-loop from-segment-μ-loop
-from-segment-mul-visited t c = omega arith
+from-segment-element-write-visited t c = omega arith
 
-from-segment-slice-write-visited : (t : ℕ) → from-segment-lts.Need-slice-write-visited (
-  enters-reads.Asked,
-  enters-reads.Learnt,
+from-segment-shl-all : (t : ℕ) → from-segment-lts.Need-shl-all (
+  wide-reads.Asked,
+  wide-reads.Learnt,
   from-unit-below t,
   from-unit.Post,
 ) (from-segment-at t) from-segment.Post from-segment-Inv-loop from-segment-μ-loop
-from-segment-slice-write-visited t c = omega arith
-
-from-segment-mul-heard : (t : ℕ) → from-segment-lts.Need-mul-heard (
-  enters-reads.Asked,
-  enters-reads.Learnt,
-  from-unit-below t,
-  from-unit.Post,
-) (from-segment-at t) from-segment.Post from-segment-Inv-loop from-segment-μ-loop
-from-segment-mul-heard t c = omega arith
-
-from-segment-slice-write-heard : (t : ℕ) → from-segment-lts.Need-slice-write-heard (
-  enters-reads.Asked,
-  enters-reads.Learnt,
-  from-unit-below t,
-  from-unit.Post,
-) (from-segment-at t) from-segment.Post from-segment-Inv-loop from-segment-μ-loop
-from-segment-slice-write-heard t c = omega arith
+from-segment-shl-all t c = omega arith
 
 from-segment-mul-end : (t : ℕ) → from-segment-lts.Need-mul-end (
-  enters-reads.Asked,
-  enters-reads.Learnt,
+  wide-reads.Asked,
+  wide-reads.Learnt,
   from-unit-below t,
   from-unit.Post,
 ) (from-segment-at t) from-segment.Post from-segment-Inv-loop from-segment-μ-loop
 from-segment-mul-end t c = omega arith
 
+from-segment-element-copy-out-wide : (t : ℕ) → from-segment-lts.Need-element-copy-out-wide (
+  wide-reads.Asked,
+  wide-reads.Learnt,
+  from-unit-below t,
+  from-unit.Post,
+) (from-segment-at t) from-segment.Post from-segment-Inv-loop from-segment-μ-loop
+from-segment-element-copy-out-wide t c = omega arith
+
+from-segment-wide-requires : (t : ℕ) → from-segment-lts.Need-wide-requires (
+  wide-reads.Asked,
+  wide-reads.Learnt,
+  from-unit-below t,
+  from-unit.Post,
+) (from-segment-at t) from-segment.Post from-segment-Inv-loop from-segment-μ-loop
+from-segment-wide-requires t c κs = search needs
+
 from-segment-loop-holds : (t : ℕ) → from-segment-lts.Need-loop-holds (
-  enters-reads.Asked,
-  enters-reads.Learnt,
+  wide-reads.Asked,
+  wide-reads.Learnt,
   from-unit-below t,
   from-unit.Post,
 ) (from-segment-at t) from-segment.Post from-segment-Inv-loop from-segment-μ-loop
 from-segment-loop-holds t c =
     let start = c .before .before .before .before in
-    segment-start (walk-told (start .args .segment) (walk-marked (start .args .segment) (start .pre .1 .0)))
+    let segment = start .args .segment in
+    let N = start .pre .1 .0 .chained .first segment (start .pre .1 .1) (start .pre .1 .2) in
+    let F = segment-start (walk-told (start .pre .1 .2) (walk-marked segment (start .pre .1 .0))) in
+    rw (c .wide .ensures, shifted (start .pre .1 .2)) (segment-next F N, N .on)
 
-from-segment-enters-requires : (t : ℕ) → from-segment-lts.Need-enters-requires (
-  enters-reads.Asked,
-  enters-reads.Learnt,
+from-segment-add-if1 : (t : ℕ) → from-segment-lts.Need-add-if1 (
+  wide-reads.Asked,
+  wide-reads.Learnt,
   from-unit-below t,
   from-unit.Post,
 ) (from-segment-at t) from-segment.Post from-segment-Inv-loop from-segment-μ-loop
-from-segment-enters-requires t c κs =
-    let at-loop = c .before .before in
-    let W = at-loop .loop .inv .walk in
-    omega arith
+from-segment-add-if1 t c = omega arith
+
+from-segment-element-copy-out-if1 : (t : ℕ) → from-segment-lts.Need-element-copy-out-if1 (
+  wide-reads.Asked,
+  wide-reads.Learnt,
+  from-unit-below t,
+  from-unit.Post,
+) (from-segment-at t) from-segment.Post from-segment-Inv-loop from-segment-μ-loop
+from-segment-element-copy-out-if1 t c = omega arith
 
 from-segment-from-unit-requires : (t : ℕ) → from-segment-lts.Need-from-unit-requires (
-  enters-reads.Asked,
-  enters-reads.Learnt,
+  wide-reads.Asked,
+  wide-reads.Learnt,
   from-unit-below t,
   from-unit.Post,
 ) (from-segment-at t) from-segment.Post from-segment-Inv-loop from-segment-μ-loop
 from-segment-from-unit-requires t c κs =
-    let at-loop = c .before .before .before .before .before .before in
+    let at-loop = c .before .before .before .before in
     let start = at-loop .before .before .before .before .before in
-    let F = at-loop .loop .inv in
-    let on = c .before .before .before .enters .ensures .0 (c .before .before .if1 .taken) in
-    (falls-to (start .args .visited .now) (start .args .segment) (F .still) (omega arith) (start .pre .1 .3) (start .pre .0), (F .walk, omega arith, omega arith, on .1))
+    let F = at-loop .loop .inv .0 in
+    (falls-to (start .args .visited .now) (start .args .segment) (F .still) (omega arith) (start .pre .1 .3) (start .pre .0), (F .walk, omega arith, omega arith, c .before .if1 .taken))
 
-from-segment-add-link : (t : ℕ) → from-segment-lts.Need-add-link (
-  enters-reads.Asked,
-  enters-reads.Learnt,
+from-segment-add-wide : (t : ℕ) → from-segment-lts.Need-add-wide (
+  wide-reads.Asked,
+  wide-reads.Learnt,
   from-unit-below t,
   from-unit.Post,
 ) (from-segment-at t) from-segment.Post from-segment-Inv-loop from-segment-μ-loop
-from-segment-add-link t c = omega arith
+from-segment-add-wide t c = omega arith
+
+from-segment-element-copy-out-wide-2 : (t : ℕ) → from-segment-lts.Need-element-copy-out-wide-2 (
+  wide-reads.Asked,
+  wide-reads.Learnt,
+  from-unit-below t,
+  from-unit.Post,
+) (from-segment-at t) from-segment.Post from-segment-Inv-loop from-segment-μ-loop
+from-segment-element-copy-out-wide-2 t c = omega arith
+
+from-segment-wide-requires-2 : (t : ℕ) → from-segment-lts.Need-wide-requires-2 (
+  wide-reads.Asked,
+  wide-reads.Learnt,
+  from-unit-below t,
+  from-unit.Post,
+) (from-segment-at t) from-segment.Post from-segment-Inv-loop from-segment-μ-loop
+from-segment-wide-requires-2 t c κs = search needs
 
 from-segment-loop-less : (t : ℕ) → from-segment-lts.Need-loop-less (
-  enters-reads.Asked,
-  enters-reads.Learnt,
+  wide-reads.Asked,
+  wide-reads.Learnt,
   from-unit-below t,
   from-unit.Post,
 ) (from-segment-at t) from-segment.Post from-segment-Inv-loop from-segment-μ-loop
-from-segment-loop-less t c = omega arith
+from-segment-loop-less t c =
+    let at-loop = c .before .before .before .before .before in
+    let start = at-loop .before .before .before .before .before in
+    let more = c .before .before .before .before .loop-test .taken in
+    let on = at-loop .loop .inv .1 more in
+    let N = start .pre .1 .0 .chained .next (at-loop .loop .link) (omega arith) more (λ z. start .pre .1 .1 (sym on ∙ z)) in
+    omega (arith, N .onward, c .wide2 .ensures)
 
 from-segment-loop-again : (t : ℕ) → from-segment-lts.Need-loop-again (
-  enters-reads.Asked,
-  enters-reads.Learnt,
+  wide-reads.Asked,
+  wide-reads.Learnt,
   from-unit-below t,
   from-unit.Post,
 ) (from-segment-at t) from-segment.Post from-segment-Inv-loop from-segment-μ-loop
 from-segment-loop-again t c =
-    let at-loop = c .before .before .before .before in
-    let F = at-loop .loop .inv in
-    let more = c .before .before .before .loop-test .taken in
-    let entering = c .before .enters .ensures in
+    let at-loop = c .before .before .before .before .before in
+    let start = at-loop .before .before .before .before .before in
+    let F = at-loop .loop .inv .0 in
+    let more = c .before .before .before .before .loop-test .taken in
+    let on = at-loop .loop .inv .1 more in
+    let N = rw on at (start .pre .1 .0 .chained .next (at-loop .loop .link) (omega arith) more (λ z. start .pre .1 .1 (sym on ∙ z))) in
     ⊎-elim
-    (λ w. rw (w .8, w .9) (segment-more F more (entering .0 (w .0 .taken)) (w .3 .kept .1 .1 .1 .1 .1 .1 .1 .0) (w .3 .ensures)))
-    (λ w. rw (w .1, w .2) (segment-past F more (λ on. true≢false (sym (entering .1 on) ∙ w .0 .left))))
-    (c .if1 .came)
+    (λ w. rw (w .3, w .4, c .wide2 .ensures) (segment-next (segment-more F more (on, w .0 .taken) (w .2 .ensures)) N, N .on))
+    (λ w. rw (w .1, w .2, c .wide2 .ensures) (segment-next (segment-past F more (λ e. w .0 .left (e .1))) N, N .on))
+    (c .before .before .if1 .came)
 
-from-segment-mul-visited-2 : (t : ℕ) → from-segment-lts.Need-mul-visited-2 (
-  enters-reads.Asked,
-  enters-reads.Learnt,
+from-segment-element-write-visited-2 : (t : ℕ) → from-segment-lts.Need-element-write-visited-2 (
+  wide-reads.Asked,
+  wide-reads.Learnt,
   from-unit-below t,
   from-unit.Post,
 ) (from-segment-at t) from-segment.Post from-segment-Inv-loop from-segment-μ-loop
-from-segment-mul-visited-2 t c = omega arith
-
-from-segment-slice-write-visited-2 : (t : ℕ) → from-segment-lts.Need-slice-write-visited-2 (
-  enters-reads.Asked,
-  enters-reads.Learnt,
-  from-unit-below t,
-  from-unit.Post,
-) (from-segment-at t) from-segment.Post from-segment-Inv-loop from-segment-μ-loop
-from-segment-slice-write-visited-2 t c = omega arith
-
-from-segment-same-length : (t : ℕ) → from-segment-lts.Need-same-length (
-  enters-reads.Asked,
-  enters-reads.Learnt,
-  from-unit-below t,
-  from-unit.Post,
-) (from-segment-at t) from-segment.Post from-segment-Inv-loop from-segment-μ-loop
-from-segment-same-length t c = simp length-set (omega (arith, c .before .loop .inv .walk))
-
-from-segment-same-length-2 : (t : ℕ) → from-segment-lts.Need-same-length-2 (
-  enters-reads.Asked,
-  enters-reads.Learnt,
-  from-unit-below t,
-  from-unit.Post,
-) (from-segment-at t) from-segment.Post from-segment-Inv-loop from-segment-μ-loop
-from-segment-same-length-2 t c = omega arith
+from-segment-element-write-visited-2 t c = omega arith
 
 from-segment-returns : (t : ℕ) → from-segment-lts.Need-returns (
-  enters-reads.Asked,
-  enters-reads.Learnt,
+  wide-reads.Asked,
+  wide-reads.Learnt,
   from-unit-below t,
   from-unit.Post,
 ) (from-segment-at t) from-segment.Post from-segment-Inv-loop from-segment-μ-loop
 from-segment-returns t c =
     let at-loop = c .before in
     let start = at-loop .before .before .before .before .before in
-    segment-done (start .args .visited .now) (start .args .heard .now) (omega arith) (start .pre .1 .1) (omega arith) (start .pre .1 .3) (at-loop .loop .inv)
+    segment-done (start .args .visited .now) (start .args .heard) (omega arith) (start .pre .1 .1) (start .pre .1 .3) (rw (shifted (start .pre .1 .2)) at (at-loop .loop .inv .0))
 
 abbrev from-unit-Inv-loop : from-unit-lts.InvT-loop
-from-unit-Inv-loop ports lists units pgn unit entered visited₀ heard₀ port₀ visited heard port = FromUnit (planOf units ports lists) pgn visited₀ heard₀ unit entered visited heard port
+from-unit-Inv-loop ports lists units pgn unit entered chain visited₀ heard all₀ port₀ visited all port =
+    FromUnit (planOf units ports lists) pgn chain visited₀ all₀ unit entered visited all port
 
 abbrev from-unit-μ-loop : from-unit-lts.MeasureT-loop
-from-unit-μ-loop ports lists units pgn unit entered visited₀ heard₀ port₀ visited heard port = 8 - port
+from-unit-μ-loop ports lists units pgn unit entered chain visited₀ heard all₀ port₀ visited all port = 8 - port
 
 from-unit-add-visited : (t : ℕ) → from-unit-lts.Need-add-visited (
   further-reads.Asked,
@@ -219,21 +228,13 @@ from-unit-add-visited : (t : ℕ) → from-unit-lts.Need-add-visited (
 ) (from-unit-at t) from-unit.Post from-unit-Inv-loop from-unit-μ-loop
 from-unit-add-visited t c = omega arith
 
-from-unit-mul-visited : (t : ℕ) → from-unit-lts.Need-mul-visited (
+from-unit-element-write-visited : (t : ℕ) → from-unit-lts.Need-element-write-visited (
   further-reads.Asked,
   further-reads.Learnt,
   from-segment-below t,
   from-segment.Post,
 ) (from-unit-at t) from-unit.Post from-unit-Inv-loop from-unit-μ-loop
-from-unit-mul-visited t c = omega arith
-
-from-unit-slice-write-visited : (t : ℕ) → from-unit-lts.Need-slice-write-visited (
-  further-reads.Asked,
-  further-reads.Learnt,
-  from-segment-below t,
-  from-segment.Post,
-) (from-unit-at t) from-unit.Post from-unit-Inv-loop from-unit-μ-loop
-from-unit-slice-write-visited t c = omega arith
+from-unit-element-write-visited t c = omega arith
 
 from-unit-loop-holds : (t : ℕ) → from-unit-lts.Need-loop-holds (
   further-reads.Asked,
@@ -242,7 +243,7 @@ from-unit-loop-holds : (t : ℕ) → from-unit-lts.Need-loop-holds (
   from-segment.Post,
 ) (from-unit-at t) from-unit.Post from-unit-Inv-loop from-unit-μ-loop
 from-unit-loop-holds t c =
-    let start = c .before .before .before .before in
+    let start = c .before .before in
     unit-start (walk-marked (unitPlace (start .args .unit)) (start .pre .1 .0))
 
 from-unit-further-requires : (t : ℕ) → from-unit-lts.Need-further-requires (
@@ -253,7 +254,7 @@ from-unit-further-requires : (t : ℕ) → from-unit-lts.Need-further-requires (
 ) (from-unit-at t) from-unit.Post from-unit-Inv-loop from-unit-μ-loop
 from-unit-further-requires t c κs =
     let at-loop = c .before .before in
-    let start = at-loop .before .before .before .before .before in
+    let start = at-loop .before .before .before in
     let W = at-loop .loop .inv .walk in
     omega (arith, W .bounded .inRange (8 * start .args .unit + at-loop .loop .port) (omega arith))
 
@@ -264,11 +265,11 @@ from-unit-from-segment-requires : (t : ℕ) → from-unit-lts.Need-from-segment-
   from-segment.Post,
 ) (from-unit-at t) from-unit.Post from-unit-Inv-loop from-unit-μ-loop
 from-unit-from-segment-requires t c κs =
-    let at-loop = c .before .before .before .before .before .before in
-    let start = at-loop .before .before .before .before .before in
+    let at-loop = c .before .before .before .before .before in
+    let start = at-loop .before .before .before in
     let F = at-loop .loop .inv in
-    let on = c .before .before .before .further .ensures (start .args .units) .on (c .before .before .if1 .taken) in
-    (falls-to (start .args .visited .now) (unitPlace (start .args .unit)) (F .still) (omega arith) (start .pre .1 .3) (start .pre .0), (F .walk, c .before .before .if1 .taken, omega (arith, on .0, F .walk .bounded .inRange (8 * start .args .unit + at-loop .loop .port) (omega arith)), rw (on .0) (on .1 .unvisited)))
+    let on = c .before .before .further .ensures (start .args .units) .on (c .before .if1 .taken) in
+    (falls-to (start .args .visited .now) (unitPlace (start .args .unit)) (F .still) (omega arith) (start .pre .1 .3) (start .pre .0), (F .walk, c .before .if1 .taken, omega (arith, on .0, F .walk .bounded .inRange (8 * start .args .unit + at-loop .loop .port) (omega arith)), rw (on .0) (on .1 .unvisited)))
 
 from-unit-add-port : (t : ℕ) → from-unit-lts.Need-add-port (
   further-reads.Asked,
@@ -296,9 +297,9 @@ from-unit-loop-again t c =
     let at-loop = c .before .before .before .before in
     let F = at-loop .loop .inv in
     let more = c .before .before .before .loop-test .taken in
-    let going = c .before .further .ensures (at-loop .before .before .before .before .before .args .units) in
+    let going = c .before .further .ensures (at-loop .before .before .before .args .units) in
     ⊎-elim
-    (λ w. rw (w .8, w .9) (unit-more F going more (w .0 .taken) (w .3 .kept .1 .1 .1 .1 .1 .1 .0) (w .3 .ensures)))
+    (λ w. rw (w .3, w .4) (unit-more F going more (w .0 .taken) (w .2 .ensures)))
     (λ w. rw (w .1, w .2) (unit-past F going more (w .0 .left)))
     (c .if1 .came)
 
@@ -310,37 +311,13 @@ from-unit-add-visited-2 : (t : ℕ) → from-unit-lts.Need-add-visited-2 (
 ) (from-unit-at t) from-unit.Post from-unit-Inv-loop from-unit-μ-loop
 from-unit-add-visited-2 t c = omega arith
 
-from-unit-mul-visited-2 : (t : ℕ) → from-unit-lts.Need-mul-visited-2 (
+from-unit-element-write-visited-2 : (t : ℕ) → from-unit-lts.Need-element-write-visited-2 (
   further-reads.Asked,
   further-reads.Learnt,
   from-segment-below t,
   from-segment.Post,
 ) (from-unit-at t) from-unit.Post from-unit-Inv-loop from-unit-μ-loop
-from-unit-mul-visited-2 t c = omega arith
-
-from-unit-slice-write-visited-2 : (t : ℕ) → from-unit-lts.Need-slice-write-visited-2 (
-  further-reads.Asked,
-  further-reads.Learnt,
-  from-segment-below t,
-  from-segment.Post,
-) (from-unit-at t) from-unit.Post from-unit-Inv-loop from-unit-μ-loop
-from-unit-slice-write-visited-2 t c = omega arith
-
-from-unit-same-length : (t : ℕ) → from-unit-lts.Need-same-length (
-  further-reads.Asked,
-  further-reads.Learnt,
-  from-segment-below t,
-  from-segment.Post,
-) (from-unit-at t) from-unit.Post from-unit-Inv-loop from-unit-μ-loop
-from-unit-same-length t c = simp length-set (omega (arith, c .before .loop .inv .walk))
-
-from-unit-same-length-2 : (t : ℕ) → from-unit-lts.Need-same-length-2 (
-  further-reads.Asked,
-  further-reads.Learnt,
-  from-segment-below t,
-  from-segment.Post,
-) (from-unit-at t) from-unit.Post from-unit-Inv-loop from-unit-μ-loop
-from-unit-same-length-2 t c = omega arith
+from-unit-element-write-visited-2 t c = omega arith
 
 from-unit-returns : (t : ℕ) → from-unit-lts.Need-returns (
   further-reads.Asked,
@@ -350,13 +327,13 @@ from-unit-returns : (t : ℕ) → from-unit-lts.Need-returns (
 ) (from-unit-at t) from-unit.Post from-unit-Inv-loop from-unit-μ-loop
 from-unit-returns t c =
     let at-loop = c .before in
-    let start = at-loop .before .before .before .before .before in
+    let start = at-loop .before .before .before in
     unit-done (start .args .visited .now) (omega arith) (start .pre .1 .3) (at-loop .loop .inv)
 
 pub +from-segment+from-unit-spec : {M : Type 1} → statement M
 +from-segment+from-unit-spec = close μ-from-segment μ-from-unit (λ t. from-segment-lts.spec (
-  enters-reads.Asked,
-  enters-reads.Learnt,
+  wide-reads.Asked,
+  wide-reads.Learnt,
   from-unit-below t,
   from-unit.Post,
 )
@@ -364,21 +341,21 @@ pub +from-segment+from-unit-spec : {M : Type 1} → statement M
     from-segment.Post
     from-segment-Inv-loop
     from-segment-μ-loop
-    (from-segment-mul-visited t)
-    (from-segment-slice-write-visited t)
-    (from-segment-mul-heard t)
-    (from-segment-slice-write-heard t)
+    (from-segment-element-write-visited t)
+    (from-segment-shl-all t)
     (from-segment-mul-end t)
+    (from-segment-element-copy-out-wide t)
+    (from-segment-wide-requires t)
     (from-segment-loop-holds t)
-    (from-segment-enters-requires t)
+    (from-segment-add-if1 t)
+    (from-segment-element-copy-out-if1 t)
     (from-segment-from-unit-requires t)
-    (from-segment-add-link t)
+    (from-segment-add-wide t)
+    (from-segment-element-copy-out-wide-2 t)
+    (from-segment-wide-requires-2 t)
     (from-segment-loop-less t)
     (from-segment-loop-again t)
-    (from-segment-mul-visited-2 t)
-    (from-segment-slice-write-visited-2 t)
-    (from-segment-same-length t)
-    (from-segment-same-length-2 t)
+    (from-segment-element-write-visited-2 t)
     (from-segment-returns t))
     λ t. from-unit-lts.spec
     (further-reads.Asked, further-reads.Learnt, from-segment-below t, from-segment.Post)
@@ -387,8 +364,7 @@ pub +from-segment+from-unit-spec : {M : Type 1} → statement M
     from-unit-Inv-loop
     from-unit-μ-loop
     (from-unit-add-visited t)
-    (from-unit-mul-visited t)
-    (from-unit-slice-write-visited t)
+    (from-unit-element-write-visited t)
     (from-unit-loop-holds t)
     (from-unit-further-requires t)
     (from-unit-from-segment-requires t)
@@ -396,8 +372,5 @@ pub +from-segment+from-unit-spec : {M : Type 1} → statement M
     (from-unit-loop-less t)
     (from-unit-loop-again t)
     (from-unit-add-visited-2 t)
-    (from-unit-mul-visited-2 t)
-    (from-unit-slice-write-visited-2 t)
-    (from-unit-same-length t)
-    (from-unit-same-length-2 t)
+    (from-unit-element-write-visited-2 t)
     (from-unit-returns t)

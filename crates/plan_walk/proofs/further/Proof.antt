@@ -24,11 +24,8 @@ shared-slice-read-segment c = search needs
 returns-2 : tie.Need-returns-2
 returns-2 c units = stopped (λ g. g .used (c .if2 .taken))
 
-mul-if3 : tie.Need-mul-if3
-mul-if3 c = search needs
-
-shared-slice-read-if3 : tie.Need-shared-slice-read-if3
-shared-slice-read-if3 c = search needs
+element-copy-out-if3 : tie.Need-element-copy-out-if3
+element-copy-out-if3 c = search needs
 
 returns-3 : tie.Need-returns-3
 returns-3 c units = stopped (λ g. c .if3 .taken (g .unvisited))
@@ -59,8 +56,7 @@ further-spec =
     mul-segment-2
     shared-slice-read-segment
     returns-2
-    mul-if3
-    shared-slice-read-if3
+    element-copy-out-if3
     returns-3
     permits-requires
     returns-4
