@@ -27,7 +27,7 @@ static bool may_start(const struct gateway *gateway, int64_t now)
     return up == gateway->options.ports || (up > 0 && now >= gateway->began_at + START_PATIENCE);
 }
 
-static bool start(struct gateway *gateway)
+static bool start(struct gateway *gateway, int64_t now)
 {
     uint64_t own_lost;
     uint32_t number = unit_start(&gateway->unit, &own_lost);
@@ -41,7 +41,7 @@ static bool start(struct gateway *gateway)
         gateway->ports[i].counts.own_lost += lost;
     }
     struct unit_answer told = unit_tell(&gateway->unit);
-    gateway->quiet_at = clock_now() + QUIET_AFTER;
+    gateway->quiet_at = now + QUIET_AFTER;
     log_line(LOG_INFO, "Start: NAME %016" PRIX64 " claims address %" PRIu32 ", %" PRIu32 " of %" PRIu32 " interfaces up", told.name, told.preferred,
              ports_up(gateway), gateway->options.ports);
     if (told.state == DEORASAENG_STATE_LOST) /* the ports are read already: with a lists file no claim was heard yet */
@@ -74,11 +74,16 @@ static bool quiet(struct gateway *gateway)
     return set_lists(gateway);
 }
 
+void gateway_contended(struct gateway *gateway, int64_t now)
+{
+    gateway->quiet_at = now + QUIET_AFTER;
+}
+
 bool gateway_claim(struct gateway *gateway, int64_t now)
 {
     enum deorasaeng_state state = unit_state(&gateway->unit);
     if (state == DEORASAENG_STATE_UNSTARTED && may_start(gateway, now))
-        return start(gateway);
+        return start(gateway, now);
     if (state == DEORASAENG_STATE_CLAIMING && now >= gateway->quiet_at)
         return quiet(gateway);
     return true;

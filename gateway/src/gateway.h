@@ -15,7 +15,7 @@ struct gateway {
     struct saver saver;
     bool reading;            /* the ports are read; not before the lists of a file stand */
     int64_t began_at;
-    int64_t quiet_at;        /* 250 ms after Start */
+    int64_t quiet_at;        /* 250 ms after Start, or after the last Defended */
     uint32_t kinds_told[GATEWAY_PORTS_MAX]; /* bit k: other_kind k was told */
 };
 
@@ -25,6 +25,9 @@ void gateway_receive(struct gateway *gateway, struct port *port, int64_t now);
 /* claim.c: Start once the interfaces are up, Quiet 250 ms later, then the lists of the file. False where the unit refuses Start or the lists. */
 bool gateway_claim(struct gateway *gateway, int64_t now);
 int64_t gateway_claim_deadline(const struct gateway *gateway);
+
+/* claim.c: another device contended for the address and the unit defended it: the 250 ms count anew. */
+void gateway_contended(struct gateway *gateway, int64_t now);
 
 /* receive.c: sends at every port that can. */
 void gateway_transmit(struct gateway *gateway, int64_t now);

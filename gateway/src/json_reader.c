@@ -4,6 +4,12 @@
 #include <string.h>
 
 #define DEPTH_MAX 16
+#define DIGITS_MAX 19 /* below 2^64 whatever they are */
+
+static const char *skip_blanks(const char *at)
+{
+    return at + strspn(at, " \t\r\n");
+}
 
 /* Behind a string whose opening quote stands at `at`, or NULL. */
 static const char *behind_string(const char *at)
@@ -43,39 +49,76 @@ static const char *behind(const char *value)
         return behind_string(value);
     if (*value == '{' || *value == '[')
         return behind_brackets(value);
-    size_t length = strcspn(value, ",]}");
+    size_t length = strcspn(value, ",]} \t\r\n");
     return value[length] == '\0' || length == 0 ? NULL : value + length;
 }
 
 const char *json_next(const char *element)
 {
     const char *end = element == NULL ? NULL : behind(element);
-    return end == NULL || *end != ',' ? NULL : end + 1;
+    end = end == NULL ? NULL : skip_blanks(end);
+    return end == NULL || *end != ',' ? NULL : skip_blanks(end + 1);
 }
 
 const char *json_first(const char *array)
 {
-    return array == NULL || array[0] != '[' || array[1] == ']' || array[1] == '\0' ? NULL : array + 1;
+    const char *first = array == NULL || *array != '[' ? NULL : skip_blanks(array + 1);
+    return first == NULL || *first == ']' || *first == '\0' ? NULL : first;
+}
+
+size_t json_length(const char *array)
+{
+    size_t length = 0;
+    for (const char *element = json_first(array); element != NULL; element = json_next(element))
+        length++;
+    return length;
+}
+
+const char *json_first_name(const char *object)
+{
+    const char *name = object == NULL || *object != '{' ? NULL : skip_blanks(object + 1);
+    return name == NULL || *name != '"' ? NULL : name;
+}
+
+const char *json_value(const char *name)
+{
+    const char *colon = name == NULL ? NULL : behind_string(name);
+    colon = colon == NULL ? NULL : skip_blanks(colon);
+    return colon == NULL || *colon != ':' ? NULL : skip_blanks(colon + 1);
+}
+
+const char *json_next_name(const char *name)
+{
+    const char *next = json_next(json_value(name));
+    return next == NULL || *next != '"' ? NULL : next;
 }
 
 const char *json_member(const char *object, const char *name)
 {
-    size_t length = strlen(name);
-    const char *key = object == NULL || *object != '{' || object[1] != '"' ? NULL : object + 1;
-    while (key != NULL && *key == '"') {
-        const char *colon = behind_string(key);
-        if (colon == NULL || *colon != ':')
-            return NULL;
-        if ((size_t)(colon - key) == length + 2 && strncmp(key + 1, name, length) == 0)
-            return colon + 1;
-        key = json_next(colon + 1);
-    }
+    for (const char *key = json_first_name(object); key != NULL; key = json_next_name(key))
+        if (json_is_string(key, name))
+            return json_value(key);
     return NULL;
 }
 
 uint64_t json_read_number(const char *value)
 {
     return value == NULL ? 0 : strtoull(value, NULL, 10);
+}
+
+bool json_is_number(const char *value, uint64_t max, uint64_t *number)
+{
+    size_t digits = value == NULL ? 0 : strspn(value, "0123456789");
+    if (digits == 0 || digits > DIGITS_MAX || value[digits] == '\0' || strchr(",]} \t\r\n", value[digits]) == NULL)
+        return false;
+    *number = strtoull(value, NULL, 10);
+    return *number <= max;
+}
+
+bool json_is_string(const char *value, const char *text)
+{
+    size_t length = strlen(text);
+    return value != NULL && *value == '"' && strncmp(value + 1, text, length) == 0 && value[length + 1] == '"';
 }
 
 void json_read_string(const char *value, char *text, size_t size)

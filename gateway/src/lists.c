@@ -1,12 +1,13 @@
 #include "lists.h"
 
+#include "number.h"
+
 #include <inttypes.h>
 #include <stdarg.h>
 #include <stdio.h>
 #include <string.h>
 
 #define WORD_MAX 16
-#define PGN_LIMIT (UINT32_C(1) << 18)
 
 static const char *const MODES[] = {"cleared", "block", "pass"};
 
@@ -66,33 +67,11 @@ static int next_word(struct line *line)
     return length > 0;
 }
 
-/* The word as a number, decimal or 0x hex, of at most `max`. */
-static bool word_number(const char *word, uint32_t max, uint32_t *value)
-{
-    bool hex = word[0] == '0' && (word[1] == 'x' || word[1] == 'X');
-    uint32_t base = hex ? 16 : 10, sum = 0;
-    const char *at = hex ? word + 2 : word;
-    if (*at == '\0')
-        return false;
-    for (; *at != '\0'; at++) {
-        static const char DIGITS[] = "0123456789abcdef";
-        char lower = *at >= 'A' && *at <= 'F' ? (char)(*at - 'A' + 'a') : *at;
-        const char *digit = strchr(DIGITS, lower);
-        if (digit == NULL || (uint32_t)(digit - DIGITS) >= base)
-            return false;
-        sum = sum * base + (uint32_t)(digit - DIGITS);
-        if (sum > max)
-            return false;
-    }
-    *value = sum;
-    return true;
-}
-
 static bool read_port(struct line *line, uint32_t *port)
 {
     if (next_word(line) != 1)
         return wrong(line, "two ports, a mode and PGNs are needed");
-    if (!word_number(line->word, line->ports, port) || *port == 0)
+    if (!number_read(line->word, line->ports, port) || *port == 0)
         return wrong(line, "%s is not a port, 1 to %" PRIu32, line->word, line->ports);
     return true;
 }
@@ -109,16 +88,10 @@ static bool read_mode(struct line *line, enum list_mode *mode)
     return wrong(line, "%s is not a mode: block or pass", line->word);
 }
 
-/* A PGN is below 2^18, and its low byte is 0 where PF, its second byte, is below 240. */
-static bool is_pgn(uint32_t number)
-{
-    return number < PGN_LIMIT && ((number >> 8 & 0xFF) >= 240 || (number & 0xFF) == 0);
-}
-
 static bool read_pgn(struct line *line, struct list *list)
 {
     uint32_t pgn;
-    if (!word_number(line->word, PGN_LIMIT - 1, &pgn) || !is_pgn(pgn))
+    if (!number_read(line->word, UINT32_MAX, &pgn) || !number_is_pgn(pgn))
         return wrong(line, "%s is not a PGN", line->word);
     for (uint32_t i = 0; i < list->count; i++)
         if (list->pgns[i] == pgn)
@@ -149,21 +122,53 @@ static bool read_pair(struct line *line, struct lists *lists)
     return word == 0 || wrong(line, "a word of %d bytes or more", WORD_MAX);
 }
 
+/* Bytes that an editor doesn't show: control bytes anywhere, and outside a comment what is not ASCII. They are told as numbers, never printed. */
+static bool check_bytes(struct line *line)
+{
+    bool comment = false;
+    for (const char *at = line->at; at < line->end; at++) {
+        unsigned char byte = (unsigned char)*at;
+        comment = comment || byte == '#';
+        if (byte == 0x1B)
+            return wrong(line, "byte %td is 1B, an escape: this is no plain text", at - line->at + 1);
+        if ((byte < 0x20 && !blank(*at)) || byte == 0x7F)
+            return wrong(line, "byte %td is %02X, a control byte: this is no plain text", at - line->at + 1, byte);
+        if (byte > 0x7F && !comment)
+            return wrong(line, "byte %td is %02X, which is not ASCII", at - line->at + 1, byte);
+    }
+    return true;
+}
+
 static bool read_line(const char *at, const char *end, uint32_t ports, struct lists *lists, char *error)
 {
     struct line line = {at, end, ports, "", error};
     struct line look = line;
-    if (memchr(at, '\0', (size_t)(end - at)) != NULL)
-        return wrong(&line, "a byte 0");
+    if (!check_bytes(&line))
+        return false;
     return next_word(&look) == 0 || read_pair(&line, lists);
+}
+
+/* What some editors put before a text. */
+static const char *mark_of(const char *text, size_t length)
+{
+    if (length >= 3 && memcmp(text, "\xEF\xBB\xBF", 3) == 0)
+        return "the file begins with a byte-order mark (EF BB BF): save it without one";
+    if (length >= 2 && (memcmp(text, "\xFF\xFE", 2) == 0 || memcmp(text, "\xFE\xFF", 2) == 0))
+        return "the file begins with the byte-order mark of UTF-16: save it as plain text";
+    return NULL;
 }
 
 bool lists_parse(const char *text, size_t length, uint32_t ports, struct lists *lists, struct lists_error *error)
 {
     struct lists read;
     const char *at = text, *end = text + length;
+    const char *mark = mark_of(text, length);
     memset(&read, 0, sizeof read);
-    error->line = 0;
+    error->line = mark != NULL;
+    if (mark != NULL) {
+        snprintf(error->text, sizeof error->text, "%s", mark);
+        return false;
+    }
     while (at < end) {
         const char *feed = memchr(at, '\n', (size_t)(end - at));
         const char *line_end = feed == NULL ? end : feed;

@@ -1,7 +1,7 @@
 /* The filter lists of the directed pairs, and their text.
 
    A line is a pair, its mode and its PGNs: `1 2 block 61444 65265`. A pair that has no line is cleared; a pair without PGNs is an emptied list, which is not the
-   same (an emptied pass list lets nothing cross). PGNs are decimal or 0x hex. `#` begins a comment. */
+   same (an emptied pass list lets nothing cross). Numbers as number.h reads them. `#` begins a comment. */
 #ifndef GATEWAY_LISTS_H
 #define GATEWAY_LISTS_H
 

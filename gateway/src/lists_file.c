@@ -42,24 +42,35 @@ static bool refuse(struct lists_error *error, const char *text)
     return false;
 }
 
-bool lists_file_load(const char *path, uint32_t ports, struct lists *lists, struct lists_error *error)
+/* The file whole. 0, or errno; EFBIG where it is longer than a text can be. */
+static int read_text(const char *path, struct lists_text *text)
 {
-    static char text[LISTS_TEXT_MAX + 1];
-    char folder[PATH_MAX];
+    char past;
     int fd = open(path, O_RDONLY | O_CLOEXEC);
     if (fd < 0)
-        return refuse(error, errno == ENOENT ? "no such file (an empty one clears every pair)" : strerror(errno));
-    ssize_t length = read_all(fd, text, sizeof text);
-    int number = length < 0 ? errno : 0;
+        return errno;
+    ssize_t length = read_all(fd, text->bytes, sizeof text->bytes);
+    ssize_t more = length == (ssize_t)sizeof text->bytes ? read_all(fd, &past, 1) : 0;
+    int number = length < 0 || more < 0 ? errno : more > 0 ? EFBIG : 0;
     if (close(fd) != 0 && number == 0)
         number = errno;
+    text->length = length > 0 ? (size_t)length : 0;
+    return number;
+}
+
+bool lists_file_load(const char *path, uint32_t ports, struct lists *lists, struct lists_text *known, struct lists_error *error)
+{
+    char folder[PATH_MAX];
+    int number = read_text(path, known);
+    if (number == ENOENT)
+        return refuse(error, "no such file (an empty one clears every pair)");
+    if (number == EFBIG)
+        return refuse(error, "a file of over 16,384 bytes");
     if (number != 0)
         return refuse(error, strerror(number));
-    if ((size_t)length > LISTS_TEXT_MAX)
-        return refuse(error, "a file of over 16,384 bytes");
     if (!folder_of(path, folder) || access(folder, W_OK) != 0)
         return refuse(error, "its folder cannot be written to, so no list could be saved");
-    return lists_parse(text, (size_t)length, ports, lists, error);
+    return lists_parse(known->bytes, known->length, ports, lists, error);
 }
 
 static int write_all(int fd, const char *bytes, size_t length)
@@ -101,16 +112,35 @@ static int sync_folder(const char *folder)
     return number;
 }
 
-int lists_file_save(const char *path, const struct lists *lists)
+static bool same_text(const struct lists_text *a, const struct lists_text *b)
 {
-    static char text[LISTS_TEXT_MAX];
+    return a->length == b->length && memcmp(a->bytes, b->bytes, a->length) == 0;
+}
+
+/* Somebody else wrote the file. One that was taken away holds nothing that a save could overwrite. */
+static int check_unedited(const char *path, const struct lists_text *known, const struct lists_text *text)
+{
+    static struct lists_text there;
+    int number = read_text(path, &there);
+    if (number == ENOENT)
+        return 0;
+    if (number == EFBIG)
+        return LISTS_EDITED;
+    return number != 0 || same_text(&there, known) || same_text(&there, text) ? number : LISTS_EDITED;
+}
+
+int lists_file_save(const char *path, const struct lists_text *known, const struct lists_text *text)
+{
     char beside[PATH_MAX], folder[PATH_MAX];
-    size_t length = lists_print(lists, text, sizeof text);
     int path_length = snprintf(beside, sizeof beside, "%s%s", path, SUFFIX);
-    if (length == 0 || path_length < 0 || path_length >= PATH_MAX || !folder_of(path, folder))
+    if (path_length < 0 || path_length >= PATH_MAX || !folder_of(path, folder))
         return ENAMETOOLONG;
-    int number = write_synced(beside, text, length);
+    int number = check_unedited(path, known, text);
+    if (number == 0)
+        number = write_synced(beside, text->bytes, text->length);
     if (number == 0 && rename(beside, path) != 0)
         number = errno;
-    return number == 0 ? sync_folder(folder) : number;
+    if (number != 0)
+        return number;
+    return sync_folder(folder) == 0 ? 0 : LISTS_UNSYNCED;
 }

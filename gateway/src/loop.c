@@ -32,12 +32,12 @@ static bool watch(const struct loop *loop, int fd, uint32_t source)
     return epoll_ctl(loop->epoll, EPOLL_CTL_ADD, fd, &event) == 0 || failed("epoll_ctl");
 }
 
-/* SIGTERM, SIGINT and SIGCHLD are read from a descriptor; a client of the status socket that goes away is no reason to end. */
+/* SIGTERM, SIGINT, SIGHUP and SIGCHLD are read from a descriptor; a client of the status socket that goes away is no reason to end. */
 static int open_signals(void)
 {
     sigset_t set;
-    if (sigemptyset(&set) != 0 || sigaddset(&set, SIGTERM) != 0 || sigaddset(&set, SIGINT) != 0 || sigaddset(&set, SIGCHLD) != 0 ||
-        sigprocmask(SIG_BLOCK, &set, NULL) != 0 || signal(SIGPIPE, SIG_IGN) == SIG_ERR)
+    if (sigemptyset(&set) != 0 || sigaddset(&set, SIGTERM) != 0 || sigaddset(&set, SIGINT) != 0 || sigaddset(&set, SIGHUP) != 0 ||
+        sigaddset(&set, SIGCHLD) != 0 || sigprocmask(SIG_BLOCK, &set, NULL) != 0 || signal(SIGPIPE, SIG_IGN) == SIG_ERR)
         return -1;
     return signalfd(-1, &set, SFD_NONBLOCK | SFD_CLOEXEC);
 }

@@ -13,7 +13,7 @@ struct loop {
 /* False, after a line in the log, where something cannot be had. */
 bool loop_open(struct loop *loop, struct gateway *gateway);
 
-/* Runs until SIGTERM or SIGINT (true) or until something fails that it cannot do without (false). */
+/* Runs until SIGTERM, SIGINT or SIGHUP (true) or until something fails that it cannot do without (false). */
 bool loop_run(struct loop *loop, struct gateway *gateway);
 
 #endif

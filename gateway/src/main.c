@@ -4,6 +4,7 @@
 #include "lists_file.h"
 #include "log.h"
 #include "loop.h"
+#include "version.h"
 
 #include <errno.h>
 #include <stdio.h>
@@ -18,7 +19,7 @@ static bool load_lists(struct gateway *gateway)
 {
     struct lists_error error;
     const char *path = gateway->options.lists;
-    if (path == NULL || lists_file_load(path, gateway->options.ports, &gateway->lists, &error))
+    if (path == NULL || lists_file_load(path, gateway->options.ports, &gateway->lists, &gateway->saver.known, &error))
         return true;
     if (error.line == 0)
         fprintf(stderr, "%s: %s: %s\n", PROGRAM, path, error.text);
@@ -27,11 +28,19 @@ static bool load_lists(struct gateway *gateway)
     return false;
 }
 
+/* Why an interface cannot be opened, in words. */
+static const char *open_error(int number)
+{
+    if (number == EAFNOSUPPORT || number == EPROTONOSUPPORT || number == ESOCKTNOSUPPORT)
+        return "this kernel has no CAN: load its modules with `modprobe can_raw`, or take a kernel that has them";
+    return number == ENODEV ? "no such CAN interface" : strerror(number);
+}
+
 static bool open_ports(struct gateway *gateway)
 {
     for (uint32_t i = 0; i < gateway->options.ports; i++)
         if (!port_open(&gateway->ports[i], i + 1, gateway->options.interfaces[i])) {
-            fprintf(stderr, "%s: %s: %s\n", PROGRAM, gateway->options.interfaces[i], errno == ENODEV ? "no such CAN interface" : strerror(errno));
+            fprintf(stderr, "%s: %s: %s\n", PROGRAM, gateway->options.interfaces[i], open_error(errno));
             return false;
         }
     return true;
@@ -56,13 +65,21 @@ static int run(struct gateway *gateway)
     return ended ? EXIT_DONE : EXIT_FAILED;
 }
 
+static int say(const char *text)
+{
+    return fputs(text, stdout) >= 0 && fflush(stdout) == 0 ? EXIT_DONE : EXIT_FAILED;
+}
+
 int main(int argc, char *argv[])
 {
     static struct gateway gateway;
     char error[200];
     switch (options_read(argc, argv, &gateway.options, error)) {
     case OPTIONS_HELP:
-        return fputs(OPTIONS_USAGE, stdout) >= 0 && fflush(stdout) == 0 ? EXIT_DONE : EXIT_FAILED;
+        return say(OPTIONS_USAGE);
+    case OPTIONS_VERSION:
+        printf("%s %s, interface %d of the unit\n", PROGRAM, GATEWAY_VERSION, DEORASAENG_VERSION);
+        return say("");
     case OPTIONS_WRONG:
         fprintf(stderr, "%s: %s\n%s", PROGRAM, error, OPTIONS_USAGE);
         return EXIT_WRONG;

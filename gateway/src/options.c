@@ -1,10 +1,10 @@
 #include "options.h"
 
-#include <errno.h>
+#include "number.h"
+
 #include <getopt.h>
 #include <net/if.h>
 #include <stdio.h>
-#include <stdlib.h>
 #include <string.h>
 #include <sys/un.h>
 
@@ -15,36 +15,22 @@ const char OPTIONS_USAGE[] =
     "usage: deorasaeng-gateway --name NAME --address ADDRESS [options] IF1 IF2 ..\n"
     "A bridge between two to eight CAN interfaces; IF1 is port 1, the service port.\n"
     "  --name NAME        the unit's NAME, 64 bits in hex (ISO 11783-5), unique on the buses\n"
-    "  --address ADDRESS  the address it claims, 0 to 253 (0x80 is hex)\n"
+    "  --address ADDRESS  the address it claims, 0 to 253, decimal or 0x hex\n"
     "  --lists FILE       filter lists, set from FILE at start and saved there when a command changed one\n"
     "  --status PATH      a Unix socket that answers each connection with the state as JSON\n"
     "  --log LEVEL        error, warning, info (the default) or debug\n"
-    "  --help             this text\n"
-    "It ends on SIGTERM or SIGINT with a summary and status 0; 2 is a wrong command line, lists file or interface.\n";
+    "  -h, --help         this text\n"
+    "  --version          the version of this program and of the unit's interface\n"
+    "It ends on SIGTERM, SIGINT or SIGHUP with a summary and status 0; 2 is a wrong command line, lists file or interface.\n";
 
-enum option_code { OPTION_NAME = 256, OPTION_ADDRESS, OPTION_LISTS, OPTION_STATUS, OPTION_LOG, OPTION_HELP };
+enum option_code { OPTION_NAME = 256, OPTION_ADDRESS, OPTION_LISTS, OPTION_STATUS, OPTION_LOG, OPTION_VERSION };
 
 static const struct option OPTIONS[] = {
     {"name", required_argument, NULL, OPTION_NAME},     {"address", required_argument, NULL, OPTION_ADDRESS},
     {"lists", required_argument, NULL, OPTION_LISTS},   {"status", required_argument, NULL, OPTION_STATUS},
-    {"log", required_argument, NULL, OPTION_LOG},       {"help", no_argument, NULL, OPTION_HELP},
-    {NULL, 0, NULL, 0},
+    {"log", required_argument, NULL, OPTION_LOG},       {"version", no_argument, NULL, OPTION_VERSION},
+    {"help", no_argument, NULL, 'h'},                   {NULL, 0, NULL, 0},
 };
-
-/* A whole word as a number; strtoull alone would take "", " 1", "-1" and "1x". */
-static bool number(const char *word, int base, uint64_t max, uint64_t *value)
-{
-    static const char DIGITS[] = "0123456789abcdefABCDEF";
-    char *end;
-    if (word[0] == '\0' || strchr(DIGITS, word[0]) == NULL)
-        return false;
-    errno = 0;
-    unsigned long long read = strtoull(word, &end, base);
-    if (errno != 0 || *end != '\0' || read > max)
-        return false;
-    *value = read;
-    return true;
-}
 
 /* What was given besides the fields of struct options. */
 struct given {
@@ -53,18 +39,16 @@ struct given {
 
 static bool read_value(int option, const char *value, struct options *options, struct given *given, char *error)
 {
-    uint64_t address = 0;
     switch (option) {
     case OPTION_NAME:
-        given->name = number(value, 16, UINT64_MAX, &options->name);
+        given->name = number_read_hex(value, &options->name);
         if (!given->name)
             snprintf(error, ERROR_SIZE, "--name %.40s: not a NAME of up to 16 hex digits", value);
         return given->name;
     case OPTION_ADDRESS:
-        given->address = number(value, 0, ADDRESS_MAX, &address);
+        given->address = number_read(value, ADDRESS_MAX, &options->address);
         if (!given->address)
-            snprintf(error, ERROR_SIZE, "--address %.40s: not 0 to %d", value, ADDRESS_MAX);
-        options->address = (uint32_t)address;
+            snprintf(error, ERROR_SIZE, "--address %.40s: not 0 to %d, decimal or 0x hex", value, ADDRESS_MAX);
         return given->address;
     case OPTION_LISTS:
         options->lists = value;
@@ -121,11 +105,11 @@ enum options_read options_read(int argc, char *argv[], struct options *options, 
     optind = 0; /* the scan begins anew, for a second call */
     opterr = 0;
     for (;;) {
-        int option = getopt_long(argc, argv, ":", OPTIONS, NULL);
+        int option = getopt_long(argc, argv, ":h", OPTIONS, NULL);
         if (option == -1)
             break;
-        if (option == OPTION_HELP)
-            return OPTIONS_HELP;
+        if (option == 'h' || option == OPTION_VERSION)
+            return option == 'h' ? OPTIONS_HELP : OPTIONS_VERSION;
         if (option == ':' || option == '?') {
             snprintf(error, ERROR_SIZE, "%.80s: %s", argv[optind - 1], option == ':' ? "a value is missing" : "no such option");
             return OPTIONS_WRONG;

@@ -21,7 +21,7 @@ struct options {
     const char *interfaces[GATEWAY_PORTS_MAX]; /* .. port p's at p - 1 */
 };
 
-enum options_read { OPTIONS_RUN, OPTIONS_HELP, OPTIONS_WRONG };
+enum options_read { OPTIONS_RUN, OPTIONS_HELP, OPTIONS_VERSION, OPTIONS_WRONG };
 
 /* What to print for --help. */
 extern const char OPTIONS_USAGE[];

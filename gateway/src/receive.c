@@ -83,8 +83,8 @@ static void message_arrived(struct gateway *gateway, struct port *port, const st
     }
     unit_message(&gateway->unit, port->number, requester, frame->data, frame->len, &answer);
     port->counts.messages++;
-    if (answer.number != 0 && answer.number <= UNIT_NUMBERS)
-        port->counts.messages_refused[answer.number]++;
+    if (answer.number != 0)
+        count_number(port->counts.messages_refused, answer.number);
     log_line(LOG_INFO, "port %" PRIu32 ": message from address %" PRIu32 ", function %u, pair %02X: %s %" PRIu32, port->number, requester,
              frame->data[0], frame->data[1], answer.number == 0 ? "done" : "refused with", answer.number);
     send_answer(gateway, port, frame, &answer);
@@ -94,13 +94,14 @@ static void message_arrived(struct gateway *gateway, struct port *port, const st
 
 static void refused(struct port *port, uint32_t number, const struct can_frame *frame)
 {
-    uint64_t *count = &port->counts.refused[number <= UNIT_NUMBERS ? number : 0];
-    if ((*count)++ == 0)
+    bool first = number > UNIT_NUMBERS || port->counts.refused[number] == 0;
+    count_number(port->counts.refused, number);
+    if (first)
         log_line(LOG_INFO, "port %" PRIu32 ": frame %08X refused with %" PRIu32 "; further ones are counted", port->number, frame->can_id & CAN_EFF_MASK,
                  number);
 }
 
-static void frame_arrived(struct gateway *gateway, struct port *port, const struct can_frame *frame)
+static void frame_arrived(struct gateway *gateway, struct port *port, const struct can_frame *frame, int64_t now)
 {
     struct frame_answer answer;
     unit_frame(&gateway->unit, port->number, frame, &answer);
@@ -112,6 +113,8 @@ static void frame_arrived(struct gateway *gateway, struct port *port, const stru
     port->counts.consumed += answer.consumed;
     count_answer(gateway, port, &answer);
     tell_event(port, frame, &answer);
+    if (answer.event == DEORASAENG_DEFENDED)
+        gateway_contended(gateway, now);
     if (answer.consumed && identifier_pgn(frame->can_id & CAN_EFF_MASK) == PGN_NETWORK_MESSAGE)
         message_arrived(gateway, port, frame);
 }
@@ -136,12 +139,12 @@ static void error_arrived(struct gateway *gateway, struct port *port, const stru
         port_on_bus(port);
 }
 
-static void arrived(struct gateway *gateway, struct port *port, const struct arrival *arrival)
+static void arrived(struct gateway *gateway, struct port *port, const struct arrival *arrival, int64_t now)
 {
     switch (arrival->kind) {
     case ARRIVAL_FRAME:
         port_on_bus(port); /* a controller that is off the bus hears nothing */
-        frame_arrived(gateway, port, &arrival->frame);
+        frame_arrived(gateway, port, &arrival->frame, now);
         break;
     case ARRIVAL_ECHO:
         port_echo(port, &arrival->frame);
@@ -173,7 +176,7 @@ void gateway_receive(struct gateway *gateway, struct port *port, int64_t now)
         port_look(port);
         break;
     case READ_ONE:
-        arrived(gateway, port, &arrival);
+        arrived(gateway, port, &arrival, now);
         if (arrival.dropped_known)
             port_dropped(port, arrival.dropped, now);
         break;

@@ -2,7 +2,7 @@
 #ifndef GATEWAY_SAVER_H
 #define GATEWAY_SAVER_H
 
-#include "lists.h"
+#include "lists_file.h"
 
 #include <sys/types.h>
 
@@ -10,7 +10,10 @@ struct saver {
     const char *path;  /* NULL: nothing is saved */
     pid_t child;       /* 0 for none */
     bool wanted;       /* the lists changed since the last child began */
+    bool edited;       /* the file was changed by somebody else, and is left as it is */
     int64_t retry_at;  /* after a failure, not before this */
+    struct lists_text known; /* what the file holds, as far as this program knows */
+    struct lists_text next;  /* what is being saved */
 };
 
 /* The lists changed. */

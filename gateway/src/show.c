@@ -1,16 +1,17 @@
 /* deorasaeng-status: asks the gateway's status socket and prints the answer for a person, or as it came with --json. */
+#include "client.h"
 #include "json_reader.h"
+#include "version.h"
 
 #include <errno.h>
 #include <inttypes.h>
 #include <stdio.h>
 #include <string.h>
-#include <sys/socket.h>
-#include <sys/un.h>
 #include <unistd.h>
 
 #define DOCUMENT_BYTES 131072
 #define WORD_BYTES 32
+#define PORTS_MAX 8
 
 static char document[DOCUMENT_BYTES];
 
@@ -33,8 +34,12 @@ static void show_unit(const char *unit)
     char name[WORD_BYTES], state[WORD_BYTES];
     json_read_string(json_member(unit, "name"), name, sizeof name);
     json_read_string(json_member(unit, "state"), state, sizeof state);
-    printf("unit: NAME %s, address %" PRIu64 ", %s, %" PRIu64 " ports, for %" PRIu64 " s\n\n", name, number_in(unit, "preferred"), state,
-           number_in(unit, "ports"), number_in(unit, "seconds"));
+    uint64_t address;
+    if (json_is_number(json_member(unit, "address"), UINT8_MAX, &address))
+        printf("unit: NAME %s, address %" PRIu64 ", %s", name, address, state);
+    else
+        printf("unit: NAME %s, no address, %s", name, state);
+    printf(", %" PRIu64 " ports, for %" PRIu64 " s\n\n", number_in(unit, "ports"), number_in(unit, "seconds"));
 }
 
 static void show_port(const char *port)
@@ -105,43 +110,45 @@ static void show_addresses(const char *addresses)
     }
 }
 
-static int open_at(const char *path)
-{
-    struct sockaddr_un address;
-    memset(&address, 0, sizeof address);
-    address.sun_family = AF_UNIX;
-    if (snprintf(address.sun_path, sizeof address.sun_path, "%s", path) >= (int)sizeof address.sun_path) {
-        errno = ENAMETOOLONG;
-        return -1;
-    }
-    int fd = socket(AF_UNIX, SOCK_STREAM | SOCK_CLOEXEC, 0);
-    if (fd < 0 || connect(fd, (const struct sockaddr *)&address, sizeof address) == 0)
-        return fd;
-    int number = errno;
-    if (close(fd) == 0)
-        errno = number;
-    return -1;
-}
-
 /* The document into `document`, with a 0 at its end: its length, or -1 with errno. */
 static ssize_t fetch(const char *path)
 {
-    size_t length = 0;
-    int fd = open_at(path);
+    int fd = client_connect(path);
     if (fd < 0)
         return -1;
-    for (;;) {
-        ssize_t got = read(fd, document + length, DOCUMENT_BYTES - 1 - length);
-        if (got < 0 && errno == EINTR)
-            continue;
-        if (got <= 0 || length + (size_t)got == DOCUMENT_BYTES - 1) {
-            int number = got < 0 ? errno : got > 0 ? EMSGSIZE : 0;
-            if (close(fd) == 0)
-                errno = number;
-            return number == 0 ? (ssize_t)length : -1;
-        }
-        length += (size_t)got;
+    ssize_t length = client_receive(fd, document, DOCUMENT_BYTES, CLIENT_END);
+    int number = errno;
+    if (close(fd) == 0)
+        errno = number;
+    return length;
+}
+
+/* Each list has a mode: a document without would show a pair as cleared that is not. */
+static bool lists_are_whole(const char *lists, uint64_t ports)
+{
+    if (json_length(lists) != ports * (ports - 1))
+        return false;
+    for (const char *list = json_first(lists); list != NULL; list = json_next(list)) {
+        const char *mode = json_member(list, "mode"), *pgns = json_member(list, "pgns");
+        if (!(json_is_string(mode, "cleared") || json_is_string(mode, "block") || json_is_string(mode, "pass")) || pgns == NULL || *pgns != '[')
+            return false;
     }
+    return true;
+}
+
+/* What is wrong with the document, or NULL: nothing is shown of one that is not whole, least of all that a list is not there. */
+static const char *wrong_with(size_t length)
+{
+    uint64_t ports;
+    const char *addresses = json_member(document, "addresses");
+    if (length == 0)
+        return "an empty answer";
+    if (!json_whole(document, length) || *document != '{')
+        return "an answer that is cut or garbled";
+    if (!json_is_number(json_member(json_member(document, "unit"), "ports"), PORTS_MAX, &ports) || ports < 2 ||
+        json_length(json_member(document, "ports")) != ports || !lists_are_whole(json_member(document, "lists"), ports) || addresses == NULL)
+        return "an answer that is no status of a gateway";
+    return NULL;
 }
 
 static void show(void)
@@ -152,20 +159,41 @@ static void show(void)
     show_addresses(json_member(document, "addresses"));
 }
 
-int main(int argc, char *argv[])
+static const char USAGE[] = "usage: deorasaeng-status [--json] PATH\n"
+                            "Prints the state of the gateway whose --status PATH this is; with --json as it comes.\n"
+                            "The status is 1 where there is no answer within 5 s or none that is whole, 2 for a wrong command line.\n";
+
+static int say(const char *text)
 {
-    int json = argc > 1 && strcmp(argv[1], "--json") == 0;
-    if (argc != 2 + json) {
-        fprintf(stderr, "usage: deorasaeng-status [--json] PATH\nPrints the state of the gateway whose --status PATH this is.\n");
-        return 2;
-    }
-    if (fetch(argv[1 + json]) < 0) {
-        fprintf(stderr, "deorasaeng-status: %s: %s\n", argv[1 + json], strerror(errno));
+    return fputs(text, stdout) >= 0 && fflush(stdout) == 0 ? 0 : 1;
+}
+
+/* Prints the document, or what is wrong with it. */
+static int tell(const char *path, bool json)
+{
+    ssize_t length = fetch(path);
+    const char *wrong = length < 0 ? client_error(errno) : wrong_with((size_t)length);
+    if (wrong != NULL) {
+        fprintf(stderr, "deorasaeng-status: %s: %s\n", path, wrong);
         return 1;
     }
     if (json)
         printf("%s\n", document);
     else
         show();
-    return fflush(stdout) == 0 ? 0 : 1;
+    return say("");
+}
+
+int main(int argc, char *argv[])
+{
+    bool json = argc > 1 && strcmp(argv[1], "--json") == 0;
+    if (argc == 2 && (strcmp(argv[1], "--help") == 0 || strcmp(argv[1], "-h") == 0))
+        return say(USAGE);
+    if (argc == 2 && strcmp(argv[1], "--version") == 0)
+        return say("deorasaeng-status " GATEWAY_VERSION "\n");
+    if (argc != 2 + json || argv[1 + json][0] == '-') {
+        fputs(USAGE, stderr);
+        return 2;
+    }
+    return tell(argv[1 + json], json);
 }

@@ -26,7 +26,10 @@ static void summarize(const struct port *port)
 void gateway_summary(const struct gateway *gateway)
 {
     struct unit_answer told = unit_tell(&gateway->unit);
-    log_always("summary: NAME %016" PRIX64 ", address %" PRIu32 " %s", told.name, told.preferred, claim_state_word(told.state));
+    if (told.address == DEORASAENG_NO_ADDRESS)
+        log_always("summary: NAME %016" PRIX64 ", no address, %s", told.name, claim_state_word(told.state));
+    else
+        log_always("summary: NAME %016" PRIX64 ", address %" PRIu32 " %s", told.name, told.address, claim_state_word(told.state));
     for (uint32_t i = 0; i < gateway->options.ports; i++)
         summarize(&gateway->ports[i]);
 }

@@ -7,6 +7,9 @@
 static const char *const STATES[] = {"Unstarted", "Claiming", "Claimed", "Lost"};
 static const char *const EVENTS[] = {NULL, "Withdrew", "Defended", "Displaced", "Recorded", "Refreshed", "TookOver", "Beaten"};
 
+_Static_assert(sizeof STATES / sizeof STATES[0] == DEORASAENG_STATE_LOST + 1, "a word for each state");
+_Static_assert(sizeof EVENTS / sizeof EVENTS[0] == DEORASAENG_BEATEN + 1, "a word for each event");
+
 const char *claim_state_word(enum deorasaeng_state state)
 {
     return STATES[state];

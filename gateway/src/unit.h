@@ -7,9 +7,20 @@
 
 #include <linux/can.h>
 
-/* The highest number that a call can be refused with, and the highest address that can be claimed. */
-#define UNIT_NUMBERS 18
+/* The interface that this program is written for. Another version may have functions, numbers, events or reasons that it does not know: look them through in this
+   folder, then change it here. */
+_Static_assert(DEORASAENG_VERSION == 8, "gateway/ was read against version 8 of include/deorasaeng.h");
+
+/* What arrays are sized by: the highest number that refuses a call, the addresses that can be claimed, the ranks of a frame. */
+#define UNIT_NUMBERS 29
 #define UNIT_ADDRESSES 254
+#define UNIT_RANKS 8
+_Static_assert(UNIT_NUMBERS == DEORASAENG_TWO_PATHS, "the highest of enum deorasaeng_number");
+_Static_assert(UNIT_ADDRESSES == DEORASAENG_NO_ADDRESS, "0 to 253");
+_Static_assert(UNIT_RANKS == DEORASAENG_COUNTS_ACCEPTED - DEORASAENG_COUNTS_WAITING, "a word for each rank");
+_Static_assert(LISTS_PORTS == DEORASAENG_MOST_PORTS, "a list for each pair");
+_Static_assert(LISTS_ENTRIES == DEORASAENG_PAIR_WORDS - 2, "a pair's words are its mode, its count and its entries");
+_Static_assert(CAN_MAX_DLEN == DEORASAENG_FRAME_BYTES, "a frame's bytes");
 
 struct unit {
     uint64_t record[DEORASAENG_RECORD_WORDS_FOR(DEORASAENG_MOST_PORTS)];
@@ -43,6 +54,12 @@ struct message_answer {
     size_t length; /* its length */
     uint8_t bytes[DEORASAENG_REPLY_BYTES];
 };
+
+/* Counts one by its number. One that is no number of the interface is counted as 0, which refuses nothing: so it is seen. */
+static inline void count_number(uint64_t counts[UNIT_NUMBERS + 1], uint32_t number)
+{
+    counts[number <= UNIT_NUMBERS ? number : 0]++;
+}
 
 /* "Unstarted", "Claiming", "Claimed" or "Lost". */
 const char *claim_state_word(enum deorasaeng_state state);

@@ -55,6 +55,32 @@ static void reader(void)
     CHECK_TEXT(text, "");
 }
 
+static bool whole(const char *text)
+{
+    return json_whole(text, strlen(text));
+}
+
+static void values(void)
+{
+    static const char *const GOOD[] = {"{}", " [ ] ", "0", "-0.5e+10", "1E9", "\"\"", "\"\\u00e4\\n\"", "true", "[1,[2,{\"a\":null}]]", "{\"a\" : 1 ,\n\"b\":[false]}"};
+    static const char *const BAD[] = {"", " ", "{", "}", "[1,]", "[,1]", "{\"a\":1,}", "{\"a\"}", "{a:1}", "01", "1.", ".5", "1e", "-", "+1", "nul", "True", "\"", "\"\\x\"", "\"\\u12g4\"",
+                                      "\"a\nb\"", "{}{}", "[1 2]", "[1}", "\xEF\xBB\xBF{}", "'a'", "[[[[[[[[[[[[[[[[[1]]]]]]]]]]]]]]]]]"};
+    for (size_t i = 0; i < sizeof GOOD / sizeof GOOD[0]; i++)
+        CHECK(whole(GOOD[i]));
+    for (size_t i = 0; i < sizeof BAD / sizeof BAD[0]; i++)
+        CHECK(!whole(BAD[i]));
+    CHECK(!json_whole("{}\0", 3) && whole("[[[[[[[[[[[[[[[[1]]]]]]]]]]]]]]]]"));
+    static const char SPACED[] = "{ \"a\" : [ 1 , 23 ] , \"b\" : \"x\" }";
+    uint64_t number = 0;
+    CHECK(whole(SPACED) && json_length(json_member(SPACED, "a")) == 2 && json_is_number(json_next(json_first(json_member(SPACED, "a"))), 23, &number) && number == 23);
+    CHECK(!json_is_number(json_next(json_first(json_member(SPACED, "a"))), 22, &number) && json_is_string(json_member(SPACED, "b"), "x"));
+    CHECK(!json_is_string(json_member(SPACED, "b"), "") && !json_is_string(json_member(SPACED, "b"), "xy") && !json_is_string(json_member(SPACED, "a"), "x"));
+    CHECK(json_is_string(json_first_name(SPACED), "a") && json_is_string(json_next_name(json_first_name(SPACED)), "b"));
+    CHECK(json_next_name(json_next_name(json_first_name(SPACED))) == NULL && json_first_name("{}") == NULL && json_length("[ ]") == 0);
+    CHECK(!json_is_number("1.5]", 9, &number) && !json_is_number("-1]", 9, &number) && !json_is_number("1e1]", 99, &number));
+    CHECK(!json_is_number("18446744073709551617]", UINT64_MAX, &number) && !json_is_number("1", 9, &number) && !json_is_number(NULL, 9, &number));
+}
+
 /* A document that is cut anywhere: no read behind its end (the sanitizers watch), and no value invented. */
 static void cut(void)
 {
@@ -67,6 +93,7 @@ static void cut(void)
         json_read_string(json_member(bytes, "name"), text, sizeof text);
         CHECK(json_member(second, "none") == NULL || json_read_number(json_member(bytes, "most")) == UINT64_MAX);
         CHECK(json_member(bytes, "no") == NULL || length > sizeof DOCUMENT - 8);
+        CHECK(!json_whole(bytes, length));
     }
 }
 
@@ -74,6 +101,8 @@ int main(void)
 {
     writer();
     reader();
+    CHECK(json_whole(DOCUMENT, sizeof DOCUMENT - 1));
+    values();
     cut();
     return checks_end("json");
 }

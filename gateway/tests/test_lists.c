@@ -1,5 +1,7 @@
 /* The lists' text and the lists file. */
-#include "../src/lists_file.h"
+#include "../src/clock.h"
+#include "../src/log.h"
+#include "../src/saver.h"
 #include "check.h"
 
 #include <fcntl.h>
@@ -55,14 +57,38 @@ static void wrong_text(void)
     CHECK(refused("1 2 block 61444 61444\n", 1, "twice"));
     CHECK(refused("1 2 block 1234567890123456\n", 1, "a word of 16 bytes"));
     CHECK(refused(many, 1, "more than 32"));
+    CHECK(refused("1 2 block 010\n", 1, "010 is not a PGN"));
+    CHECK(refused("01 2 block\n", 1, "01 is not a port"));
     struct lists lists;
-    CHECK(!lists_parse("1 2 block\0", 10, 4, &lists, &error) && error.line == 1);
+    CHECK(!lists_parse("1 2 block\0", 10, 4, &lists, &error) && error.line == 1 && strstr(error.text, "byte 10 is 00") != NULL);
     for (uint32_t ports = 2; ports <= LISTS_PORTS; ports++) {
         char last[32], past[32];
         snprintf(last, sizeof last, "1 %u block\n", (unsigned)ports);
         snprintf(past, sizeof past, "%u 1 block\n", (unsigned)ports + 1);
         CHECK(lists_parse(last, strlen(last), ports, &lists, &error) && lists.pair[0][ports - 1].mode == LIST_BLOCK);
         CHECK(!lists_parse(past, strlen(past), ports, &lists, &error) && strstr(error.text, "is not a port") != NULL);
+    }
+}
+
+/* Bytes that an editor doesn't show are told as what they are, and never printed. */
+static void unseen_bytes(void)
+{
+    struct lists lists;
+    CHECK(refused("\xEF\xBB\xBF" "1 2 block\n", 1, "byte-order mark (EF BB BF)"));
+    CHECK(refused("\xFF\xFE" "1", 1, "UTF-16"));
+    CHECK(refused("\xFE\xFF", 1, "UTF-16"));
+    CHECK(refused("\n1 2 \x1B[31mblock\n", 2, "byte 5 is 1B, an escape"));
+    CHECK(refused("# \x1B]0;title\x07\n", 1, "byte 3 is 1B, an escape"));
+    CHECK(refused("1 2\xC2\xA0" "block\n", 1, "byte 4 is C2, which is not ASCII"));
+    CHECK(refused("1 2 block\x7F\n", 1, "byte 10 is 7F, a control byte"));
+    CHECK(refused("1 2 block \x08\n", 1, "byte 11 is 08, a control byte"));
+    CHECK(parse("1 2 block # \xC3\xA4 comment in any language\n", &lists));
+    for (int byte = 1; byte < 256; byte++) {
+        char text[] = "1 2 x\n";
+        text[4] = (char)byte;
+        CHECK(parse(text, &lists) == (byte == ' ' || byte == '\t' || byte == '\r' || byte == '\n' || byte == '#') || strstr(error.text, "is") != NULL);
+        for (const char *at = error.text; *at != '\0'; at++)
+            CHECK(*at >= 0x20 && *at < 0x7F);
     }
 }
 
@@ -95,36 +121,101 @@ static void write_file(const char *path, const char *bytes, size_t length)
     CHECK(fd >= 0 && write(fd, bytes, length) == (ssize_t)length && close(fd) == 0);
 }
 
+static char folder[] = "/tmp/gateway-lists-XXXXXX", path[64], beside[64];
+
+static struct lists_text text_of(const struct lists *lists)
+{
+    struct lists_text text;
+    text.length = lists_print(lists, text.bytes, sizeof text.bytes);
+    return text;
+}
+
 static void file(void)
 {
     static char big[LISTS_TEXT_MAX + 1];
-    char folder[] = "/tmp/gateway-lists-XXXXXX", path[64], beside[64];
+    static struct lists_text known, text;
     struct lists lists, again;
-    CHECK(mkdtemp(folder) != NULL);
-    snprintf(path, sizeof path, "%s/lists", folder);
-    snprintf(beside, sizeof beside, "%s/lists.new", folder);
-    CHECK(!lists_file_load(path, 4, &lists, &error) && error.line == 0 && strstr(error.text, "no such file") != NULL);
+    CHECK(!lists_file_load(path, 4, &lists, &known, &error) && error.line == 0 && strstr(error.text, "no such file") != NULL);
     CHECK(parse("1 2 block 61444\n4 3 pass\n", &lists));
-    CHECK(lists_file_save(path, &lists) == 0);
-    CHECK(lists_file_load(path, 4, &again, &error) && lists_equal(&lists, &again));
+    text = text_of(&lists);
+    CHECK(lists_file_save(path, &known, &text) == 0);
+    CHECK(lists_file_load(path, 4, &again, &known, &error) && lists_equal(&lists, &again));
+    CHECK(known.length == text.length && memcmp(known.bytes, text.bytes, text.length) == 0);
     CHECK(access(beside, F_OK) != 0);
     memset(big, '\n', sizeof big);
     write_file(path, big, sizeof big);
-    CHECK(!lists_file_load(path, 4, &lists, &error) && error.line == 0);
+    CHECK(!lists_file_load(path, 4, &lists, &known, &error) && error.line == 0 && strstr(error.text, "16,384") != NULL);
+    CHECK(lists_file_save(path, &known, &text) == LISTS_EDITED);
     write_file(path, big, sizeof big - 1);
-    CHECK(lists_file_load(path, 4, &lists, &error));
+    CHECK(lists_file_load(path, 4, &lists, &known, &error));
     /* A save that fails leaves the old file. */
-    CHECK(mkdir(beside, 0700) == 0 && lists_file_save(path, &again) != 0 && rmdir(beside) == 0);
-    CHECK(lists_file_load(path, 4, &lists, &error) && lists.pair[0][1].mode == LIST_CLEARED);
-    CHECK(unlink(path) == 0 && rmdir(folder) == 0);
-    CHECK(lists_file_save("/nowhere/lists", &again) != 0);
+    CHECK(mkdir(beside, 0700) == 0 && lists_file_save(path, &known, &text) != 0 && rmdir(beside) == 0);
+    CHECK(lists_file_load(path, 4, &lists, &known, &error) && lists.pair[0][1].mode == LIST_CLEARED);
+    CHECK(unlink(path) == 0);
+    CHECK(lists_file_save("/nowhere/lists", &known, &text) != 0);
+}
+
+/* The file holds these lines beside the comment that a save begins with. */
+static bool file_holds(const char *lines)
+{
+    static struct lists_text text;
+    struct lists lists, wanted;
+    return lists_file_load(path, 4, &lists, &text, &error) && parse(lines, &wanted) && lists_equal(&lists, &wanted);
+}
+
+/* The saver's child is waited for. */
+static void save(struct saver *saver, const struct lists *lists, int64_t now)
+{
+    saver_want(saver);
+    saver_step(saver, lists, now);
+    for (int i = 0; i < 500 && saver->child != 0; i++) {
+        saver_reap(saver, now);
+        usleep(10000);
+    }
+    CHECK(saver->child == 0);
+}
+
+/* An edit while the program runs is not overwritten; once it is undone or the file moved away, the lists are saved. */
+static void edited(void)
+{
+    static struct saver saver;
+    struct lists lists;
+    write_file(path, "# mine\n1 2 block 61444\n", 23);
+    CHECK(lists_file_load(path, 4, &lists, &saver.known, &error));
+    saver.path = path;
+    lists.pair[0][1].mode = LIST_PASS;
+    save(&saver, &lists, 0);
+    CHECK(!saver_behind(&saver) && !saver.edited && file_holds("1 2 pass 61444\n"));
+    write_file(path, "3 4 pass\n", 9);
+    lists.pair[0][1].mode = LIST_BLOCK;
+    save(&saver, &lists, 0);
+    CHECK(saver_behind(&saver) && saver.edited && file_holds("3 4 pass\n") && saver_deadline(&saver) == 10 * CLOCK_SECOND);
+    save(&saver, &lists, 20 * CLOCK_SECOND);
+    CHECK(saver_behind(&saver) && saver.edited && file_holds("3 4 pass\n"));
+    saver_finish(&saver, &lists);
+    CHECK(saver.edited && file_holds("3 4 pass\n"));
+    CHECK(unlink(path) == 0);
+    save(&saver, &lists, clock_now() + 20 * CLOCK_SECOND);
+    CHECK(!saver_behind(&saver) && !saver.edited && file_holds("1 2 block 61444\n"));
+    /* Touched and not changed: nothing that a save would destroy. */
+    CHECK(utimensat(AT_FDCWD, path, NULL, 0) == 0);
+    lists.pair[0][1].mode = LIST_PASS;
+    save(&saver, &lists, clock_now() + 20 * CLOCK_SECOND);
+    CHECK(!saver_behind(&saver) && file_holds("1 2 pass 61444\n") && unlink(path) == 0);
 }
 
 int main(void)
 {
+    log_open(LOG_ERROR);
+    CHECK(mkdtemp(folder) != NULL);
+    snprintf(path, sizeof path, "%s/lists", folder);
+    snprintf(beside, sizeof beside, "%s/lists.new", folder);
     good_text();
     wrong_text();
+    unseen_bytes();
     round_trip();
     file();
+    edited();
+    CHECK(rmdir(folder) == 0);
     return checks_end("lists");
 }

@@ -32,7 +32,9 @@ static void good(void)
     CHECK(options.name == UINT64_MAX && options.address == 253 && options.log == LOG_DEBUG);
     CHECK_TEXT(options.lists, "l");
     CHECK_TEXT(options.status, "s");
-    CHECK(READ("--help") == OPTIONS_HELP);
+    CHECK(READ("--help") == OPTIONS_HELP && READ("-h") == OPTIONS_HELP && READ("--version") == OPTIONS_VERSION);
+    CHECK(READ("--name", "1", "--address", "0", "a", "b") == OPTIONS_RUN && options.address == 0);
+    CHECK(READ("--name", "1", "--address", "0XfD", "a", "b") == OPTIONS_RUN && options.address == 253);
     CHECK(READ("--name", "1", "--address", "1", "a", "b") == OPTIONS_RUN && options.ports == 2);
     CHECK(READ("--name", "1", "--address", "1", "a", "b", "c", "d", "e", "f", "g", "h") == OPTIONS_RUN && options.ports == 8);
     CHECK_TEXT(options.interfaces[7], "h");
@@ -48,6 +50,13 @@ static void wrong(void)
     CHECK(READ("--name", "1", "--address", "-1", "a", "b", "c", "d") == OPTIONS_WRONG);
     CHECK(READ("--name", "1", "--address", "", "a", "b", "c", "d") == OPTIONS_WRONG);
     CHECK(READ("--name", "1", "--address", "12x", "a", "b", "c", "d") == OPTIONS_WRONG);
+    CHECK(READ("--name", "1", "--address", "010", "a", "b", "c", "d") == OPTIONS_WRONG);
+    CHECK_TEXT(error, "--address 010: not 0 to 253, decimal or 0x hex");
+    CHECK(READ("--name", "1", "--address", "0x", "a", "b", "c", "d") == OPTIONS_WRONG);
+    CHECK(READ("--name", "1", "--address", "+1", "a", "b", "c", "d") == OPTIONS_WRONG);
+    CHECK(READ("--name", "1", "--address", " 1", "a", "b", "c", "d") == OPTIONS_WRONG);
+    CHECK(READ("--name", "1", "--address", "4294967297", "a", "b", "c", "d") == OPTIONS_WRONG);
+    CHECK(READ("--name", "0x", "--address", "1", "a", "b", "c", "d") == OPTIONS_WRONG);
     CHECK(READ("--name", "10000000000000000", "--address", "1", "a", "b", "c", "d") == OPTIONS_WRONG);
     CHECK(READ("--name", "xyz", "--address", "1", "a", "b", "c", "d") == OPTIONS_WRONG);
     CHECK(READ("--name", "1", "--address", "1", "a") == OPTIONS_WRONG);
