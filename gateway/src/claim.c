@@ -39,8 +39,13 @@ static bool start(struct gateway *gateway, int64_t now)
         bool lost = (own_lost >> i & 1) != 0;
         gateway->ports[i].counts.own += !lost;
         gateway->ports[i].counts.own_lost += lost;
+        port_joined(&gateway->ports[i]);
+        if (lost)
+            port_lost(&gateway->ports[i], now);
     }
     struct unit_answer told = unit_tell(&gateway->unit);
+    if (told.state == DEORASAENG_STATE_CLAIMING)
+        names_start(&gateway->names, told.address);
     gateway->quiet_at = now + QUIET_AFTER;
     log_line(LOG_INFO, "Start: NAME %016" PRIX64 " claims address %" PRIu32 ", %" PRIu32 " of %" PRIu32 " interfaces up", told.name, told.preferred,
              ports_up(gateway), gateway->options.ports);

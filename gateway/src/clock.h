@@ -1,4 +1,4 @@
-/* Time by the monotonic clock, in nanoseconds. */
+/* Time in nanoseconds: by the monotonic clock, and of day. */
 #ifndef GATEWAY_CLOCK_H
 #define GATEWAY_CLOCK_H
 
@@ -9,6 +9,11 @@
 #define CLOCK_NEVER INT64_MAX
 
 int64_t clock_now(void);
+
+/* The time of day, in nanoseconds since 1970 by UTC, and its text: 2026-11-17T19:40:00.123Z. */
+#define CLOCK_TEXT 64
+int64_t clock_wall(void);
+void clock_text(int64_t wall, char text[CLOCK_TEXT]);
 
 /* The earlier of two times. */
 static inline int64_t clock_earlier(int64_t a, int64_t b)

@@ -103,6 +103,15 @@ void json_number(struct json *json, const char *name, uint64_t value)
     put(json, text);
 }
 
+void json_milliseconds(struct json *json, const char *name, int64_t ns)
+{
+    char text[32];
+    int64_t ms = ns > 0 ? ns / 1000000 : 0;
+    snprintf(text, sizeof text, "%" PRId64 ".%03" PRId64, ms / 1000, ms % 1000);
+    put_name(json, name);
+    put(json, text);
+}
+
 void json_bool(struct json *json, const char *name, bool value)
 {
     put_name(json, name);

@@ -23,6 +23,7 @@ void json_end_array(struct json *json);
 void json_string(struct json *json, const char *name, const char *value);
 void json_hex(struct json *json, const char *name, uint64_t value); /* 16 digits, as a string */
 void json_number(struct json *json, const char *name, uint64_t value);
+void json_milliseconds(struct json *json, const char *name, int64_t ns); /* as seconds with three decimals, not below 0 */
 void json_bool(struct json *json, const char *name, bool value);
 void json_null(struct json *json, const char *name);
 

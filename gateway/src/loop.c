@@ -1,8 +1,9 @@
 #include "loop.h"
 
 #include "clock.h"
+#include "controller.h"
 #include "links.h"
-#include "status.h"
+#include "status_server.h"
 
 #include <errno.h>
 #include <signal.h>
@@ -13,7 +14,11 @@
 #include <unistd.h>
 
 /* What an event is about: below GATEWAY_PORTS_MAX a port. */
-enum source { SOURCE_LINKS = GATEWAY_PORTS_MAX, SOURCE_TIMER, SOURCE_SIGNALS, SOURCE_STATUS, SOURCES };
+enum source {
+    SOURCE_LINKS = GATEWAY_PORTS_MAX, SOURCE_TIMER, SOURCE_SIGNALS,
+    SOURCE_STATUS, SOURCE_STATUS_CLIENT, /* and as many as there are places */
+    SOURCES = SOURCE_STATUS_CLIENT + SERVER_CLIENTS
+};
 
 enum step { STEP_ON, STEP_END, STEP_FAILED };
 
@@ -23,13 +28,18 @@ static bool failed(const char *what)
     return false;
 }
 
-static bool watch(const struct loop *loop, int fd, uint32_t source)
+static bool watch_for(const struct loop *loop, int fd, uint32_t source, uint32_t events)
 {
     struct epoll_event event;
     memset(&event, 0, sizeof event);
-    event.events = EPOLLIN;
+    event.events = events;
     event.data.u32 = source;
     return epoll_ctl(loop->epoll, EPOLL_CTL_ADD, fd, &event) == 0 || failed("epoll_ctl");
+}
+
+static bool watch(const struct loop *loop, int fd, uint32_t source)
+{
+    return watch_for(loop, fd, source, EPOLLIN);
 }
 
 /* SIGTERM, SIGINT, SIGHUP and SIGCHLD are read from a descriptor; a client of the status socket that goes away is no reason to end. */
@@ -46,14 +56,14 @@ static bool open_status(struct loop *loop, const char *path)
 {
     if (path == NULL)
         return true;
-    loop->status = status_listen(path);
-    return loop->status >= 0 ? watch(loop, loop->status, SOURCE_STATUS) : failed(path);
+    return server_listen(&loop->status, path, S_IRUSR | S_IWUSR, (gid_t)-1) ? watch(loop, loop->status.fd, SOURCE_STATUS) : failed(path);
 }
 
 bool loop_open(struct loop *loop, struct gateway *gateway)
 {
     loop->reading = false;
-    loop->status = -1;
+    server_begin(&loop->status);
+    gateway->controllers = controller_open(); /* without it the status has no word on controllers */
     loop->armed = CLOCK_NEVER;
     loop->epoll = epoll_create1(EPOLL_CLOEXEC);
     if (loop->epoll < 0)
@@ -71,9 +81,10 @@ bool loop_open(struct loop *loop, struct gateway *gateway)
            open_status(loop, gateway->options.status);
 }
 
-static int64_t deadline(const struct gateway *gateway)
+static int64_t deadline(const struct loop *loop, const struct gateway *gateway)
 {
     int64_t at = clock_earlier(gateway_claim_deadline(gateway), saver_deadline(&gateway->saver));
+    at = clock_earlier(at, server_deadline(&loop->status));
     for (uint32_t i = 0; i < gateway->options.ports; i++)
         at = clock_earlier(at, port_deadline(&gateway->ports[i]));
     return at;
@@ -120,6 +131,21 @@ static void look_at_links(const struct loop *loop, struct gateway *gateway)
         port_look(&gateway->ports[i]);
 }
 
+/* A client that cannot take its document at once is told when it can; where that fails it is not served. */
+static void status_asked(struct loop *loop, const struct gateway *gateway, int64_t now)
+{
+    struct server_client *client = status_server_accept(&loop->status, gateway, now);
+    if (client != NULL && !watch_for(loop, client->fd, SOURCE_STATUS_CLIENT + (uint32_t)(client - loop->status.clients), EPOLLOUT))
+        server_close(client);
+}
+
+/* An event of a client that was closed meanwhile is void. */
+static void status_ready(struct server_client *client)
+{
+    if (client->fd >= 0)
+        status_server_ready(client);
+}
+
 static enum step dispatch(struct loop *loop, struct gateway *gateway, uint32_t source, int64_t now)
 {
     switch (source) {
@@ -132,9 +158,13 @@ static enum step dispatch(struct loop *loop, struct gateway *gateway, uint32_t s
     case SOURCE_SIGNALS:
         return signalled(loop, gateway, now);
     case SOURCE_STATUS:
-        status_answer(loop->status, gateway, now);
+        status_asked(loop, gateway, now);
         return STEP_ON;
     default:
+        if (source >= SOURCE_STATUS_CLIENT) {
+            status_ready(&loop->status.clients[source - SOURCE_STATUS_CLIENT]);
+            return STEP_ON;
+        }
         gateway_receive(gateway, &gateway->ports[source], now);
         gateway_transmit(gateway, now);
         return STEP_ON;
@@ -160,10 +190,11 @@ static bool settle(struct loop *loop, struct gateway *gateway)
     if (!gateway_claim(gateway, now) || !read_ports(loop, gateway))
         return false;
     saver_step(&gateway->saver, &gateway->unit.lists, now);
+    status_server_due(&loop->status, now);
     for (uint32_t i = 0; i < gateway->options.ports; i++)
         port_due(&gateway->ports[i], now);
     gateway_transmit(gateway, now);
-    return arm(loop, deadline(gateway));
+    return arm(loop, deadline(loop, gateway));
 }
 
 static enum step step(struct loop *loop, struct gateway *gateway)

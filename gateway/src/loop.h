@@ -3,9 +3,11 @@
 #define GATEWAY_LOOP_H
 
 #include "gateway.h"
+#include "server.h"
 
 struct loop {
-    int epoll, timer, signals, links, status; /* file descriptors; status is -1 without a socket */
+    int epoll, timer, signals, links; /* file descriptors */
+    struct server status;
     bool reading;                             /* the ports are in the epoll set */
     int64_t armed;                            /* when the timer fires */
 };

@@ -59,7 +59,7 @@ static int run(struct gateway *gateway)
     }
     bool ended = loop_open(&loop, gateway) && loop_run(&loop, gateway);
     saver_finish(&gateway->saver, &gateway->unit.lists);
-    if (loop.status >= 0 && unlink(gateway->options.status) != 0)
+    if (loop.status.fd >= 0 && unlink(gateway->options.status) != 0)
         log_line(LOG_WARNING, "%s: %s", gateway->options.status, strerror(errno));
     gateway_summary(gateway);
     return ended ? EXIT_DONE : EXIT_FAILED;

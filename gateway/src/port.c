@@ -26,6 +26,18 @@ uint64_t port_waiting(const struct port *port)
     return port->counts.accepted + port->counts.own - port->counts.taken;
 }
 
+void port_joined(struct port *port)
+{
+    uint64_t waiting = port_waiting(port);
+    if (waiting > port->high_water)
+        port->high_water = waiting;
+}
+
+void port_lost(struct port *port, int64_t now)
+{
+    port->lost_at = now;
+}
+
 static void give(struct port *port, const struct can_frame *frame, int64_t now)
 {
     enum interface_sent sent = interface_send(&port->interface, frame);
@@ -80,6 +92,8 @@ void port_dropped(struct port *port, uint32_t dropped, int64_t now)
     uint32_t more = dropped - port->dropped;
     port->dropped = dropped;
     port->counts.missed += more;
+    if (more > 0)
+        port_lost(port, now);
     if (more > 0 && port->transmit.flight != FLIGHT_NONE && port->assume_at == CLOCK_NEVER)
         port->assume_at = now + ASSUME_AFTER;
 }

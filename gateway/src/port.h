@@ -35,6 +35,8 @@ struct port {
     uint32_t dropped;        /* the kernel's count when last read */
     int64_t retry_at;        /* when to try again after ENOBUFS */
     int64_t assume_at;       /* when the frame with the kernel counts as sent, its echo maybe having been dropped */
+    uint64_t high_water;     /* the most frames that waited at once */
+    int64_t lost_at;         /* when the last frame was lost, or arrival missed; 0 for never */
     int64_t tell_at;         /* the next line about losses is not before this */
     struct {
         uint64_t lost, own_lost, missed;
@@ -46,6 +48,10 @@ bool port_open(struct port *port, uint32_t number, const char *interface);
 
 /* Frames in the unit's queue of this port. */
 uint64_t port_waiting(const struct port *port);
+
+/* Frames joined the queue, or were lost there. */
+void port_joined(struct port *port);
+void port_lost(struct port *port, int64_t now);
 
 /* Sends what there is to send, if the interface can: a frame is taken from the unit only then. */
 void port_transmit(struct port *port, struct unit *unit, int64_t now);

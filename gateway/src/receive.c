@@ -17,19 +17,50 @@ static bool in_mask(uint64_t mask, uint32_t port)
     return (mask >> (port - 1) & 1) != 0;
 }
 
-/* The answer at the exits, and the unit's own frame at every port. */
-static void count_answer(struct gateway *gateway, const struct port *arrival, const struct frame_answer *answer)
+/* The ports on whose way a list stopped the frame. */
+static uint64_t stopped_ports(const struct frame_answer *answer)
 {
+    uint64_t ports = 0;
+    for (uint32_t port = 1; port <= GATEWAY_PORTS_MAX; port++) {
+        enum deorasaeng_reason reason = DEORASAENG_REASON(answer->reasons, port);
+        if (reason == DEORASAENG_REASON_STOPPED_AS_LISTED || reason == DEORASAENG_REASON_STOPPED_AS_NOT_LISTED)
+            ports |= UINT64_C(1) << (port - 1);
+    }
+    return ports;
+}
+
+/* The answer at the exits, and the unit's own frame at every port. */
+static void count_answer(struct gateway *gateway, const struct port *arrival, const struct frame_answer *answer, int64_t now)
+{
+    uint64_t stopped = stopped_ports(answer);
     for (uint32_t i = 0; i < gateway->options.ports; i++) {
         struct port *exit = &gateway->ports[i];
+        struct pair_counts *pair = &gateway->pairs[arrival->number - 1][i];
         bool accepted = in_mask(answer->accepted, exit->number), lost = in_mask(answer->lost, exit->number);
         bool own_lost = in_mask(answer->own_lost, exit->number);
         exit->counts.accepted += accepted;
         exit->counts.lost += lost;
-        exit->counts.stopped += exit != arrival && !answer->consumed && !accepted && !lost;
+        exit->counts.stopped += in_mask(stopped, exit->number);
         exit->counts.own += answer->own_sent && !own_lost;
         exit->counts.own_lost += own_lost;
+        pair->crossed += accepted;
+        pair->lost += lost;
+        pair->reasons[DEORASAENG_REASON(answer->reasons, exit->number) % UNIT_REASONS]++;
+        if (accepted || answer->own_sent)
+            port_joined(exit);
+        if (lost || own_lost)
+            port_lost(exit, now);
     }
+}
+
+/* A frame that did not cross everywhere is remembered. */
+static void remember_frame(struct gateway *gateway, const struct port *port, const struct can_frame *frame, const struct frame_answer *answer, int64_t now)
+{
+    uint64_t stopped = stopped_ports(answer);
+    if (answer->number == 0 && stopped == 0 && answer->lost == 0)
+        return;
+    const struct history_frame entry = {now, port->number, frame->can_id & CAN_EFF_MASK, answer->number, stopped, answer->lost, answer->reasons};
+    history_add_frame(&gateway->history, &entry);
 }
 
 static uint64_t name_of(const struct can_frame *frame)
@@ -43,8 +74,6 @@ static uint64_t name_of(const struct can_frame *frame)
 static void tell_event(const struct port *port, const struct can_frame *frame, const struct frame_answer *answer)
 {
     const char *word = claim_event_word(answer->event);
-    if (word == NULL)
-        return;
     enum log_level level = answer->event == DEORASAENG_DISPLACED ? LOG_WARNING : LOG_INFO;
     uint32_t address = identifier_source(frame->can_id);
     if (answer->event == DEORASAENG_TOOK_OVER)
@@ -52,6 +81,16 @@ static void tell_event(const struct port *port, const struct can_frame *frame, c
                  name_of(frame), address, answer->old_name);
     else
         log_line(level, "port %" PRIu32 ": %s: NAME %016" PRIX64 ", address %" PRIu32, port->number, word, name_of(frame), address);
+}
+
+static void event_came(struct gateway *gateway, const struct port *port, const struct can_frame *frame, const struct frame_answer *answer, int64_t now)
+{
+    if (answer->event == DEORASAENG_NO_EVENT)
+        return;
+    names_event(&gateway->names, answer->event, identifier_source(frame->can_id), name_of(frame), port->number);
+    tell_event(port, frame, answer);
+    if (answer->event == DEORASAENG_DEFENDED)
+        gateway_contended(gateway, now);
 }
 
 /* What is to be sent back, at the arrival port. */
@@ -71,25 +110,21 @@ static void send_answer(struct gateway *gateway, struct port *port, const struct
 }
 
 /* A network message to the unit. It is not handed in where its answer would find no room: a command would be done and nobody told. */
-static void message_arrived(struct gateway *gateway, struct port *port, const struct can_frame *frame)
+static void message_arrived(struct gateway *gateway, struct port *port, const struct can_frame *frame, int64_t now)
 {
     static struct message_answer answer;
-    struct lists before = gateway->unit.lists;
+    static const struct history_sender BUS = {false, 0, 0, 0};
     uint32_t requester = identifier_source(frame->can_id);
     if (!transmit_has_room(&port->transmit)) {
         port->counts.unheard++;
         log_line(LOG_WARNING, "port %" PRIu32 ": message from address %" PRIu32 " not heard: %d answers wait", port->number, requester, TRANSMIT_ANSWERS);
         return;
     }
-    unit_message(&gateway->unit, port->number, requester, frame->data, frame->len, &answer);
     port->counts.messages++;
+    gateway_message(gateway, &BUS, port->number, requester, frame->data, frame->len, now, &answer);
     if (answer.number != 0)
         count_number(port->counts.messages_refused, answer.number);
-    log_line(LOG_INFO, "port %" PRIu32 ": message from address %" PRIu32 ", function %u, pair %02X: %s %" PRIu32, port->number, requester,
-             frame->data[0], frame->data[1], answer.number == 0 ? "done" : "refused with", answer.number);
     send_answer(gateway, port, frame, &answer);
-    if (!lists_equal(&before, &gateway->unit.lists))
-        saver_want(&gateway->saver);
 }
 
 static void refused(struct port *port, uint32_t number, const struct can_frame *frame)
@@ -106,17 +141,16 @@ static void frame_arrived(struct gateway *gateway, struct port *port, const stru
     struct frame_answer answer;
     unit_frame(&gateway->unit, port->number, frame, &answer);
     port->counts.in++;
+    remember_frame(gateway, port, frame, &answer, now);
     if (answer.number != 0) {
         refused(port, answer.number, frame);
         return;
     }
     port->counts.consumed += answer.consumed;
-    count_answer(gateway, port, &answer);
-    tell_event(port, frame, &answer);
-    if (answer.event == DEORASAENG_DEFENDED)
-        gateway_contended(gateway, now);
+    count_answer(gateway, port, &answer, now);
+    event_came(gateway, port, frame, &answer, now);
     if (answer.consumed && identifier_pgn(frame->can_id & CAN_EFF_MASK) == PGN_NETWORK_MESSAGE)
-        message_arrived(gateway, port, frame);
+        message_arrived(gateway, port, frame, now);
 }
 
 /* A frame that is no matter of this bridge: counted, and told once for each port and kind. */

@@ -1,19 +1,31 @@
-/* The status socket: one JSON document to each connection. */
+/* The status document: one JSON object. Its members and what they mean are in README.md, "The status". */
 #ifndef GATEWAY_STATUS_H
 #define GATEWAY_STATUS_H
 
 #include "gateway.h"
+#include "json.h"
+#include "status_schema.h"
 
-/* A document is no longer than this. */
-#define STATUS_BYTES 65536
+/* When it is written: by the monotonic clock, and of day. What happened before has its time of day by their difference, so a clock that was set meanwhile misleads nobody. */
+struct status_moment {
+    int64_t now, wall, power_on;
+};
 
 /* Writes the document. Its length, or 0 where `size` is not enough. */
-size_t status_write(struct gateway *gateway, int64_t now, char *bytes, size_t size);
+size_t status_write(const struct gateway *gateway, int64_t now, int64_t wall, char *bytes, size_t size);
 
-/* Listens at the path, whose rights are the owner's alone; the socket of a program that has ended is replaced. A file descriptor, or -1 with errno. */
-int status_listen(const char *path);
+/* status_ports.c */
+void status_ports(struct json *json, const struct gateway *gateway, const struct status_moment *moment);
+void status_pairs(struct json *json, const struct gateway *gateway, const struct unit_losses *losses);
 
-/* Answers the connections that wait. */
-void status_answer(int fd, struct gateway *gateway, int64_t now);
+/* status_history.c */
+void status_frames(struct json *json, const struct gateway *gateway, const struct status_moment *moment);
+void status_commands(struct json *json, const struct gateway *gateway, const struct status_moment *moment);
+
+/* When something was: "time" of day and "seconds" since power-on. */
+void status_time(struct json *json, const struct status_moment *moment, int64_t at);
+
+/* A list: from, to, mode and PGNs. */
+void status_list(struct json *json, uint32_t from, uint32_t to, const struct list *list);
 
 #endif

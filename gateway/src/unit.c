@@ -7,6 +7,10 @@
 static const char *const STATES[] = {"Unstarted", "Claiming", "Claimed", "Lost"};
 static const char *const EVENTS[] = {NULL, "Withdrew", "Defended", "Displaced", "Recorded", "Refreshed", "TookOver", "Beaten"};
 
+static const char *const REASONS[] = {
+    "not asked", "permanent", "cleared", "listed in pass", "not listed in block", "stopped as listed", "stopped as not listed",
+};
+_Static_assert(sizeof REASONS / sizeof REASONS[0] == UNIT_REASONS, "a word for each reason");
 _Static_assert(sizeof STATES / sizeof STATES[0] == DEORASAENG_STATE_LOST + 1, "a word for each state");
 _Static_assert(sizeof EVENTS / sizeof EVENTS[0] == DEORASAENG_BEATEN + 1, "a word for each event");
 
@@ -18,6 +22,11 @@ const char *claim_state_word(enum deorasaeng_state state)
 const char *claim_event_word(uint64_t event)
 {
     return event < sizeof EVENTS / sizeof EVENTS[0] ? EVENTS[event] : "unknown";
+}
+
+const char *reason_word(enum deorasaeng_reason reason)
+{
+    return reason < UNIT_REASONS ? REASONS[reason] : "unknown";
 }
 
 uint32_t unit_power_on(struct unit *unit, uint64_t name, uint32_t preferred, uint32_t ports)
@@ -46,6 +55,17 @@ enum deorasaeng_state unit_state(const struct unit *unit)
     return unit_tell(unit).state;
 }
 
+struct queue_counts unit_counts(const struct unit *unit, uint32_t port)
+{
+    uint64_t words[DEORASAENG_COUNTS_ANSWER] = {0};
+    struct queue_counts counts;
+    deorasaeng_counts(unit->record, unit->words, port, words, DEORASAENG_COUNTS_ANSWER);
+    memcpy(counts.waiting, words + DEORASAENG_COUNTS_WAITING, sizeof counts.waiting);
+    counts.accepted = words[DEORASAENG_COUNTS_ACCEPTED];
+    counts.taken = words[DEORASAENG_COUNTS_TAKEN];
+    return counts;
+}
+
 /* A request for address claimed, which a unit that has started answers if it is to all or was consumed. */
 static bool answered_request(const struct unit *unit, const struct can_frame *frame, bool consumed)
 {
@@ -70,6 +90,7 @@ void unit_frame(struct unit *unit, uint32_t port, const struct can_frame *frame,
     answer->event = words[DEORASAENG_EVENT];
     answer->old_name = words[DEORASAENG_OLD_NAME];
     answer->own_lost = words[DEORASAENG_OWN_LOST];
+    answer->reasons = words[DEORASAENG_REASONS];
     answer->own_sent = answer->event == DEORASAENG_DEFENDED || answer->event == DEORASAENG_DISPLACED ||
                        answered_request(unit, frame, answer->consumed);
 }

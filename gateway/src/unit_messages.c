@@ -11,7 +11,12 @@
 #define CREATE_HEAD 3
 #define CREATE_MAX (CREATE_HEAD + ENTRY_BYTES * LISTS_ENTRIES)
 
-enum function { REQUEST = 0, REQUEST_REPLY = 1, ADD = 2, DELETE = 3, CLEAR = 4, CREATE = 6, ADDRESSES = 64, ADDRESSES_REPLY = 65 };
+#define PARAMETER_LOSSES 9
+
+enum function {
+    REQUEST = 0, REQUEST_REPLY = 1, ADD = 2, DELETE = 3, CLEAR = 4, CREATE = 6, ADDRESSES = 64, ADDRESSES_REPLY = 65,
+    PARAMETER = 128, PAIR_PARAMETER = 131 /* each is answered by the next */
+};
 
 #define NUMBER_CLEARED 15
 
@@ -23,12 +28,25 @@ static void send_message(struct unit *unit, uint32_t port, uint32_t requester, c
                                         sizeof answer->bytes, words, DEORASAENG_MESSAGE_ANSWER);
     answer->pgn = words[DEORASAENG_PGN];
     answer->length = words[DEORASAENG_WRITTEN];
+    answer->entry = words[DEORASAENG_ENTRY];
+    answer->to = words[DEORASAENG_TO];
+    answer->absent = words[DEORASAENG_ABSENT];
 }
 
 /* A message of the program's own; the unit's address stands for the tool's. */
 static void ask(struct unit *unit, const uint8_t *payload, size_t length, struct message_answer *answer)
 {
     send_message(unit, SERVICE_PORT, unit_tell(unit).address, payload, length, answer);
+}
+
+/* A copy of the record to ask: whatever an answer does there, nothing is changed or sent. */
+static struct unit *copy_of(const struct unit *unit)
+{
+    static struct unit copy;
+    memcpy(copy.record, unit->record, unit->words * sizeof unit->record[0]);
+    copy.words = unit->words;
+    copy.ports = unit->ports;
+    return &copy;
 }
 
 static uint8_t pair_byte(unsigned from, unsigned to)
@@ -78,6 +96,7 @@ static void read_entries(const struct message_answer *answer, struct list *list)
     }
 }
 
+/* The only place where a list is read off the unit. */
 static void read_list(struct unit *unit, unsigned from, unsigned to, struct list *list)
 {
     static struct message_answer answer;
@@ -138,7 +157,34 @@ uint32_t unit_set_lists(struct unit *unit, const struct lists *lists)
     return number;
 }
 
-int unit_addresses(struct unit *unit, uint32_t port, uint8_t addresses[UNIT_ADDRESSES])
+/* A counter of losses, with its function and pair byte. False where it is not told. */
+static bool read_losses(struct unit *unit, uint8_t function, uint8_t pair, uint32_t *value)
+{
+    static struct message_answer answer;
+    uint8_t payload[MESSAGE_BYTES];
+    memset(payload, 0xFF, sizeof payload);
+    payload[0] = function;
+    payload[1] = pair;
+    payload[2] = PARAMETER_LOSSES;
+    ask(unit, payload, sizeof payload, &answer);
+    if (answer.number != 0 || answer.length != MESSAGE_BYTES || answer.bytes[0] != function + 1)
+        return false;
+    *value = (uint32_t)answer.bytes[3] | (uint32_t)answer.bytes[4] << 8;
+    return true;
+}
+
+void unit_losses(const struct unit *unit, struct unit_losses *losses)
+{
+    struct unit *copy = copy_of(unit);
+    memset(losses, 0, sizeof *losses);
+    losses->told = read_losses(copy, PARAMETER, 0xFF, &losses->general);
+    for (unsigned from = 1; from <= unit->ports; from++)
+        for (unsigned to = 1; to <= unit->ports; to++)
+            if (from != to)
+                losses->told = read_losses(copy, PAIR_PARAMETER, pair_byte(from, to), &losses->pair[from - 1][to - 1]) && losses->told;
+}
+
+int unit_addresses(const struct unit *unit, uint32_t port, uint8_t addresses[UNIT_ADDRESSES])
 {
     static struct message_answer answer;
     uint8_t payload[MESSAGE_BYTES];
@@ -146,7 +192,7 @@ int unit_addresses(struct unit *unit, uint32_t port, uint8_t addresses[UNIT_ADDR
     memset(payload, 0xFF, sizeof payload);
     payload[0] = ADDRESSES;
     payload[1] = (uint8_t)port;
-    ask(unit, payload, sizeof payload, &answer);
+    ask(copy_of(unit), payload, sizeof payload, &answer);
     if (answer.number != 0 || answer.length < MESSAGE_BYTES || answer.bytes[0] != ADDRESSES_REPLY)
         return -1;
     for (size_t at = 2; at < answer.length && answer.bytes[at] != 0xFF && count < UNIT_ADDRESSES; at++)

@@ -106,13 +106,15 @@ static int shown(const char *bytes, size_t length, const char *option)
 }
 
 static const char DOCUMENT[] =
-    "{\"unit\":{\"name\":\"20001C000AC00123\",\"preferred\":8,\"ports\":2,\"state\":\"Lost\",\"address\":null,\"seconds\":12},"
+    "{\"schema\":1,\"program\":\"1.0\",\"interface\":8,\"time\":\"2026-11-17T19:40:00.123Z\",\"unit\":{\"name\":\"20001C000AC00123\",\"preferred\":8,\"ports\":2,\"state\":\"Lost\",\"address\":null,\"seconds\":12},"
     "\"ports\":[{\"port\":1,\"interface\":\"can0\",\"state\":\"up\",\"in\":7},{\"port\":2,\"interface\":\"can1\",\"state\":\"down\"}],"
-    "\"lists\":[{\"from\":1,\"to\":2,\"mode\":\"pass\",\"pgns\":[61444]},{\"from\":2,\"to\":1,\"mode\":\"cleared\",\"pgns\":[]}],\"lists_saved\":true,\"addresses\":null}";
+    "\"pairs\":[{\"from\":1,\"to\":2,\"crossed\":3,\"lost\":1,\"losses\":1,\"reasons\":{\"listed in pass\":4}},{\"from\":2,\"to\":1,\"reasons\":{}}],"
+    "\"lists\":[{\"from\":1,\"to\":2,\"mode\":\"pass\",\"pgns\":[61444]},{\"from\":2,\"to\":1,\"mode\":\"cleared\",\"pgns\":[]}],\"lists_saved\":true,\"lists_edited\":false,"
+    "\"addresses\":null,\"frames\":[],\"commands\":[]}";
 
 static void status_documents(void)
 {
-    CHECK(shown(DOCUMENT, sizeof DOCUMENT - 1, "") == 0 && says("no address, Lost") && says("1 to 2 pass: 61444") && strstr(printed, "address 8") == NULL);
+    CHECK(shown(DOCUMENT, sizeof DOCUMENT - 1, "") == 0 && says("no address, Lost") && says("1 to 2 pass: 61444") && says("1 to 2: crossed 3, lost 1, listed in pass 4") && strstr(printed, "address 8") == NULL);
     CHECK(shown(DOCUMENT, sizeof DOCUMENT - 1, "--json") == 0 && strncmp(printed, DOCUMENT, sizeof DOCUMENT - 1) == 0);
     CHECK(shown("", 0, "") == 1 && says("an empty answer") && strstr(printed, "cleared") == NULL);
     CHECK(shown("", 0, "--json") == 1 && says("an empty answer"));
@@ -123,8 +125,14 @@ static void status_documents(void)
         CHECK(shown(DOCUMENT, length, "") == 1 && says("cut or garbled") && strstr(printed, "all") == NULL);
     char wrong[sizeof DOCUMENT];
     memcpy(wrong, DOCUMENT, sizeof wrong);
-    memcpy(strstr(wrong, "pass"), "parr", 4);
+    memcpy(strstr(wrong, "\"pass\""), "\"parr\"", 6);
     CHECK(shown(wrong, sizeof wrong - 1, "") == 1 && says("no status of a gateway"));
+    memcpy(wrong, DOCUMENT, sizeof wrong);
+    memcpy(strstr(wrong, "commands"), "kommands", 8);
+    CHECK(shown(wrong, sizeof wrong - 1, "") == 1 && says("no status of a gateway"));
+    memcpy(wrong, DOCUMENT, sizeof wrong);
+    wrong[sizeof "{\"schema\":" - 1] = '2';
+    CHECK(shown(wrong, sizeof wrong - 1, "") == 1 && says("another schema"));
     memcpy(wrong, DOCUMENT, sizeof wrong);
     memset(strstr(wrong, "Lost"), 0, 1);
     CHECK(shown(wrong, sizeof wrong - 1, "") == 1 && says("cut or garbled"));

@@ -1,8 +1,8 @@
-/* The proved unit behind the program: lists set and read through network messages, answers as frames, counts, the status document. No CAN: the ports have no interface. */
+/* The proved unit behind the program: lists set and read through network messages, answers as frames, counts, NAMEs. */
 #include "../src/answers.h"
 #include "../src/identifier.h"
-#include "../src/json_reader.h"
-#include "../src/status.h"
+#include "../src/names.h"
+#include "../src/refusal.h"
 #include "check.h"
 
 #include <stdlib.h>
@@ -10,7 +10,6 @@
 #define OWN_NAME UINT64_C(0x20001C000AC00123)
 #define OWN_ADDRESS 0x80
 
-static struct gateway gateway;
 static struct message_answer answer;
 
 static struct can_frame frame(uint32_t id, const uint8_t *bytes, uint8_t length)
@@ -165,45 +164,76 @@ static void addresses(void)
     CHECK(unit_power_on(&unit, OWN_NAME, OWN_ADDRESS, 4) == 0 && unit_addresses(&unit, 1, list) == -1);
 }
 
-/* The longest document: full lists, every address, every count at its highest. */
-static void status(void)
+/* Frames lost at a full queue are told by pair and in general; waiting by priority. */
+static void losses(void)
 {
-    static char bytes[STATUS_BYTES + 1];
-    struct lists lists;
-    memset(&lists, 0, sizeof lists);
-    for (int from = 0; from < LISTS_PORTS; from++)
-        for (int to = 0; to < LISTS_PORTS; to++)
-            if (from != to) {
-                lists.pair[from][to].mode = LIST_BLOCK;
-                lists.pair[from][to].count = LISTS_ENTRIES;
-                for (uint32_t i = 0; i < LISTS_ENTRIES; i++)
-                    lists.pair[from][to].pgns[i] = 0x3FFE0 + i;
+    static struct unit unit;
+    static const uint8_t reset[8] = {133, 0x12, 9, 0xFF, 0xFF, 0xFF, 0xFF, 0xFF};
+    struct unit_losses told;
+    struct frame_answer got;
+    struct can_frame in = frame(0x18FEF121, NULL, 0);
+    claimed_unit(&unit, 3);
+    for (int i = 0; i < 40; i++)
+        unit_frame(&unit, 1, &in, &got);
+    unit_losses(&unit, &told);
+    CHECK(told.told && told.general == 16 && told.pair[0][1] == 8 && told.pair[0][2] == 8 && told.pair[1][0] == 0);
+    struct queue_counts counts = unit_counts(&unit, 2);
+    CHECK(counts.waiting[6] == 32 && counts.waiting[0] == 0 && counts.accepted == 33 && counts.taken == 1);
+    CHECK(DEORASAENG_REASON(got.reasons, 2) == DEORASAENG_REASON_CLEARED && DEORASAENG_REASON(got.reasons, 1) == DEORASAENG_REASON_NOT_ASKED);
+    unit_message(&unit, 1, 0x21, reset, sizeof reset, &answer);
+    unit_losses(&unit, &told);
+    CHECK(answer.number == 0 && told.general == 16 && told.pair[0][1] == 0 && told.pair[0][2] == 8);
+    CHECK(unit_power_on(&unit, OWN_NAME, OWN_ADDRESS, 3) == 0);
+    unit_losses(&unit, &told);
+    CHECK(!told.told);
+}
+
+/* The table of NAMEs has the addresses of the unit's own, whatever claims come. */
+static void names(void)
+{
+    static struct unit unit;
+    static struct names heard;
+    srand(3);
+    for (int round = 0; round < 20; round++) {
+        uint64_t own_lost;
+        memset(&heard, 0, sizeof heard);
+        CHECK(unit_power_on(&unit, OWN_NAME, OWN_ADDRESS, 4) == 0);
+        for (int i = 0; i < 300; i++) {
+            struct frame_answer got;
+            uint8_t bytes[8] = {(uint8_t)(rand() % 12), 0, 0, 0, 0, 0, 0, (uint8_t)(rand() % 2 == 0 ? 0x10 : 0xF0)};
+            uint32_t address = rand() % 10 == 0 ? 254 : OWN_ADDRESS - 4 + (uint32_t)(rand() % 8), port = 1 + (uint32_t)(rand() % 4);
+            struct can_frame claim = frame(0x18EEFF00 | address, bytes, 8), out;
+            unit_frame(&unit, port, &claim, &got);
+            CHECK(got.number == 0);
+            names_event(&heard, got.event, address, (uint64_t)bytes[7] << 56 | bytes[0], port);
+            if (i == 100 && unit_start(&unit, &own_lost) == 0 && unit_state(&unit) == DEORASAENG_STATE_CLAIMING) {
+                names_start(&heard, OWN_ADDRESS);
+                CHECK(unit_quiet(&unit) == 0);
             }
-    gateway.options.ports = GATEWAY_PORTS_MAX;
-    claimed_unit(&gateway.unit, GATEWAY_PORTS_MAX);
-    CHECK(unit_set_lists(&gateway.unit, &lists) == 0);
-    for (uint32_t address = 0; address < UNIT_ADDRESSES; address++) {
-        struct frame_answer got;
-        uint8_t name[8] = {(uint8_t)address, 0, 0, 0, 0, 0, 0, 0xF0};
-        struct can_frame claim = frame(0x18EEFF00 | address, name, 8);
-        unit_frame(&gateway.unit, 4, &claim, &got);
+            for (port = 1; port <= 4; port++)
+                for (bool more = true; more;)
+                    more = unit_take(&unit, port, &out);
+            for (port = 1; port <= 4 && unit_state(&unit) == DEORASAENG_STATE_CLAIMED; port++) {
+                uint8_t list[UNIT_ADDRESSES];
+                int count = unit_addresses(&unit, port, list), found = 0;
+                for (uint32_t at = 0; at < UNIT_ADDRESSES; at++)
+                    if (heard.at[at].held && heard.at[at].port == port)
+                        CHECK(found < count && list[found++] == at);
+                CHECK(found == count);
+            }
+        }
     }
-    for (uint32_t i = 0; i < GATEWAY_PORTS_MAX; i++) {
-        struct port *port = &gateway.ports[i];
-        port->number = i + 1;
-        memset(&port->counts, 0xFF, sizeof port->counts);
-        memset(port->interface.name, '"', IFNAMSIZ - 1);
-    }
-    size_t length = status_write(&gateway, 0, bytes, STATUS_BYTES);
-    CHECK(length > 0);
-    bytes[length] = '\0';
-    const char *list = json_first(json_member(bytes, "lists"));
-    CHECK(json_read_number(json_member(json_next(list), "to")) == 3);
-    CHECK(json_read_number(json_first(json_member(list, "pgns"))) == 0x3FFE0);
-    CHECK(json_read_number(json_member(json_first(json_member(bytes, "ports")), "lost")) == UINT64_MAX);
-    CHECK(json_first(json_member(bytes, "addresses")) != NULL);
-    CHECK(status_write(&gateway, 0, bytes, length - 1) == 0);
-    printf("longest status document: %zu bytes\n", length);
+}
+
+static void fields(void)
+{
+    struct name_fields own = name_fields(OWN_NAME), all = name_fields(UINT64_MAX);
+    CHECK(!own.self_configurable && own.industry_group == 2 && own.device_class_instance == 0 && own.device_class == 0 && own.function == 0x1C);
+    CHECK(own.function_instance == 0 && own.ecu_instance == 0 && own.manufacturer == 0x56 && own.identity == 0x123);
+    CHECK(all.self_configurable && all.industry_group == NAME_UNKNOWN(3) && all.device_class == NAME_UNKNOWN(7) && all.identity == NAME_UNKNOWN(21));
+    CHECK_TEXT(refusal_words(22), "an entry is no PGN");
+    CHECK_TEXT(refusal_words(19), "a number that this program does not know");
+    CHECK_TEXT(refusal_words(UINT32_MAX), "a number that this program does not know");
 }
 
 int main(void)
@@ -214,6 +244,8 @@ int main(void)
     answers();
     own_frames();
     addresses();
-    status();
+    losses();
+    names();
+    fields();
     return checks_end("unit");
 }
