@@ -45,6 +45,10 @@ void gateway_contended(struct gateway *gateway, int64_t now);
 void gateway_message(struct gateway *gateway, const struct history_sender *sender, uint32_t port, uint32_t requester, const uint8_t *payload, size_t length,
                      int64_t now, struct message_answer *answer);
 
+/* message.c: writes such a message down, in the log and in the journal. */
+void gateway_note(struct gateway *gateway, const struct history_sender *sender, uint32_t port, uint32_t requester, const uint8_t *payload, size_t length,
+                  int64_t now, const struct message_answer *answer);
+
 /* receive.c: sends at every port that can. */
 void gateway_transmit(struct gateway *gateway, int64_t now);
 

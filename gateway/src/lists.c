@@ -16,7 +16,7 @@ const char *list_mode_word(enum list_mode mode)
     return MODES[mode];
 }
 
-static bool list_equal(const struct list *a, const struct list *b)
+bool list_equal(const struct list *a, const struct list *b)
 {
     return a->mode == b->mode && a->count == b->count && memcmp(a->pgns, b->pgns, sizeof a->pgns) == 0;
 }

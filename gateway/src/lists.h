@@ -34,6 +34,7 @@ struct lists_error {
 /* "cleared", "block" or "pass". */
 const char *list_mode_word(enum list_mode mode);
 
+bool list_equal(const struct list *a, const struct list *b);
 bool lists_equal(const struct lists *a, const struct lists *b);
 
 /* Reads a text whole, for so many ports, or tells the first wrong line and leaves `lists` alone. */

@@ -16,8 +16,9 @@
 /* What an event is about: below GATEWAY_PORTS_MAX a port. */
 enum source {
     SOURCE_LINKS = GATEWAY_PORTS_MAX, SOURCE_TIMER, SOURCE_SIGNALS,
-    SOURCE_STATUS, SOURCE_STATUS_CLIENT, /* and as many as there are places */
-    SOURCES = SOURCE_STATUS_CLIENT + SERVER_CLIENTS
+    SOURCE_STATUS, SOURCE_CONTROL, SOURCE_STATUS_CLIENT, /* and as many as there are places */
+    SOURCE_CONTROL_CLIENT = SOURCE_STATUS_CLIENT + SERVER_CLIENTS,
+    SOURCES = SOURCE_CONTROL_CLIENT + SERVER_CLIENTS
 };
 
 enum step { STEP_ON, STEP_END, STEP_FAILED };
@@ -59,10 +60,19 @@ static bool open_status(struct loop *loop, const char *path)
     return server_listen(&loop->status, path, S_IRUSR | S_IWUSR, (gid_t)-1) ? watch(loop, loop->status.fd, SOURCE_STATUS) : failed(path);
 }
 
+static bool open_control(struct loop *loop, const struct options *options)
+{
+    if (options->control == NULL)
+        return true;
+    return server_listen(&loop->control.server, options->control, S_IRUSR | S_IWUSR | S_IRGRP | S_IWGRP, options->group)
+               ? watch(loop, loop->control.server.fd, SOURCE_CONTROL) : failed(options->control);
+}
+
 bool loop_open(struct loop *loop, struct gateway *gateway)
 {
     loop->reading = false;
     server_begin(&loop->status);
+    server_begin(&loop->control.server);
     gateway->controllers = controller_open(); /* without it the status has no word on controllers */
     loop->armed = CLOCK_NEVER;
     loop->epoll = epoll_create1(EPOLL_CLOEXEC);
@@ -78,13 +88,13 @@ bool loop_open(struct loop *loop, struct gateway *gateway)
     if (loop->links < 0)
         return failed("rtnetlink");
     return watch(loop, loop->timer, SOURCE_TIMER) && watch(loop, loop->signals, SOURCE_SIGNALS) && watch(loop, loop->links, SOURCE_LINKS) &&
-           open_status(loop, gateway->options.status);
+           open_status(loop, gateway->options.status) && open_control(loop, &gateway->options);
 }
 
 static int64_t deadline(const struct loop *loop, const struct gateway *gateway)
 {
     int64_t at = clock_earlier(gateway_claim_deadline(gateway), saver_deadline(&gateway->saver));
-    at = clock_earlier(at, server_deadline(&loop->status));
+    at = clock_earlier(at, clock_earlier(server_deadline(&loop->status), control_server_deadline(&loop->control)));
     for (uint32_t i = 0; i < gateway->options.ports; i++)
         at = clock_earlier(at, port_deadline(&gateway->ports[i]));
     return at;
@@ -146,6 +156,57 @@ static void status_ready(struct server_client *client)
         status_server_ready(client);
 }
 
+/* Watches a client of the control socket for what it needs next. One that waits for its time is taken out of the set: that it has gone would be told again and again. */
+static void watch_control(struct loop *loop, uint32_t place)
+{
+    static const uint32_t EVENTS[] = {[CONTROL_WAIT_READ] = EPOLLIN, [CONTROL_WAIT_WRITE] = EPOLLOUT, [CONTROL_WAIT_TIME] = 0};
+    struct server_client *client = &loop->control.server.clients[place];
+    if (client->fd < 0) { /* closed, and out of the set by that */
+        loop->watched[place] = 0;
+        return;
+    }
+    uint32_t events = EVENTS[control_server_wait(&loop->control, place)];
+    if (events == loop->watched[place])
+        return;
+    bool done = loop->watched[place] == 0 || epoll_ctl(loop->epoll, EPOLL_CTL_DEL, client->fd, NULL) == 0 || failed("epoll_ctl");
+    loop->watched[place] = events;
+    if (!done || (events != 0 && !watch_for(loop, client->fd, SOURCE_CONTROL_CLIENT + place, events)))
+        server_close(client);
+}
+
+static void control_ready(struct loop *loop, uint32_t place, struct gateway *gateway, int64_t now)
+{
+    if (loop->control.server.clients[place].fd >= 0)
+        control_server_step(&loop->control, place, gateway, now);
+    watch_control(loop, place);
+}
+
+static void control_asked(struct loop *loop, int64_t now)
+{
+    const struct server_client *client = control_server_accept(&loop->control, now);
+    if (client == NULL)
+        return;
+    uint32_t place = (uint32_t)(client - loop->control.server.clients);
+    loop->watched[place] = 0;
+    watch_control(loop, place);
+}
+
+static void control_due(struct loop *loop, struct gateway *gateway, int64_t now)
+{
+    for (uint32_t place = 0; place < SERVER_CLIENTS; place++)
+        if (control_server_is_due(&loop->control, place, now))
+            control_ready(loop, place, gateway, now);
+}
+
+/* An event of a client of one of the sockets. */
+static void client_ready(struct loop *loop, uint32_t source, struct gateway *gateway, int64_t now)
+{
+    if (source >= SOURCE_CONTROL_CLIENT)
+        control_ready(loop, source - SOURCE_CONTROL_CLIENT, gateway, now);
+    else
+        status_ready(&loop->status.clients[source - SOURCE_STATUS_CLIENT]);
+}
+
 static enum step dispatch(struct loop *loop, struct gateway *gateway, uint32_t source, int64_t now)
 {
     switch (source) {
@@ -160,13 +221,15 @@ static enum step dispatch(struct loop *loop, struct gateway *gateway, uint32_t s
     case SOURCE_STATUS:
         status_asked(loop, gateway, now);
         return STEP_ON;
+    case SOURCE_CONTROL:
+        control_asked(loop, now);
+        return STEP_ON;
     default:
-        if (source >= SOURCE_STATUS_CLIENT) {
-            status_ready(&loop->status.clients[source - SOURCE_STATUS_CLIENT]);
-            return STEP_ON;
-        }
-        gateway_receive(gateway, &gateway->ports[source], now);
-        gateway_transmit(gateway, now);
+        if (source < GATEWAY_PORTS_MAX) {
+            gateway_receive(gateway, &gateway->ports[source], now);
+            gateway_transmit(gateway, now);
+        } else
+            client_ready(loop, source, gateway, now);
         return STEP_ON;
     }
 }
@@ -189,8 +252,9 @@ static bool settle(struct loop *loop, struct gateway *gateway)
     int64_t now = clock_now();
     if (!gateway_claim(gateway, now) || !read_ports(loop, gateway))
         return false;
-    saver_step(&gateway->saver, &gateway->unit.lists, now);
     status_server_due(&loop->status, now);
+    control_due(loop, gateway, now);
+    saver_step(&gateway->saver, &gateway->unit.lists, now);
     for (uint32_t i = 0; i < gateway->options.ports; i++)
         port_due(&gateway->ports[i], now);
     gateway_transmit(gateway, now);

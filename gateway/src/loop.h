@@ -1,13 +1,15 @@
-/* The event loop: ports, interface changes, a timer, signals and the status socket, by epoll in one thread. */
+/* The event loop: ports, interface changes, a timer, signals and the two sockets, by epoll in one thread. */
 #ifndef GATEWAY_LOOP_H
 #define GATEWAY_LOOP_H
 
+#include "control_server.h"
 #include "gateway.h"
-#include "server.h"
 
 struct loop {
     int epoll, timer, signals, links; /* file descriptors */
     struct server status;
+    struct control_server control;
+    uint32_t watched[SERVER_CLIENTS]; /* the events that a client of the control socket is in the epoll set for, 0 for none */
     bool reading;                             /* the ports are in the epoll set */
     int64_t armed;                            /* when the timer fires */
 };

@@ -4,9 +4,11 @@
 #include "lists_file.h"
 #include "log.h"
 #include "loop.h"
+#include "number.h"
 #include "version.h"
 
 #include <errno.h>
+#include <grp.h>
 #include <stdio.h>
 #include <string.h>
 #include <unistd.h>
@@ -46,9 +48,31 @@ static bool open_ports(struct gateway *gateway)
     return true;
 }
 
+/* The group of the control socket. Looked up before the bridge runs, for that allocates. */
+static bool find_group(struct options *options)
+{
+    uint32_t number;
+    if (options->control_group == NULL)
+        return true;
+    const struct group *group = getgrnam(options->control_group);
+    if (group == NULL && !number_read(options->control_group, INT32_MAX, &number)) {
+        fprintf(stderr, "%s: --control-group %s: no such group\n", PROGRAM, options->control_group);
+        return false;
+    }
+    options->group = group == NULL ? number : group->gr_gid;
+    return true;
+}
+
+/* Takes a socket's path away. */
+static void remove_socket(const struct server *server, const char *path)
+{
+    if (server->fd >= 0 && unlink(path) != 0)
+        log_line(LOG_WARNING, "%s: %s", path, strerror(errno));
+}
+
 static int run(struct gateway *gateway)
 {
-    struct loop loop;
+    static struct loop loop;
     gateway->began_at = clock_now();
     gateway->saver.path = gateway->options.lists;
     gateway->reading = gateway->options.lists == NULL;
@@ -59,8 +83,8 @@ static int run(struct gateway *gateway)
     }
     bool ended = loop_open(&loop, gateway) && loop_run(&loop, gateway);
     saver_finish(&gateway->saver, &gateway->unit.lists);
-    if (loop.status.fd >= 0 && unlink(gateway->options.status) != 0)
-        log_line(LOG_WARNING, "%s: %s", gateway->options.status, strerror(errno));
+    remove_socket(&loop.status, gateway->options.status);
+    remove_socket(&loop.control.server, gateway->options.control);
     gateway_summary(gateway);
     return ended ? EXIT_DONE : EXIT_FAILED;
 }
@@ -87,7 +111,7 @@ int main(int argc, char *argv[])
         break;
     }
     log_open(gateway.options.log);
-    if (!load_lists(&gateway) || !open_ports(&gateway))
+    if (!find_group(&gateway.options) || !load_lists(&gateway) || !open_ports(&gateway))
         return EXIT_WRONG;
     return run(&gateway);
 }

@@ -34,11 +34,9 @@ static void tell(const struct history_command *command, const struct message_ans
                  command->function, command->pair, command->number, refusal_words(command->number), entry);
 }
 
-void gateway_message(struct gateway *gateway, const struct history_sender *sender, uint32_t port, uint32_t requester, const uint8_t *payload, size_t length,
-                     int64_t now, struct message_answer *answer)
+void gateway_note(struct gateway *gateway, const struct history_sender *sender, uint32_t port, uint32_t requester, const uint8_t *payload, size_t length,
+                  int64_t now, const struct message_answer *answer)
 {
-    struct lists before = gateway->unit.lists;
-    unit_message(&gateway->unit, port, requester, payload, length, answer);
     const struct history_command command = {
         .at = now, .sender = *sender, .port = port, .requester = requester,
         .function = length > 0 ? payload[0] : 0, .pair = length > 1 ? payload[1] : 0,
@@ -48,6 +46,14 @@ void gateway_message(struct gateway *gateway, const struct history_sender *sende
     /* A request that was answered is no command; one that was refused tells who tried. */
     if (answer->number != 0 || answer->pgn == PGN_ACKNOWLEDGMENT)
         history_add_command(&gateway->history, &command);
+}
+
+void gateway_message(struct gateway *gateway, const struct history_sender *sender, uint32_t port, uint32_t requester, const uint8_t *payload, size_t length,
+                     int64_t now, struct message_answer *answer)
+{
+    struct lists before = gateway->unit.lists;
+    unit_message(&gateway->unit, port, requester, payload, length, answer);
+    gateway_note(gateway, sender, port, requester, payload, length, now, answer);
     if (!lists_equal(&before, &gateway->unit.lists))
         saver_want(&gateway->saver);
 }

@@ -18,16 +18,19 @@ const char OPTIONS_USAGE[] =
     "  --address ADDRESS  the address it claims, 0 to 253, decimal or 0x hex\n"
     "  --lists FILE       filter lists, set from FILE at start and saved there when a command changed one\n"
     "  --status PATH      a Unix socket that answers each connection with the state as JSON\n"
+    "  --control PATH     a Unix socket that does commands, a JSON object a line; its rights are 0660\n"
+    "  --control-group G  its group, a name or a number; else that of the program\n"
     "  --log LEVEL        error, warning, info (the default) or debug\n"
     "  -h, --help         this text\n"
     "  --version          the version of this program and of the unit's interface\n"
     "It ends on SIGTERM, SIGINT or SIGHUP with a summary and status 0; 2 is a wrong command line, lists file or interface.\n";
 
-enum option_code { OPTION_NAME = 256, OPTION_ADDRESS, OPTION_LISTS, OPTION_STATUS, OPTION_LOG, OPTION_VERSION };
+enum option_code { OPTION_NAME = 256, OPTION_ADDRESS, OPTION_LISTS, OPTION_STATUS, OPTION_CONTROL, OPTION_CONTROL_GROUP, OPTION_LOG, OPTION_VERSION };
 
 static const struct option OPTIONS[] = {
     {"name", required_argument, NULL, OPTION_NAME},     {"address", required_argument, NULL, OPTION_ADDRESS},
     {"lists", required_argument, NULL, OPTION_LISTS},   {"status", required_argument, NULL, OPTION_STATUS},
+    {"control", required_argument, NULL, OPTION_CONTROL}, {"control-group", required_argument, NULL, OPTION_CONTROL_GROUP},
     {"log", required_argument, NULL, OPTION_LOG},       {"version", no_argument, NULL, OPTION_VERSION},
     {"help", no_argument, NULL, 'h'},                   {NULL, 0, NULL, 0},
 };
@@ -36,6 +39,15 @@ static const struct option OPTIONS[] = {
 struct given {
     bool name, address;
 };
+
+static bool socket_path(const char *option, const char *value, char *error)
+{
+    size_t room = sizeof ((struct sockaddr_un *)NULL)->sun_path;
+    if (value[0] != '\0' && strlen(value) < room)
+        return true;
+    snprintf(error, ERROR_SIZE, "%s: a socket's path has 1 to %zu bytes", option, room - 1);
+    return false;
+}
 
 static bool read_value(int option, const char *value, struct options *options, struct given *given, char *error)
 {
@@ -55,10 +67,13 @@ static bool read_value(int option, const char *value, struct options *options, s
         return true;
     case OPTION_STATUS:
         options->status = value;
-        if (value[0] != '\0' && strlen(value) < sizeof ((struct sockaddr_un *)NULL)->sun_path)
-            return true;
-        snprintf(error, ERROR_SIZE, "--status: a socket's path has 1 to %zu bytes", sizeof ((struct sockaddr_un *)NULL)->sun_path - 1);
-        return false;
+        return socket_path("--status", value, error);
+    case OPTION_CONTROL:
+        options->control = value;
+        return socket_path("--control", value, error);
+    case OPTION_CONTROL_GROUP:
+        options->control_group = value;
+        return true;
     default:
         if (log_level_read(value, &options->log))
             return true;
@@ -89,10 +104,14 @@ static bool read_interfaces(int count, char *words[], struct options *options, c
     return true;
 }
 
-static bool missing(const struct given *given, char *error)
+static bool missing(const struct given *given, const struct options *options, char *error)
 {
-    if (given->name && given->address)
+    if (given->name && given->address && (options->control_group == NULL || options->control != NULL))
         return false;
+    if (given->name && given->address) {
+        snprintf(error, ERROR_SIZE, "--control-group is for --control, which is not given");
+        return true;
+    }
     snprintf(error, ERROR_SIZE, "%s is needed", given->name ? "--address" : "--name");
     return true;
 }
@@ -102,6 +121,7 @@ enum options_read options_read(int argc, char *argv[], struct options *options, 
     struct given given = {false, false};
     memset(options, 0, sizeof *options);
     options->log = LOG_INFO;
+    options->group = (gid_t)-1;
     optind = 0; /* the scan begins anew, for a second call */
     opterr = 0;
     for (;;) {
@@ -117,7 +137,7 @@ enum options_read options_read(int argc, char *argv[], struct options *options, 
         if (!read_value(option, optarg, options, &given, error))
             return OPTIONS_WRONG;
     }
-    if (missing(&given, error) || !read_interfaces(argc - optind, argv + optind, options, error))
+    if (missing(&given, options, error) || !read_interfaces(argc - optind, argv + optind, options, error))
         return OPTIONS_WRONG;
     return OPTIONS_RUN;
 }

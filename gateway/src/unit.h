@@ -4,6 +4,7 @@
 
 #include "../../include/deorasaeng.h"
 #include "lists.h"
+#include "payload.h"
 
 #include <linux/can.h>
 
@@ -112,6 +113,15 @@ void unit_message(struct unit *unit, uint32_t port, uint32_t requester, const ui
 
 /* Sets lists on cleared pairs by Create, and by Delete what an emptied list needs. 0, or the first number. */
 uint32_t unit_set_lists(struct unit *unit, const struct lists *lists);
+
+/* A copy of the record to ask: whatever an answer does there, nothing is changed or sent. The next call makes another in its place. */
+struct unit *unit_copy(const struct unit *unit);
+
+/* A pair's list as a tool on that port is told it, asked of a copy of the record: 0, or the number that refuses the tool. */
+uint32_t unit_read_list(const struct unit *unit, uint32_t port, uint32_t from, uint32_t to, struct list *list);
+
+/* A message of the program's own, as from a tool on that port; the unit's address stands for the tool's. The lists are not read again. */
+void unit_tool(struct unit *unit, uint32_t port, const struct payload *payload, struct message_answer *answer);
 
 /* Asked of a copy of the record. */
 void unit_losses(const struct unit *unit, struct unit_losses *losses);

@@ -6,20 +6,9 @@
 #include <string.h>
 
 #define SERVICE_PORT 1
-#define MESSAGE_BYTES 8
-#define ENTRY_BYTES 3
-#define CREATE_HEAD 3
-#define CREATE_MAX (CREATE_HEAD + ENTRY_BYTES * LISTS_ENTRIES)
+#define REPLY_HEAD 3 /* bytes before the entries of a list */
 
-#define PARAMETER_LOSSES 9
-
-enum function {
-    REQUEST = 0, REQUEST_REPLY = 1, ADD = 2, DELETE = 3, CLEAR = 4, CREATE = 6, ADDRESSES = 64, ADDRESSES_REPLY = 65,
-    PARAMETER = 128, PAIR_PARAMETER = 131 /* each is answered by the next */
-};
-
-#define NUMBER_CLEARED 15
-
+/* As from a tool on a port. */
 static void send_message(struct unit *unit, uint32_t port, uint32_t requester, const uint8_t *payload, size_t length,
                          struct message_answer *answer)
 {
@@ -33,14 +22,12 @@ static void send_message(struct unit *unit, uint32_t port, uint32_t requester, c
     answer->absent = words[DEORASAENG_ABSENT];
 }
 
-/* A message of the program's own; the unit's address stands for the tool's. */
-static void ask(struct unit *unit, const uint8_t *payload, size_t length, struct message_answer *answer)
+void unit_tool(struct unit *unit, uint32_t port, const struct payload *payload, struct message_answer *answer)
 {
-    send_message(unit, SERVICE_PORT, unit_tell(unit).address, payload, length, answer);
+    send_message(unit, port, unit_tell(unit).address, payload->bytes, payload->length, answer);
 }
 
-/* A copy of the record to ask: whatever an answer does there, nothing is changed or sent. */
-static struct unit *copy_of(const struct unit *unit)
+struct unit *unit_copy(const struct unit *unit)
 {
     static struct unit copy;
     memcpy(copy.record, unit->record, unit->words * sizeof unit->record[0]);
@@ -49,125 +36,93 @@ static struct unit *copy_of(const struct unit *unit)
     return &copy;
 }
 
-static uint8_t pair_byte(unsigned from, unsigned to)
-{
-    return (uint8_t)(from << 4 | to);
-}
-
-static void put_entry(uint8_t *at, uint32_t pgn)
-{
-    at[0] = (uint8_t)(pgn & 0xFF);
-    at[1] = (uint8_t)(pgn >> 8 & 0xFF);
-    at[2] = (uint8_t)(pgn >> 16 & 0xFF);
-}
-
-static uint32_t get_entry(const uint8_t *at)
-{
-    return (uint32_t)at[0] | (uint32_t)at[1] << 8 | (uint32_t)at[2] << 16;
-}
-
-/* Delete of one PGN: the number. */
-static uint32_t delete_one(struct unit *unit, uint8_t pair, uint32_t pgn)
-{
-    static struct message_answer answer;
-    uint8_t payload[MESSAGE_BYTES];
-    memset(payload, 0xFF, sizeof payload);
-    payload[0] = DELETE;
-    payload[1] = pair;
-    put_entry(payload + 2, pgn);
-    ask(unit, payload, sizeof payload, &answer);
-    return answer.number;
-}
-
 /* A reply has no entries and mode 0 for a cleared pair and for an emptied block list. Delete of a PGN is refused for both, by different numbers. */
-static enum list_mode mode_of_empty(struct unit *unit, uint8_t pair)
+static enum list_mode mode_of_empty(struct unit *unit, uint32_t port, uint32_t from, uint32_t to)
 {
-    return delete_one(unit, pair, 0) == NUMBER_CLEARED ? LIST_CLEARED : LIST_BLOCK;
+    static struct payload payload;
+    static struct message_answer answer;
+    static const uint32_t ANY[] = {0};
+    payload_delete(&payload, from, to, ANY, 1);
+    unit_tool(unit, port, &payload, &answer);
+    return answer.number == DEORASAENG_IS_CLEARED ? LIST_CLEARED : LIST_BLOCK;
 }
 
-/* The entries behind a reply's three first bytes, up to the filling of a reply of 8 bytes: FF FF FF is no PGN, and two bytes are no entry. */
+/* The entries behind a reply's first bytes, up to the filling of a reply of 8 bytes: FF FF FF is no PGN, and two bytes are no entry. */
 static void read_entries(const struct message_answer *answer, struct list *list)
 {
-    for (size_t at = CREATE_HEAD; at + ENTRY_BYTES <= answer->length && list->count < LISTS_ENTRIES; at += ENTRY_BYTES) {
-        uint32_t pgn = get_entry(answer->bytes + at);
+    for (size_t at = REPLY_HEAD; at + PAYLOAD_ENTRY <= answer->length && list->count < LISTS_ENTRIES; at += PAYLOAD_ENTRY) {
+        uint32_t pgn = payload_entry(answer->bytes + at);
         if (pgn == 0xFFFFFF)
             return;
         list->pgns[list->count++] = pgn;
     }
 }
 
-/* The only place where a list is read off the unit. */
-static void read_list(struct unit *unit, unsigned from, unsigned to, struct list *list)
+/* The only place where a list is read off the unit, as a tool on that port is told it: 0, or the number that refuses. */
+static uint32_t read_list(struct unit *unit, uint32_t port, uint32_t from, uint32_t to, struct list *list)
 {
+    static struct payload payload;
     static struct message_answer answer;
-    uint8_t payload[MESSAGE_BYTES];
-    memset(payload, 0xFF, sizeof payload);
-    payload[0] = REQUEST;
-    payload[1] = pair_byte(from, to);
-    ask(unit, payload, sizeof payload, &answer);
-    if (answer.number != 0 || answer.length < MESSAGE_BYTES || answer.bytes[0] != REQUEST_REPLY)
-        return;
+    payload_request(&payload, from, to);
+    unit_tool(unit, port, &payload, &answer);
+    if (answer.number != 0 || answer.length < PAYLOAD_LEAST || answer.bytes[0] != FUNCTION_REQUEST_REPLY)
+        return answer.number;
     memset(list, 0, sizeof *list);
     read_entries(&answer, list);
-    list->mode = answer.bytes[2] != 0 ? LIST_PASS : list->count > 0 ? LIST_BLOCK : mode_of_empty(unit, payload[1]);
+    list->mode = answer.bytes[2] != 0 ? LIST_PASS : list->count > 0 ? LIST_BLOCK : mode_of_empty(unit, port, from, to);
+    return 0;
+}
+
+uint32_t unit_read_list(const struct unit *unit, uint32_t port, uint32_t from, uint32_t to, struct list *list)
+{
+    return read_list(unit_copy(unit), port, from, to, list);
 }
 
 static void read_lists(struct unit *unit)
 {
-    for (unsigned from = 1; from <= unit->ports; from++)
-        for (unsigned to = 1; to <= unit->ports; to++)
+    for (uint32_t from = 1; from <= unit->ports; from++)
+        for (uint32_t to = 1; to <= unit->ports; to++)
             if (from != to)
-                read_list(unit, from, to, &unit->lists.pair[from - 1][to - 1]);
+                read_list(unit, SERVICE_PORT, from, to, &unit->lists.pair[from - 1][to - 1]);
 }
 
 void unit_message(struct unit *unit, uint32_t port, uint32_t requester, const uint8_t *payload, size_t length, struct message_answer *answer)
 {
     send_message(unit, port, requester, payload, length, answer);
-    if (answer->number == 0 && answer->pgn == PGN_ACKNOWLEDGMENT) /* a command was done: functions 2, 3, 4 and 6 */
+    if (answer->number == 0 && answer->pgn == PGN_ACKNOWLEDGMENT) /* a command was done */
         read_lists(unit);
 }
 
-/* Create with the list's entries, with PGN 0 where it has none; then that one is deleted again. */
-static uint32_t set_list(struct unit *unit, unsigned from, unsigned to, const struct list *list)
+static uint32_t set_list(struct unit *unit, uint32_t from, uint32_t to, const struct list *list)
 {
+    static struct payload payloads[2];
     static struct message_answer answer;
-    uint8_t payload[CREATE_MAX];
-    uint32_t entries = list->count > 0 ? list->count : 1;
-    size_t length = CREATE_HEAD + ENTRY_BYTES * entries;
-    memset(payload, 0xFF, sizeof payload);
-    payload[0] = CREATE;
-    payload[1] = pair_byte(from, to);
-    payload[2] = list->mode == LIST_PASS;
-    for (uint32_t i = 0; i < entries; i++)
-        put_entry(payload + CREATE_HEAD + ENTRY_BYTES * i, list->pgns[i]);
-    ask(unit, payload, length < MESSAGE_BYTES ? MESSAGE_BYTES : length, &answer);
-    if (answer.number != 0 || list->count > 0)
-        return answer.number;
-    return delete_one(unit, payload[1], 0);
+    uint32_t count = payload_create(payloads, from, to, list->mode == LIST_PASS, list->pgns, list->count);
+    answer.number = 0;
+    for (uint32_t i = 0; i < count && answer.number == 0; i++)
+        unit_tool(unit, SERVICE_PORT, &payloads[i], &answer);
+    return answer.number;
 }
 
 uint32_t unit_set_lists(struct unit *unit, const struct lists *lists)
 {
     uint32_t number = 0;
-    for (unsigned from = 1; from <= unit->ports && number == 0; from++)
-        for (unsigned to = 1; to <= unit->ports && number == 0; to++)
+    for (uint32_t from = 1; from <= unit->ports && number == 0; from++)
+        for (uint32_t to = 1; to <= unit->ports && number == 0; to++)
             if (lists->pair[from - 1][to - 1].mode != LIST_CLEARED)
                 number = set_list(unit, from, to, &lists->pair[from - 1][to - 1]);
     read_lists(unit);
     return number;
 }
 
-/* A counter of losses, with its function and pair byte. False where it is not told. */
-static bool read_losses(struct unit *unit, uint8_t function, uint8_t pair, uint32_t *value)
+/* A counter of losses. False where it is not told. */
+static bool read_losses(struct unit *unit, bool pair, uint32_t from, uint32_t to, uint32_t *value)
 {
+    static struct payload payload;
     static struct message_answer answer;
-    uint8_t payload[MESSAGE_BYTES];
-    memset(payload, 0xFF, sizeof payload);
-    payload[0] = function;
-    payload[1] = pair;
-    payload[2] = PARAMETER_LOSSES;
-    ask(unit, payload, sizeof payload, &answer);
-    if (answer.number != 0 || answer.length != MESSAGE_BYTES || answer.bytes[0] != function + 1)
+    payload_losses(&payload, pair, from, to);
+    unit_tool(unit, SERVICE_PORT, &payload, &answer);
+    if (answer.number != 0 || answer.length != PAYLOAD_LEAST || answer.bytes[0] != (pair ? FUNCTION_PAIR_PARAMETER_REPLY : FUNCTION_PARAMETER_REPLY))
         return false;
     *value = (uint32_t)answer.bytes[3] | (uint32_t)answer.bytes[4] << 8;
     return true;
@@ -175,25 +130,23 @@ static bool read_losses(struct unit *unit, uint8_t function, uint8_t pair, uint3
 
 void unit_losses(const struct unit *unit, struct unit_losses *losses)
 {
-    struct unit *copy = copy_of(unit);
+    struct unit *copy = unit_copy(unit);
     memset(losses, 0, sizeof *losses);
-    losses->told = read_losses(copy, PARAMETER, 0xFF, &losses->general);
-    for (unsigned from = 1; from <= unit->ports; from++)
-        for (unsigned to = 1; to <= unit->ports; to++)
+    losses->told = read_losses(copy, false, 0, 0, &losses->general);
+    for (uint32_t from = 1; from <= unit->ports; from++)
+        for (uint32_t to = 1; to <= unit->ports; to++)
             if (from != to)
-                losses->told = read_losses(copy, PAIR_PARAMETER, pair_byte(from, to), &losses->pair[from - 1][to - 1]) && losses->told;
+                losses->told = read_losses(copy, true, from, to, &losses->pair[from - 1][to - 1]) && losses->told;
 }
 
 int unit_addresses(const struct unit *unit, uint32_t port, uint8_t addresses[UNIT_ADDRESSES])
 {
+    static struct payload payload;
     static struct message_answer answer;
-    uint8_t payload[MESSAGE_BYTES];
     int count = 0;
-    memset(payload, 0xFF, sizeof payload);
-    payload[0] = ADDRESSES;
-    payload[1] = (uint8_t)port;
-    ask(copy_of(unit), payload, sizeof payload, &answer);
-    if (answer.number != 0 || answer.length < MESSAGE_BYTES || answer.bytes[0] != ADDRESSES_REPLY)
+    payload_addresses(&payload, port);
+    unit_tool(unit_copy(unit), SERVICE_PORT, &payload, &answer);
+    if (answer.number != 0 || answer.length < PAYLOAD_LEAST || answer.bytes[0] != FUNCTION_ADDRESSES_REPLY)
         return -1;
     for (size_t at = 2; at < answer.length && answer.bytes[at] != 0xFF && count < UNIT_ADDRESSES; at++)
         addresses[count++] = answer.bytes[at];
