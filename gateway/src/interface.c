@@ -2,6 +2,7 @@
 
 #include <errno.h>
 #include <linux/can/raw.h>
+#include <net/if.h>
 #include <stdio.h>
 #include <string.h>
 #include <sys/ioctl.h>
@@ -22,17 +23,17 @@ const char *interface_state_word(enum interface_state state)
     return STATES[state];
 }
 
-enum arrival_kind arrival_kind(const struct canfd_frame *frame, size_t size, int flags)
+enum arrival_kind arrival_kind(canid_t id, size_t size, int flags)
 {
     if ((flags & MSG_CONFIRM) != 0)
         return ARRIVAL_ECHO;
     if (size != CAN_MTU)
         return ARRIVAL_FD;
-    if ((frame->can_id & CAN_ERR_FLAG) != 0)
+    if ((id & CAN_ERR_FLAG) != 0)
         return ARRIVAL_ERROR;
-    if ((frame->can_id & CAN_RTR_FLAG) != 0)
+    if ((id & CAN_RTR_FLAG) != 0)
         return ARRIVAL_REMOTE;
-    return (frame->can_id & CAN_EFF_FLAG) != 0 ? ARRIVAL_FRAME : ARRIVAL_ELEVEN_BIT;
+    return (id & CAN_EFF_FLAG) != 0 ? ARRIVAL_FRAME : ARRIVAL_ELEVEN_BIT;
 }
 
 /* Own frames back, error frames and FD frames too (they are counted), the count of what was dropped. */
@@ -53,7 +54,7 @@ static bool look_up(const struct interface *interface, int *index, int *flags)
 {
     struct ifreq request;
     memset(&request, 0, sizeof request);
-    snprintf(request.ifr_name, sizeof request.ifr_name, "%s", interface->name);
+    memcpy(request.ifr_name, interface->name, sizeof request.ifr_name - 1);
     if (ioctl(interface->fd, SIOCGIFINDEX, &request) != 0)
         return false;
     *index = request.ifr_ifindex;
@@ -84,6 +85,8 @@ bool interface_open(struct interface *interface, const char *name)
     memset(interface, 0, sizeof *interface);
     snprintf(interface->name, sizeof interface->name, "%s", name);
     interface->state = INTERFACE_GONE;
+    if (interface_is_unix(interface))
+        return interface_unix_open(interface);
     interface->fd = socket(PF_CAN, SOCK_RAW | SOCK_NONBLOCK | SOCK_CLOEXEC, CAN_RAW);
     if (interface->fd < 0)
         return false;
@@ -109,6 +112,10 @@ static void come_up(struct interface *interface)
 void interface_look(struct interface *interface)
 {
     int index, flags;
+    if (interface_is_unix(interface)) {
+        interface_unix_look(interface);
+        return;
+    }
     if (!look_up(interface, &index, &flags) || (index != interface->index && !bind_to(interface, index))) {
         interface->state = INTERFACE_GONE;
         interface->index = 0;
@@ -141,6 +148,8 @@ enum interface_read interface_receive(const struct interface *interface, struct 
     struct iovec vector = {&frame, sizeof frame};
     _Alignas(struct cmsghdr) char control[CMSG_SPACE(sizeof arrival->dropped)];
     struct msghdr message;
+    if (interface_is_unix(interface))
+        return interface_unix_receive(interface, arrival);
     memset(&message, 0, sizeof message);
     message.msg_iov = &vector;
     message.msg_iovlen = 1;
@@ -151,7 +160,7 @@ enum interface_read interface_receive(const struct interface *interface, struct 
         return errno == EAGAIN || errno == EINTR ? READ_NOTHING : READ_FAILED;
     if ((size_t)got < CAN_MTU)
         return READ_NOTHING;
-    arrival->kind = arrival_kind(&frame, (size_t)got, message.msg_flags);
+    arrival->kind = arrival_kind(frame.can_id, (size_t)got, message.msg_flags);
     memcpy(&arrival->frame, &frame, sizeof arrival->frame); /* an FD frame begins as a frame does */
     read_dropped(&message, arrival);
     return READ_ONE;
@@ -159,7 +168,7 @@ enum interface_read interface_receive(const struct interface *interface, struct 
 
 enum interface_sent interface_send(const struct interface *interface, const struct can_frame *frame)
 {
-    ssize_t put = send(interface->fd, frame, sizeof *frame, MSG_DONTWAIT);
+    ssize_t put = send(interface->fd, frame, sizeof *frame, MSG_DONTWAIT | MSG_NOSIGNAL);
     if (put == (ssize_t)sizeof *frame)
         return SENT_TAKEN;
     if (put < 0 && errno != ENOBUFS && errno != EAGAIN && errno != EINTR)

@@ -70,7 +70,6 @@ static bool open_control(struct loop *loop, const struct options *options)
 
 bool loop_open(struct loop *loop, struct gateway *gateway)
 {
-    loop->reading = false;
     server_begin(&loop->status);
     server_begin(&loop->control.server);
     gateway->controllers = controller_open(); /* without it the status has no word on controllers */
@@ -234,15 +233,17 @@ static enum step dispatch(struct loop *loop, struct gateway *gateway, uint32_t s
     }
 }
 
-/* The ports join the epoll set once they may be read. */
-static bool read_ports(struct loop *loop, const struct gateway *gateway)
+/* The ports join the epoll set once they may be read, and a bus without CAN each time that it was joined. */
+static bool read_ports(const struct loop *loop, struct gateway *gateway)
 {
-    if (loop->reading || !gateway->reading)
-        return true;
-    loop->reading = true;
-    for (uint32_t i = 0; i < gateway->options.ports; i++)
-        if (!watch(loop, gateway->ports[i].interface.fd, i))
+    for (uint32_t i = 0; gateway->reading && i < gateway->options.ports; i++) {
+        struct interface *interface = &gateway->ports[i].interface;
+        if (interface->watched || interface->fd < 0)
+            continue;
+        if (!watch(loop, interface->fd, i))
             return false;
+        interface->watched = true;
+    }
     return true;
 }
 
@@ -250,13 +251,13 @@ static bool read_ports(struct loop *loop, const struct gateway *gateway)
 static bool settle(struct loop *loop, struct gateway *gateway)
 {
     int64_t now = clock_now();
+    for (uint32_t i = 0; i < gateway->options.ports; i++)
+        port_due(&gateway->ports[i], now);
     if (!gateway_claim(gateway, now) || !read_ports(loop, gateway))
         return false;
     status_server_due(&loop->status, now);
     control_due(loop, gateway, now);
     saver_step(&gateway->saver, &gateway->unit.lists, now);
-    for (uint32_t i = 0; i < gateway->options.ports; i++)
-        port_due(&gateway->ports[i], now);
     gateway_transmit(gateway, now);
     return arm(loop, deadline(loop, gateway));
 }

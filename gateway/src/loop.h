@@ -10,8 +10,7 @@ struct loop {
     struct server status;
     struct control_server control;
     uint32_t watched[SERVER_CLIENTS]; /* the events that a client of the control socket is in the epoll set for, 0 for none */
-    bool reading;                             /* the ports are in the epoll set */
-    int64_t armed;                            /* when the timer fires */
+    int64_t armed;                    /* when the timer fires */
 };
 
 /* False, after a line in the log, where something cannot be had. */

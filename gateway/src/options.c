@@ -1,6 +1,7 @@
 #include "options.h"
 
 #include "number.h"
+#include "unix_bus.h"
 
 #include <getopt.h>
 #include <net/if.h>
@@ -13,7 +14,8 @@
 
 const char OPTIONS_USAGE[] =
     "usage: deorasaeng-gateway --name NAME --address ADDRESS [options] IF1 IF2 ..\n"
-    "A bridge between two to eight CAN interfaces; IF1 is port 1, the service port.\n"
+    "A bridge between two to eight CAN interfaces; IF1 is port 1, the service port. unix:PATH is a bus without CAN\n"
+    "(deorasaeng-bus).\n"
     "  --name NAME        the unit's NAME, 64 bits in hex (ISO 11783-5), unique on the buses\n"
     "  --address ADDRESS  the address it claims, 0 to 253, decimal or 0x hex\n"
     "  --lists FILE       filter lists, set from FILE at start and saved there when a command changed one\n"
@@ -82,6 +84,13 @@ static bool read_value(int option, const char *value, struct options *options, s
     }
 }
 
+/* The name of an interface that the kernel could have, or of a bus without CAN. */
+static bool is_name(const char *word)
+{
+    const char *path = unix_bus_path(word);
+    return path == NULL ? word[0] != '\0' && strlen(word) < IFNAMSIZ : path[0] != '\0' && strlen(path) < UNIX_BUS_PATH_BYTES;
+}
+
 static bool read_interfaces(int count, char *words[], struct options *options, char *error)
 {
     if (count < GATEWAY_PORTS_MIN || count > GATEWAY_PORTS_MAX) {
@@ -90,7 +99,7 @@ static bool read_interfaces(int count, char *words[], struct options *options, c
     }
     options->ports = (uint32_t)count;
     for (int i = 0; i < count; i++) {
-        if (words[i][0] == '\0' || strlen(words[i]) >= IFNAMSIZ) {
+        if (!is_name(words[i])) {
             snprintf(error, ERROR_SIZE, "%.40s: not the name of an interface", words[i]);
             return false;
         }

@@ -12,6 +12,7 @@
 /* Far longer than a frame waits for an idle bus, within the 50 ms of J1939-31, 5.2.2. */
 #define ASSUME_AFTER (10 * CLOCK_MS)
 #define TELL_EVERY CLOCK_SECOND
+#define LOOK_EVERY (100 * CLOCK_MS)
 
 bool port_open(struct port *port, uint32_t number, const char *interface)
 {
@@ -126,8 +127,11 @@ void port_on_bus(struct port *port)
 void port_look(struct port *port)
 {
     enum interface_state before = port->interface.state;
+    bool closed = port->interface.fd < 0;
     interface_look(&port->interface);
     enum interface_state after = port->interface.state;
+    if (closed)
+        port->dropped = 0; /* of a bus without CAN it is counted since it was joined */
     if (after == before)
         return;
     if (after == INTERFACE_UP) {
@@ -136,6 +140,20 @@ void port_look(struct port *port)
     }
     port->interface.state = before;
     port_failed(port, after);
+}
+
+/* A bus without CAN that is gone, and of which no notice comes when it is back. */
+static bool is_looked_for(const struct port *port)
+{
+    return port->interface.state == INTERFACE_GONE && interface_is_unix(&port->interface);
+}
+
+static void look_for(struct port *port, int64_t now)
+{
+    if (!is_looked_for(port) || now < port->look_at)
+        return;
+    port->look_at = now + LOOK_EVERY;
+    port_look(port);
 }
 
 static void tell_losses(struct port *port, int64_t now)
@@ -159,6 +177,7 @@ void port_due(struct port *port, int64_t now)
         count_done(port, transmit_assume(&port->transmit));
         port->assume_at = CLOCK_NEVER;
     }
+    look_for(port, now);
     tell_losses(port, now);
 }
 
@@ -172,5 +191,7 @@ int64_t port_deadline(const struct port *port)
         deadline = clock_earlier(deadline, port->tell_at);
     if (full)
         deadline = clock_earlier(deadline, port->retry_at);
+    if (is_looked_for(port))
+        deadline = clock_earlier(deadline, port->look_at);
     return deadline;
 }

@@ -35,6 +35,7 @@ struct port {
     uint32_t dropped;        /* the kernel's count when last read */
     int64_t retry_at;        /* when to try again after ENOBUFS */
     int64_t assume_at;       /* when the frame with the kernel counts as sent, its echo maybe having been dropped */
+    int64_t look_at;         /* a bus without CAN that is gone is not looked for before this */
     uint64_t high_water;     /* the most frames that waited at once */
     int64_t lost_at;         /* when the last frame was lost, or arrival missed; 0 for never */
     int64_t tell_at;         /* the next line about losses is not before this */

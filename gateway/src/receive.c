@@ -209,6 +209,9 @@ void gateway_receive(struct gateway *gateway, struct port *port, int64_t now)
         port_failed(port, number == ENETDOWN ? INTERFACE_DOWN : INTERFACE_GONE);
         port_look(port);
         break;
+    case READ_DROPPED:
+        port_dropped(port, arrival.dropped, now);
+        break;
     case READ_ONE:
         arrived(gateway, port, &arrival, now);
         if (arrival.dropped_known)

@@ -11,7 +11,7 @@
 #include <unistd.h>
 
 #define DOCUMENT_BYTES (STATUS_BYTES + 1)
-#define WORD_BYTES 32
+#define WORD_BYTES 128 /* an interface's name, `unix:PATH`, is the longest */
 #define WORDS_BYTES 96
 #define PORTS_MAX 8
 #define LAST_SHOWN 8 /* of frames and commands; the document has 256 of each */

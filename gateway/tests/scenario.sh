@@ -1,27 +1,23 @@
-# The gateway on buses of a real kernel: each check by what stands on the buses, and by the status. Run in the guest by gateway/test.
-. /scenario_lib.sh
-mkdir -p /run/gateway; chown gateway /run/gateway
+# The gateway on buses of either kind: each check by what stands on the buses, and by the status. Run by kernel.sh in the guest and by unix.sh natively.
 
 echo "== command line and files"
-$as_user /deorasaeng-gateway --name $NAME --address 128 vcan0 vcan1 vcan2 can9 2>/tmp/err; equal $? 2 && grep -q 'can9: no such CAN interface' /tmp/err
+$gateway_program --name $NAME --address 128 $(interfaces vcan0 vcan1 vcan2 can9) 2>$TMP/err; equal $? 2 && grep -q "can9: $NOT_THERE" $TMP/err
 check "an interface that is not there: a message and status 2" [ $? = 0 ]
-$as_user /deorasaeng-gateway --name $NAME --address 128 vcan0 vcan1 vcan2 lo 2>/tmp/err; equal $? 2
-check "an interface that is not CAN: status 2" [ $? = 0 ]
-$as_user /deorasaeng-gateway --name $NAME --address 254 vcan0 vcan1 vcan2 vcan3 2>/tmp/err; equal $? 2
+$gateway_program --name $NAME --address 254 $(interfaces $BUSES) 2>$TMP/err; equal $? 2
 check "a bad option: status 2" [ $? = 0 ]
 printf '1 2 block 61444\n1 2 pass 1\n' >$LISTS
-$as_user /deorasaeng-gateway --name $NAME --address 128 --lists $LISTS vcan0 vcan1 vcan2 vcan3 2>/tmp/err; equal $? 2 && grep -q 'lists:2: the pair 1 to 2 has a line already' /tmp/err
+$gateway_program --name $NAME --address 128 --lists $LISTS $(interfaces $BUSES) 2>$TMP/err; equal $? 2 && grep -q 'lists:2: the pair 1 to 2 has a line already' $TMP/err
 check "a wrong lists file is refused by its line, status 2" [ $? = 0 ]
 
 echo "== nothing crosses before the lists of the file stand"
-printf '1 2 pass\n' >$LISTS; chown gateway $LISTS
+printf '1 2 pass\n' >$LISTS; chown $OWNER $LISTS
 dump_start
-cangen vcan0 -g 5 -I 18FEF110 -e -L 8 -n 200 & flow=$!
+stream vcan0 18FEF110 200 & flow=$! # one each 5 ms
 gateway_start --lists $LISTS
-check "Start, Claimed after 250 ms" awk '/Start:/ { s = $1 } /Claimed:/ { c = $1 } END { d = int((c - s) * 1000 + 0.5); exit !(d >= 249 && d < 1000) }' /run/gateway/log
+check "Start, Claimed after 250 ms" awk '/Start:/ { s = $1 } /Claimed:/ { c = $1 } END { d = int((c - s) * 1000 + 0.5); exit !(d >= 249 && d < 1000) }' $RUN/log
 wait $flow; within 5 idle; dump_stop
-check "a stream from before the start never stood on the bus whose pass list is empty" equal "$(grep -c 'vcan1 18FEF110' /tmp/dump)" 0
-check "and stood on the others" [ "$(grep -c 'vcan2 18FEF110' /tmp/dump)" -gt 50 ]
+check "a stream from before the start never stood on the bus whose pass list is empty" equal "$(grep -c 'vcan1 18FEF110' $TMP/dump)" 0
+check "and stood on the others" [ "$(grep -c 'vcan2 18FEF110' $TMP/dump)" -gt 50 ]
 check "status 0 after SIGTERM" gateway_stop
 check "with a summary" logged 'summary: NAME 20001C000AC00123, address 128 Claimed'
 
@@ -40,17 +36,18 @@ for frame in 18FEF111#0102030405060708 0CF00412# 18EF2113#AA 1CFFFF14#0011; do
     check "$frame stands once on each of the four buses" equal "$(stood vcan0 $frame)$(stood vcan1 $frame)$(stood vcan2 $frame)$(stood vcan3 $frame)" 1111
 done
 check "the status counts one in at each port and three out" equal "$(for p in 1 2 3 4; do echo "$(count $p in)/$(($(count $p out) - $(count $p own)))"; done | tr '\n' ' ')" "1/3 1/3 1/3 1/3 "
-check "the socket's rights are the owner's" equal "$(stat -c '%a %U' $STATUS)" "600 gateway"
+check "the socket's rights are the owner's" equal "$(stat -c '%a %U' $STATUS)" "600 $OWNER"
 
 echo "== frames that are no matter of this bridge"
+fd=${FD_FRAME:+1}; fd=${fd:-0}
 dump_start
 for again in 1 2; do
-    cansend vcan0 123#11; cansend vcan0 18FEF115#R; cansend vcan0 18FEF116##011; cansend vcan0 20000004#0000000000000000; cansend vcan0 18FEF1FF#01
+    for frame in 123#11 18FEF115#R $FD_FRAME 20000004#0000000000000000 18FEF1FF#01; do put vcan0 $frame; done
 done
 within 5 idle; dump_stop
-check "11-bit, remote, FD, error frames and one refused with 5 stay where they are" equal "$(grep -c -v vcan0 /tmp/dump)" 0
-check "counted" equal "$(count 1 eleven_bit) $(count 1 remote) $(count 1 fd) $(count 1 error) $(count_refused 1 frames 5)" "2 2 2 2 2"
-check "each kind told once" equal "$(grep -c 'frames are not forwarded' /run/gateway/log)" 4
+check "11-bit, remote, FD, error frames and one refused with 5 stay where they are" equal "$(grep -c -v vcan0 $TMP/dump)" 0
+check "counted" equal "$(count 1 eleven_bit) $(count 1 remote) $(count 1 fd) $(count 1 error) $(count_refused 1 frames 5)" "2 2 $((2 * fd)) 2 2"
+check "each kind told once" equal "$(grep -c 'frames are not forwarded' $RUN/log)" $((3 + fd))
 
 echo "== lists set by a tool, obeyed, saved"
 dump_start
@@ -68,7 +65,7 @@ F
 within 5 idle; dump_stop
 check "acknowledged at the arrival port" equal "$(stood vcan0 18E8FF80#0006FFFF2100ED00)" 2
 check "the list is read back" equal "$(stood vcan0 18ED2180#01120004F000FFFF)" 1
-check "answers nowhere else" equal "$(grep -c -E 'vcan[123] 18E[8D]' /tmp/dump)" 0
+check "answers nowhere else" equal "$(grep -c -E 'vcan[123] 18E[8D]' $TMP/dump)" 0
 check "a blocked PGN stands on the other buses alone" equal "$(stood vcan1 0CF00421#01)$(stood vcan2 0CF00421#01)$(stood vcan3 0CF00421#01)" 001
 check "a pass list lets its PGN cross" equal "$(stood vcan1 18FEF121#02)$(stood vcan2 18FEF121#02)$(stood vcan3 18FEF121#02)" 111
 check "the other direction is untouched" equal "$(stood vcan0 0CF00422#03)$(stood vcan2 0CF00422#03)$(stood vcan3 0CF00422#03)" 111
@@ -82,17 +79,17 @@ for p in 1 2 3 4; do
     # Clear, and Add of a PGN, on the pairs between two neighbours; their addresses
     for pair in 23 24 32 34 42 43; do [ $p = 1 ] || case $pair in *$p*) ;; *) echo "vcan$((p - 1)) 18ED802$p#04${pair}FFFFFFFFFFFF"; esac; done
     for q in 1 2 3 4; do echo "vcan$((p - 1)) 18ED802$p#400${q}FFFFFFFFFFFF"; done
-done >/tmp/attack
+done >$TMP/attack
 # one message at a time, as the standard has it
-while read -r line; do echo "$line" | play; done </tmp/attack
+while read -r line; do echo "$line" | play; done <$TMP/attack
 within 5 idle; dump_stop
-replies() { grep -c "$1 18ED2${2}80#01" /tmp/dump; }
-denied() { grep -c "$1 18E8FF80#0200FFFF2${2}00ED00" /tmp/dump; }
+replies() { grep -c "$1 18ED2${2}80#01" $TMP/dump; }
+denied() { grep -c "$1 18E8FF80#0200FFFF2${2}00ED00" $TMP/dump; }
 check "port 1 reads all twelve pairs" equal "$(replies vcan0 1) $(denied vcan0 1)" "12 0"
 for p in 2 3 4; do check "port $p reads its own six pairs and is denied the others" equal "$(replies vcan$((p - 1)) $p) $(denied vcan$((p - 1)) $p)" "6 6"; done
-for p in 2 3 4; do check "port $p may not clear a neighbour's pair" equal "$(grep -c "vcan$((p - 1)) 18E8FF80#0204FFFF2${p}00ED00" /tmp/dump)" 2; done
-for p in 2 3 4; do check "port $p is told its own addresses alone" equal "$(grep -c "vcan$((p - 1)) 18ED2${p}80#41" /tmp/dump) $(grep -c "vcan$((p - 1)) 18E8FF80#0240FFFF2${p}00ED00" /tmp/dump)" "1 3"; done
-check "no answer on another bus" equal "$(awk '$3 ~ /^18ED2[1-4]80#/ && substr($2, 5, 1) + 1 != substr($3, 6, 1)' /tmp/dump | wc -l)" 0
+for p in 2 3 4; do check "port $p may not clear a neighbour's pair" equal "$(grep -c "vcan$((p - 1)) 18E8FF80#0204FFFF2${p}00ED00" $TMP/dump)" 2; done
+for p in 2 3 4; do check "port $p is told its own addresses alone" equal "$(grep -c "vcan$((p - 1)) 18ED2${p}80#41" $TMP/dump) $(grep -c "vcan$((p - 1)) 18E8FF80#0240FFFF2${p}00ED00" $TMP/dump)" "1 3"; done
+check "no answer on another bus" equal "$(awk '$3 ~ /^18ED2[1-4]80#/ && substr($2, 5, 1) + 1 != substr($3, 6, 1)' $TMP/dump | wc -l)" 0
 check "the lists are what they were" equal "$(status | sed 's/.*"lists":\(.*\),"lists_saved.*/\1/')" "$before"
 
 echo "== SIGKILL and start again"
@@ -114,26 +111,8 @@ within 5 idle; dump_stop
 check "a reply over 8 bytes is told as not sent" logged 'reply of 9 bytes to address 33 not sent'
 gateway_stop
 
-echo "== two claimers of the kernel's J1939 stack contend across the bridge"
-gateway_start
-dump_start
-rm -f /tmp/high.acd /tmp/low.acd
-j1939acd -r 100,101 -c /tmp/high.acd 1000000000000002 vcan2 >/tmp/high.out 2>&1 & high=$!
-within 10 logged 'Recorded: NAME 1000000000000002, address 100'
-check "one on bus 2 holds address 100" [ $? = 0 ]
-j1939acd -r 100 -c /tmp/low.acd 1000000000000001 vcan1 >/tmp/low.out 2>&1 & low=$!
-within 10 logged 'NAME 1000000000000002, address 101'
-check "one on bus 1 with a lower NAME claims it: the other goes to the next" [ $? = 0 ]
-cansend vcan0 18ED8021#4002FFFFFFFFFFFF; cansend vcan0 18ED8021#4003FFFFFFFFFFFF
-within 5 idle; dump_stop
-last_claim() { awk -v name=$1 '$2 == "vcan0" && substr($3, 1, 6) == "18EEFF" && substr($3, 10) == name { a = substr($3, 7, 2) } END { print a }' /tmp/dump; }
-check "the lower NAME holds it" equal "$(last_claim 0100000000000010)" 64
-check "the higher NAME went to the next" equal "$(last_claim 0200000000000010)" 65
-check "function 64 lists each at its port" equal "$(stood vcan0 18ED2180#410264FFFFFFFFFF)$(stood vcan0 18ED2180#410365FFFFFFFFFF)" 11
-check "the event is in the log" logged 'port 2: TookOver: NAME 1000000000000001, address 100, from NAME 1000000000000002'
-kill $low $high
-
 echo "== the unit's address defended and lost"
+gateway_start
 dump_start
 play <<'F'
 vcan1 18EEFF80#FFFFFFFFFFFFFF7F
@@ -148,67 +127,69 @@ check "with the unit's claim on all four buses" equal "$(for b in 0 1 2 3; do st
 check "a lower NAME: Displaced" logged 'port 3: Displaced: NAME 1000000000000003, address 128'
 check "and cannot-claim on all four" equal "$(for b in 0 1 2 3; do stood vcan$b 18EEFFFE#2301C00A001C0020; done | tr -d '\n')" 1111
 check "the status says Lost" equal "$(status | sed 's/.*"state":"\([A-Z][a-z]*\)","address":\([a-z0-9]*\).*/\1 \2/')" "Lost null"
-check "frames still cross" sh -c 'candump -n 1 -T 3000 vcan3 >/tmp/one & sleep 0.5; cansend vcan0 18FEF121#05; wait; grep -q 18FEF121 /tmp/one'
+dump_start
+put vcan0 18FEF121#05
+within 5 idle; dump_stop
+check "frames still cross" equal "$(stood vcan3 18FEF121#05)" 1
 gateway_stop
 
 echo "== a slow bus"
+bus_rate vcan1 20
 gateway_start
-tc qdisc add dev vcan1 root tbf rate 256bit burst 16 limit 4096 # two frames a second: tc counts 16 bytes a frame
+within 5 idle
 dump_start
-for n in 01 02 03 04 05 06 07 08; do echo "vcan0 18FEF121#$n"; done >/tmp/ranks
-for n in 11 12 13 14; do echo "vcan0 0CF00421#$n"; done >>/tmp/ranks
-for n in 21 22; do echo "vcan0 1CFEF221#$n"; done >>/tmp/ranks
-echo "vcan0 00FEF321#31" >>/tmp/ranks
-play </tmp/ranks
+for n in 01 02 03 04 05 06 07 08; do echo "vcan0 18FEF121#$n"; done >$TMP/ranks
+for n in 11 12 13 14; do echo "vcan0 0CF00421#$n"; done >>$TMP/ranks
+for n in 21 22; do echo "vcan0 1CFEF221#$n"; done >>$TMP/ranks
+echo "vcan0 00FEF321#31" >>$TMP/ranks
+play <$TMP/ranks
 within 20 idle; dump_stop
-slow=$(awk '$2 == "vcan1" { split($3, f, "#"); printf f[2] " " }' /tmp/dump)
+slow=$(awk '$2 == "vcan1" { split($3, f, "#"); printf f[2] " " }' $TMP/dump)
 # one frame left at once and one was with the kernel before the others came
 check "rank decides, equal ranks keep their order" sh -c "echo '$slow' | grep -q -E '^01 (02 (03 )?)?31 11 12 13 14 (02 )?(03 )?04 05 06 07 08 21 22 $' || { echo '      got $slow'; false; }"
-check "a fast bus does not wait for it" equal "$(awk '$2 == "vcan1" { slow++ } $2 == "vcan2" { fast++; behind = slow } END { print fast, (behind < 6) }' /tmp/dump)" "15 1"
+check "a fast bus does not wait for it" equal "$(awk '$2 == "vcan1" { slow++ } $2 == "vcan2" { fast++; behind = slow } END { print fast, (behind < 6) }' $TMP/dump)" "15 1"
+gateway_stop
 
-tc qdisc replace dev vcan1 root tbf rate 64bit burst 16 limit 4096 # a frame in two seconds
+bus_rate vcan1 5
+gateway_start
+within 5 idle
 dump_start
 for n in 1 2 3 4 5; do echo "vcan0 18FEF121#A$n"; done | play
-ip link set down vcan1
+bus_down vcan1
 for n in 6 7 8; do echo "vcan0 18FEF121#A$n"; done | play
-within 5 logged 'vcan1): down'
-check "down: told once, its frames wait, the others go on" equal "$(grep -c 'vcan1): down' /run/gateway/log) $(count 2 waiting | sed 's/[1-9]/some/') $(stood vcan2 18FEF121#A8)" "1 some 1"
-tc qdisc replace dev vcan1 root tbf rate 1024bit burst 16 limit 4096
-ip link set up vcan1
+within 5 logged "vcan1): $DOWN"
+sleep 0.3; dump_look
+check "$DOWN: told once, its frames wait, the others go on" equal "$(grep -c "vcan1): $DOWN" $RUN/log) $(count 2 waiting | sed 's/[1-9]/some/') $(stood vcan2 18FEF121#A8)" "1 some 1"
+bus_up vcan1 80
 within 20 idle; dump_stop
-check "up again: every frame stands on the bus, in order" equal "$(awk '$2 == "vcan1" && $3 ~ /#A/ { split($3, f, "#"); if (f[2] != last) printf f[2] " "; last = f[2] }' /tmp/dump)" "A1 A2 A3 A4 A5 A6 A7 A8 "
+check "up again: every frame stands on the bus, in order" equal "$(awk '$2 == "vcan1" && $3 ~ /#A/ { split($3, f, "#"); if (f[2] != last) printf f[2] " "; last = f[2] }' $TMP/dump)" "A1 A2 A3 A4 A5 A6 A7 A8 "
 check "the frame that was with the kernel was given again" [ "$(count 2 again)" -ge 1 ]
 
-tc qdisc replace dev vcan1 root tbf rate 1024bit burst 16 limit 32
-dump_start
-cangen vcan1 -g 2 -I 18FFAA33 -e -L 1 -D 00 -i >/dev/null 2>&1 & other=$! # another program, which keeps the queue of two full
-sleep 0.5
-for n in 1 2 3 4 5 6 7 8; do echo "vcan0 18FEF121#B$n"; done | play
-within 20 idle; kill $other; dump_stop
-check "a full interface: ENOBUFS was met" [ "$(count 2 full)" -ge 1 ]
-check "and nothing taken was lost" equal "$(awk '$2 == "vcan1" && $3 ~ /#B/ { split($3, f, "#"); printf f[2] " " }' /tmp/dump)" "B1 B2 B3 B4 B5 B6 B7 B8 "
-for n in $(seq 1 60); do echo "vcan0 18FEF121#C0"; done | play
+stream vcan0 18FEF121 60
 within 20 idle
-check "what the unit loses is counted and told" equal "$([ "$(count 2 lost)" -gt 0 ] && grep -c 'port 2 (vcan1): queue full' /run/gateway/log | sed 's/[1-9]/told/') $(count 3 lost)" "told 0"
-tc qdisc del dev vcan1 root
+check "what the unit loses is counted and told" equal "$([ "$(count 2 lost)" -gt 0 ] && grep -c "port 2 (${PREFIX}vcan1): queue full" $RUN/log | sed 's/[1-9]/told/') $(count 3 lost)" "told 0"
+gateway_stop
+bus_rate vcan1 0
 
 echo "== bus-off"
+gateway_start
+within 5 idle
 dump_start
-cansend vcan2 20000040#0000000000000000; sleep 0.3
+put vcan2 20000040#0000000000000000; sleep 0.3
 play <<'F'
 vcan0 18FEF121#D1
 F
-sleep 0.5
+sleep 0.5; dump_look
 check "off the bus: the frame waits" equal "$(stood vcan2 18FEF121#D1) $(count 3 waiting)" "0 1"
-cansend vcan2 20000100#0000000000000000
+put vcan2 20000100#0000000000000000
 within 5 idle; dump_stop
 check "restarted: it is sent" equal "$(stood vcan2 18FEF121#D1)" 1
-ip link del vcan3; sleep 0.3
-check "an interface that is taken away: told" logged 'port 4 (vcan3): gone'
+bus_remove vcan3; sleep 0.3
+check "an interface that is taken away: told" logged "port 4 (${PREFIX}vcan3): gone"
 play <<'F'
 vcan0 18FEF121#D2
 F
-ip link add dev vcan3 type vcan; ip link set up vcan3; sleep 0.1
+bus_add vcan3; within 5 logged "port 4 (${PREFIX}vcan3): up"
 dump_start; within 5 idle
 play <<'F'
 vcan3 18FEF124#D3
@@ -218,10 +199,9 @@ check "and put back: frames cross from it again" equal "$(stood vcan0 18FEF124#D
 gateway_stop
 
 echo "== a flood on all four buses"
-rx() { cat /sys/class/net/$1/statistics/rx_packets; }
 for b in 0 1 2 3; do eval "rx$b=$(rx vcan$b)"; done
 gateway_start
-for b in 0 1 2 3; do cangen vcan$b -g 0 -e -I r -L 8 -p 10 -n 4000 >/dev/null 2>&1 & eval "flood$b=$!"; done
+for b in 0 1 2 3; do flood vcan$b 4000 & eval "flood$b=$!"; done
 wait $flood0 $flood1 $flood2 $flood3
 within 20 idle; sleep 0.3
 asked=0; met=0
@@ -241,7 +221,7 @@ check "in = out + stopped + lost + consumed + refused, over the three exits of e
 gateway_stop
 
 echo "== eight buses, and two"
-for b in 4 5 6 7; do ip link add dev vcan$b type vcan; ip link set up vcan$b; done
+for b in 4 5 6 7; do bus_add vcan$b; done
 BUSES="vcan0 vcan1 vcan2 vcan3 vcan4 vcan5 vcan6 vcan7"
 check "eight interfaces: Claimed" gateway_start
 dump_start
@@ -272,4 +252,4 @@ within 5 idle; dump_stop
 check "a frame stands once on each of the two" equal "$(stood vcan0 18FEF119#0A)$(stood vcan1 18FEF119#0A)" 11
 gateway_stop
 BUSES="vcan0 vcan1 vcan2 vcan3"
-for b in 4 5 6 7; do ip link del vcan$b; done
+for b in 4 5 6 7; do bus_remove vcan$b; done

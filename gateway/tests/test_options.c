@@ -5,6 +5,10 @@
 static struct options options;
 static char error[200];
 
+/* As long as a socket's path may be, 107 bytes. */
+#define TWENTY "/twenty-bytes-a-name"
+#define LONG_PATH TWENTY TWENTY TWENTY TWENTY TWENTY "/seven."
+
 #define READ(...) read_words((const char *[]){"deorasaeng-gateway", __VA_ARGS__, NULL})
 
 static enum options_read read_words(const char *words[])
@@ -41,6 +45,8 @@ static void good(void)
     CHECK(READ("--name", "1", "--address", "1", "a", "b") == OPTIONS_RUN && options.ports == 2);
     CHECK(READ("--name", "1", "--address", "1", "a", "b", "c", "d", "e", "f", "g", "h") == OPTIONS_RUN && options.ports == 8);
     CHECK_TEXT(options.interfaces[7], "h");
+    CHECK(READ("--name", "1", "--address", "1", "unix:/run/buses/a", "b") == OPTIONS_RUN);
+    CHECK_TEXT(options.interfaces[0], "unix:/run/buses/a");
 }
 
 static void wrong(void)
@@ -70,6 +76,9 @@ static void wrong(void)
     CHECK(READ("--name", "1", "--address", "1", "a", "b", "c", "a") == OPTIONS_WRONG);
     CHECK_TEXT(error, "a is named twice");
     CHECK(READ("--name", "1", "--address", "1", "a", "b", "c", "an-interface-name") == OPTIONS_WRONG);
+    CHECK(READ("--name", "1", "--address", "1", "unix:", "b") == OPTIONS_WRONG);
+    CHECK(READ("--name", "1", "--address", "1", "unix:" LONG_PATH, "b") == OPTIONS_RUN);
+    CHECK(READ("--name", "1", "--address", "1", "unix:" LONG_PATH "x", "b") == OPTIONS_WRONG);
     CHECK(READ("--name", "1", "--address", "1", "--log", "loud", "a", "b", "c", "d") == OPTIONS_WRONG);
     CHECK(READ("--name", "1", "--address", "1", "--status", "", "a", "b", "c", "d") == OPTIONS_WRONG);
     CHECK(READ("--name", "1", "--address", "1", "--control", "", "a", "b") == OPTIONS_WRONG);

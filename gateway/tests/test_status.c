@@ -177,7 +177,7 @@ static void full_gateway(void)
     for (uint32_t i = 0; i < GATEWAY_PORTS_MAX; i++) {
         struct port *port = &gateway.ports[i];
         memset(&port->counts, 0xFF, sizeof port->counts);
-        memset(port->interface.name, '"', IFNAMSIZ - 1);
+        memset(port->interface.name, '"', INTERFACE_NAME_BYTES - 1);
         port->high_water = UINT64_MAX;
         port->lost_at = INT64_MAX / 2;
     }

@@ -91,16 +91,16 @@ static void kinds(void)
     struct canfd_frame made;
     memset(&made, 0, sizeof made);
     made.can_id = 0x123;
-    CHECK(arrival_kind(&made, CAN_MTU, 0) == ARRIVAL_ELEVEN_BIT);
+    CHECK(arrival_kind(made.can_id, CAN_MTU, 0) == ARRIVAL_ELEVEN_BIT);
     made.can_id = 0x123 | CAN_EFF_FLAG;
-    CHECK(arrival_kind(&made, CAN_MTU, 0) == ARRIVAL_FRAME);
-    CHECK(arrival_kind(&made, CAN_MTU, MSG_DONTROUTE) == ARRIVAL_FRAME); /* from another program of this machine */
-    CHECK(arrival_kind(&made, CAN_MTU, MSG_DONTROUTE | MSG_CONFIRM) == ARRIVAL_ECHO);
-    CHECK(arrival_kind(&made, CANFD_MTU, 0) == ARRIVAL_FD);
+    CHECK(arrival_kind(made.can_id, CAN_MTU, 0) == ARRIVAL_FRAME);
+    CHECK(arrival_kind(made.can_id, CAN_MTU, MSG_DONTROUTE) == ARRIVAL_FRAME); /* from another program of this machine */
+    CHECK(arrival_kind(made.can_id, CAN_MTU, MSG_DONTROUTE | MSG_CONFIRM) == ARRIVAL_ECHO);
+    CHECK(arrival_kind(made.can_id, CANFD_MTU, 0) == ARRIVAL_FD);
     made.can_id = 0x123 | CAN_EFF_FLAG | CAN_RTR_FLAG;
-    CHECK(arrival_kind(&made, CAN_MTU, 0) == ARRIVAL_REMOTE);
+    CHECK(arrival_kind(made.can_id, CAN_MTU, 0) == ARRIVAL_REMOTE);
     made.can_id = 0x40 | CAN_ERR_FLAG;
-    CHECK(arrival_kind(&made, CAN_MTU, 0) == ARRIVAL_ERROR);
+    CHECK(arrival_kind(made.can_id, CAN_MTU, 0) == ARRIVAL_ERROR);
 }
 
 int main(void)

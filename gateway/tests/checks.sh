@@ -1,10 +1,9 @@
-# What the guest's scripts share: checks, buses, the gateway. Run by busybox's sh in the emulated machine.
-PATH=/tools:/bin
+# What the scenarios share on buses of either kind: checks, the gateway, its counts. buses_kernel.sh or buses_unix.sh comes before it and says, beside how buses are made, heard and sent on:
+# RUN a folder, PROGRAMS where the programs are, gateway_program how the gateway is started, PREFIX what stands before a bus's name on its command line.
 NAME=20001C000AC00123
-LISTS=/run/gateway/lists
-STATUS=/run/gateway/status
+LISTS=$RUN/lists
+STATUS=$RUN/status
 BUSES="vcan0 vcan1 vcan2 vcan3"
-tc() { /tools/tc "$@"; } # busybox has one of its own
 passed=0
 failed=0
 
@@ -22,20 +21,21 @@ within() {
     while [ $tries -gt 0 ]; do "$@" && return 0; tries=$((tries - 1)); sleep 0.1; done
     return 1
 }
-logged() { grep -q "$1" /run/gateway/log; }
+logged() { grep -q "$1" $RUN/log; }
 
-# The gateway runs as a user without rights.
-as_user="/tools/setpriv --reuid=1000 --regid=1000 --clear-groups --no-new-privs"
+interfaces() { # BUS ..: as the gateway is to be told them
+    for bus in "$@"; do echo "$PREFIX$bus"; done
+}
 gateway_start() { # options beside NAME and address
-    : >/run/gateway/log
-    $as_user /deorasaeng-gateway --name $NAME --address 128 --status $STATUS "$@" $BUSES 2>/run/gateway/log &
+    : >$RUN/log
+    $gateway_program --name $NAME --address 128 --status $STATUS "$@" $(interfaces $BUSES) 2>$RUN/log &
     gateway=$!
     within 10 logged 'Claimed:'
 }
 gateway_stop() { # its status
     kill -TERM $gateway; wait $gateway
 }
-status() { /deorasaeng-status --json $STATUS; }
+status() { $PROGRAMS/deorasaeng-status --json $STATUS; }
 # A count of a port, the first of that name in its object.
 count() { # PORT KEY
     status | sed 's/{"port":/\n&/g' | awk -v head="{\"port\":$1,\"interface\"" -v key="\"$2\":" \
@@ -50,11 +50,6 @@ idle() { # nothing waits and nothing is in hand
     ! status | grep -q -E '"(waiting|in_hand)":[1-9]'
 }
 
-# All buses into /tmp/dump, a line a frame: (time) interface identifier#bytes.
-dump_start() { candump -L -D $BUSES >/tmp/dump 2>/dev/null & dump=$!; sleep 0.5; }
-dump_stop() { sleep 0.5; kill $dump; wait $dump 2>/dev/null; }
-stood() { # INTERFACE FRAME: how often
-    awk -v i=$1 -v f=$2 '$2 == i && $3 == f { n++ } END { print n + 0 }' /tmp/dump
+stood() { # INTERFACE FRAME: how often, by the dump
+    awk -v i=$1 -v f=$2 '$2 == i && $3 == f { n++ } END { print n + 0 }' $TMP/dump
 }
-# Sends frames, a line each: interface identifier#bytes.
-play() { awk '{ print "(0.000000) " $0 }' >/tmp/play; canplayer -t -g 0 -I /tmp/play; }
