@@ -1,7 +1,6 @@
 /* Load on CAN buses, for measuring what lies between two of them.
 
-   load cross COUNT WINDOW FROM TO   sends COUNT frames at FROM, at most WINDOW of them not yet seen at TO; prints the rate and the delay from send to arrival
-   load pace RATE SECONDS IF ..      sends RATE frames a second at each interface; prints how many, and how many could not be sent */
+   load COUNT WINDOW FROM TO   sends COUNT frames at FROM, at most WINDOW of them not yet seen at TO; prints the rate and the delay from send to arrival */
 #include "../src/clock.h"
 
 #include <errno.h>
@@ -15,11 +14,9 @@
 #include <stdlib.h>
 #include <string.h>
 #include <sys/socket.h>
-#include <time.h>
 #include <unistd.h>
 
 #define COUNT_MAX 100000
-#define INTERFACES_MAX 8
 #define PATIENCE_MS 2000
 #define ID_BASE (CAN_EFF_FLAG | UINT32_C(0x18FF0010))
 
@@ -109,46 +106,13 @@ static int cross(uint32_t count, uint32_t window, const char *from, const char *
     return seen == count ? 0 : 1;
 }
 
-static void sleep_until(int64_t at)
-{
-    struct timespec when = {(time_t)(at / CLOCK_SECOND), (long)(at % CLOCK_SECOND)};
-    int interrupted;
-    do
-        interrupted = clock_nanosleep(CLOCK_MONOTONIC, TIMER_ABSTIME, &when, NULL);
-    while (interrupted == EINTR);
-}
-
-static int pace(uint32_t rate, uint32_t seconds, int interfaces, char *names[])
-{
-    int buses[INTERFACES_MAX];
-    uint32_t sent = 0, failed = 0;
-    for (int i = 0; i < interfaces; i++)
-        buses[i] = open_bus(names[i]);
-    int64_t begin = clock_now();
-    for (uint32_t n = 0; n < rate * seconds; n++) {
-        sleep_until(begin + n * CLOCK_SECOND / rate);
-        for (int i = 0; i < interfaces; i++) {
-            bool done = send_numbered(buses[i], n);
-            sent += done;
-            failed += !done;
-        }
-    }
-    printf("sent %" PRIu32 " failed %" PRIu32 " seconds %.2f\n", sent, failed, (double)(clock_now() - begin) / (double)CLOCK_SECOND);
-    return 0;
-}
-
 int main(int argc, char *argv[])
 {
-    if (argc == 6 && strcmp(argv[1], "cross") == 0) {
-        uint32_t count = (uint32_t)strtoul(argv[2], NULL, 10), window = (uint32_t)strtoul(argv[3], NULL, 10);
+    if (argc == 5) {
+        uint32_t count = (uint32_t)strtoul(argv[1], NULL, 10), window = (uint32_t)strtoul(argv[2], NULL, 10);
         if (count > 0 && count <= COUNT_MAX && window > 0)
-            return cross(count, window, argv[4], argv[5]);
+            return cross(count, window, argv[3], argv[4]);
     }
-    if (argc >= 5 && argc <= 4 + INTERFACES_MAX && strcmp(argv[1], "pace") == 0) {
-        uint32_t rate = (uint32_t)strtoul(argv[2], NULL, 10), seconds = (uint32_t)strtoul(argv[3], NULL, 10);
-        if (rate > 0 && seconds > 0)
-            return pace(rate, seconds, argc - 4, argv + 4);
-    }
-    fprintf(stderr, "usage: load cross COUNT WINDOW FROM TO | load pace RATE SECONDS IF ..\n");
+    fprintf(stderr, "usage: load COUNT WINDOW FROM TO\n");
     return 2;
 }

@@ -1,36 +1,39 @@
-# The gateway against the kernel's own cangw, one after the other in the same boot. Run in the guest by gateway/test, after scenario.sh.
-echo "== measured: from vcan0 to vcan1, all pairs cleared; $(awk -F': ' '/model name/ { print $2; exit }' /proc/cpuinfo), $(uname -r)"
+# The gateway against the kernel's own cangw, one after the other in the same boot, and its system calls a frame. Run in the guest by gateway/test, after the scenarios.
+echo "== measured: from vcan0 to three buses, all pairs cleared; $(uname -r), $(awk -F': ' '/model name/ { print $2; exit }' /proc/cpuinfo)"
 field() { echo "$1" | awk -v key=$2 '{ for (i = 1; i < NF; i++) if ($i == key) { print $(i + 1); exit } }'; }
 ratio() { awk -v a=$1 -v b=$2 'BEGIN { printf "%.2f", a / b }'; }
-best() { # COUNT WINDOW: the run of five with the highest rate, the one that the emulator's own machine disturbed least
-    for run in 1 2 3 4 5; do /load cross $1 $2 vcan0 vcan1; done | sort -k 6 -n | tail -n 1
+best() { # COUNT WINDOW: the run of five with the highest rate, the one that the machine's other work disturbed least
+    for run in 1 2 3 4 5; do /load $1 $2 vcan0 vcan1; done | sort -k 6 -n | tail -n 1
 }
-for to in 1 2 3; do cangw -A -s vcan0 -d vcan$to -e; done # as the bridge does: to three buses
-kernel_delay=$(best 1000 1); kernel_rate=$(best 2000 16)
+for to in 1 2 3; do cangw -A -s vcan0 -d vcan$to -e; done
+kernel_one=$(best 1000 1); kernel_many=$(best 2000 16)
 cangw -F
 gateway_start
-gateway_delay=$(best 1000 1); gateway_rate=$(best 2000 16)
+gateway_one=$(best 1000 1); gateway_many=$(best 2000 16)
 within 5 idle
-echo "      cangw,   one frame at a time: $kernel_delay"
-echo "      gateway, one frame at a time: $gateway_delay"
-echo "      cangw,   16 in a row:         $kernel_rate"
-echo "      gateway, 16 in a row:         $gateway_rate"
-echo "      rate: gateway is $(ratio "$(field "$gateway_rate" rate)" "$(field "$kernel_rate" rate)") of cangw; delay, median: $(ratio "$(field "$gateway_delay" median)" "$(field "$kernel_delay" median)") times cangw's"
-check "measured: every frame crossed the gateway" equal "$(field "$gateway_rate" frames) $(field "$gateway_delay" frames)" "2000 1000"
-
-# Four full buses at 250 kbit/s: 1,900 frames of 8 bytes a second on each. Where every frame crosses, that is 475 from each. The emulated machine may not be able to send
-# so many: what was reached is told, and the gateway's processor time a frame.
-ticks() { awk '{ print $14 + $15 }' /proc/$gateway/stat; }
-share() { # RATE SECONDS
-    begin=$(ticks)
-    /load pace $1 $2 vcan0 vcan1 vcan2 vcan3 >/tmp/pace
-    awk -v t=$(($(ticks) - begin)) '{ printf "%.0f %% of the processor at %.0f a second from each, %.0f us a frame", t / $6, $2 / 4 / $6, t * 10000 / $2 }' /tmp/pace
-}
-full=$(share 475 8); within 20 idle
-echo "      four full buses, every frame crosses (475 a second from each): $full"
-lost=0; for p in 1 2 3 4; do lost=$((lost + $(count $p lost))); done
-echo "      lost there: $lost of $((3 * $(awk '{ print $2 }' /tmp/pace)))"
-for from in 1 2 3 4; do echo "vcan0 18ED8021#06${from}F0100FE00FFFF"; done | play; sleep 0.5 # Create: from each port to all, pass PGN 65024 alone
-none=$(share 1900 2); within 20 idle
-echo "      four full buses, nothing crosses (1,900 a second from each, pass lists): $none"
 gateway_stop
+echo "      cangw,   one frame at a time: $kernel_one"
+echo "      gateway, one frame at a time: $gateway_one"
+echo "      cangw,   16 on the way:       $kernel_many"
+echo "      gateway, 16 on the way:       $gateway_many"
+echo "      gateway of cangw: rate $(ratio "$(field "$gateway_one" rate)" "$(field "$kernel_one" rate)") one at a time, $(ratio "$(field "$gateway_many" rate)" "$(field "$kernel_many" rate)") with 16 on the way; speed by the median delay $(ratio "$(field "$kernel_one" median)" "$(field "$gateway_one" median)")"
+check "measured: every frame crossed the gateway" equal "$(field "$gateway_one" frames) $(field "$gateway_many" frames)" "1000 2000"
+
+# Calls of the gateway at work: those of a run that carries frames, less those of one that carries none.
+calls() { # COUNT WINDOW: a line for each call, its name and how often
+    (
+        gateway_program="strace -c -f -o $TMP/calls $gateway_program"
+        gateway_start; [ $1 = 0 ] || /load $1 $2 vcan0 vcan1 >/dev/null; within 20 idle
+        kill -TERM $(pgrep -f '^/deorasaeng-gateway'); wait $gateway
+    )
+    awk '$4 ~ /^[0-9]+$/ && $NF != "total" { print $NF, $4 }' $TMP/calls
+}
+a_frame() { # COUNT WINDOW: the calls a frame
+    calls $1 $2 >$TMP/work
+    awk -v n=$1 'NR == FNR { idle[$1] = $2; next } { c = ($2 - idle[$1]) / n; all += c; if (c >= 0.05) words = words sprintf(", %s %.1f", $1, c) } END { printf "%.1f (%s)", all, substr(words, 3) }' $TMP/idle $TMP/work
+}
+calls 0 0 >$TMP/idle
+one=$(a_frame 1000 1); many=$(a_frame 1000 16)
+echo "      calls a frame to three exits: one at a time $one"
+echo "                                    16 on the way $many"
+check "measured: a frame to three exits takes at most 16 calls" awk -v one="${one%% *}" -v many="${many%% *}" 'BEGIN { exit !(one > 0 && one <= 16 && many > 0 && many <= 16) }'
