@@ -41,9 +41,11 @@ int unix_bus_join(const char *path)
 enum unix_bus_read unix_bus_receive(int fd, struct can_frame *frame, uint32_t *missed)
 {
     unsigned char bytes[sizeof *frame];
-    ssize_t got = recv(fd, bytes, sizeof bytes, MSG_DONTWAIT);
+    ssize_t got = recv(fd, bytes, sizeof bytes, MSG_DONTWAIT | MSG_TRUNC);
     if (got == (ssize_t)sizeof *frame) {
         memcpy(frame, bytes, sizeof *frame);
+        if (frame->len > CAN_MAX_DLEN)
+            return UNIX_BUS_NOTHING;
         bool echo = frame->__res0 == UNIX_BUS_ECHO;
         frame->__res0 = 0;
         return echo ? UNIX_BUS_SENT : UNIX_BUS_HEARD;

@@ -29,8 +29,8 @@ bool unix_bus_address(const char *path, struct sockaddr_un *address);
 /* Joins the bus, without waiting. A file descriptor, or -1 with errno. */
 int unix_bus_join(const char *path);
 
-/* Reads one packet without waiting: a frame of another client, or an own one that stood on the bus, in `frame`; or how many were missed, in `missed`. UNIX_BUS_ENDED: the
-   bus is no more. */
+/* Reads one packet without waiting: a frame of another client, or an own one that stood on the bus, in `frame`; or how many were missed, in `missed`. What is none of these is
+   passed over as nothing. UNIX_BUS_ENDED: the bus is no more. */
 enum unix_bus_read unix_bus_receive(int fd, struct can_frame *frame, uint32_t *missed);
 
 #endif

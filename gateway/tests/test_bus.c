@@ -149,6 +149,26 @@ static void buffer_full(void)
     close(bus.listener);
 }
 
+/* What a bus of somebody else's may send. */
+static void no_packets(void)
+{
+    int ends[2];
+    uint32_t told;
+    unsigned char bytes[64] = {0};
+    struct can_frame got, long_one = frame(CAN_EFF_FLAG | 0x18FEF121, 1);
+    long_one.len = CAN_MAX_DLEN + 1;
+    CHECK(socketpair(AF_UNIX, SOCK_SEQPACKET, 0, ends) == 0);
+    CHECK(send(ends[0], &long_one, sizeof long_one, 0) == (ssize_t)sizeof long_one);
+    CHECK(unix_bus_receive(ends[1], &got, &told) == UNIX_BUS_NOTHING);
+    for (size_t size = 1; size <= sizeof bytes; size++) {
+        enum unix_bus_read wanted = size == sizeof got ? UNIX_BUS_HEARD : size == sizeof told ? UNIX_BUS_MISSED : UNIX_BUS_NOTHING;
+        CHECK(send(ends[0], bytes, size, 0) == (ssize_t)size && unix_bus_receive(ends[1], &got, &told) == wanted);
+    }
+    close(ends[0]);
+    CHECK(unix_bus_receive(ends[1], &got, &told) == UNIX_BUS_ENDED);
+    close(ends[1]);
+}
+
 static void text(void)
 {
     static const char *const FRAMES[] = {"18FEF121#0102", "1FFFFFFF#", "7FF#0011223344556677", "123#R", "00000123#R8", "20000040#0000000000000000"};
@@ -177,6 +197,7 @@ int main(int argc, char *argv[])
     each_hears_the_others();
     rate_and_arbitration();
     buffer_full();
+    no_packets();
     text();
     return checks_end("bus");
 }
