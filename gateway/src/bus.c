@@ -7,20 +7,11 @@
 #include <stdio.h>
 #include <string.h>
 #include <sys/socket.h>
-#include <sys/stat.h>
 #include <unistd.h>
 
 #define BACKLOG 8
 /* Frames wait here while a client does not read. The kernel cuts it at net.core.wmem_max. */
 #define SEND_BYTES (2 * 1024 * 1024)
-
-/* A socket at the path at which nobody listens any more. */
-static bool abandoned(int fd, const struct sockaddr_un *address)
-{
-    struct stat about;
-    return lstat(address->sun_path, &about) == 0 && S_ISSOCK(about.st_mode) &&
-           connect(fd, (const struct sockaddr *)address, sizeof *address) != 0 && errno == ECONNREFUSED;
-}
 
 bool bus_open(struct bus *bus, const char *path, uint32_t bitrate)
 {
@@ -30,12 +21,12 @@ bool bus_open(struct bus *bus, const char *path, uint32_t bitrate)
     bus->bitrate = bitrate;
     for (int i = 0; i < BUS_CLIENTS; i++)
         bus->clients[i].fd = -1;
-    if (!unix_bus_address(path, &address))
+    if (!unix_socket_address(path, &address))
         return false;
     bus->listener = socket(AF_UNIX, SOCK_SEQPACKET | SOCK_NONBLOCK | SOCK_CLOEXEC, 0);
     if (bus->listener < 0)
         return false;
-    if ((!abandoned(bus->listener, &address) || unlink(path) == 0) &&
+    if ((!unix_socket_abandoned(bus->listener, &address) || unlink(path) == 0) &&
         bind(bus->listener, (const struct sockaddr *)&address, sizeof address) == 0 && listen(bus->listener, BACKLOG) == 0)
         return true;
     int number = errno;

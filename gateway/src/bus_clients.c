@@ -20,7 +20,7 @@
 #define LINE_BYTES 256
 
 struct joined {
-    char path[UNIX_BUS_PATH_BYTES];
+    char path[UNIX_SOCKET_PATH_BYTES];
     int fd;
 };
 
@@ -200,11 +200,11 @@ static const struct joined *bus_at(const char *path)
 }
 
 /* One line of a log: (seconds) path frame. */
-static bool read_line(const char *line, int64_t *time, char path[UNIX_BUS_PATH_BYTES], struct can_frame *frame)
+static bool read_line(const char *line, int64_t *time, char path[UNIX_SOCKET_PATH_BYTES], struct can_frame *frame)
 {
     char text[LINE_BYTES];
     double seconds;
-    _Static_assert(UNIX_BUS_PATH_BYTES > 107 && LINE_BYTES > 255, "the widths below");
+    _Static_assert(UNIX_SOCKET_PATH_BYTES > 107 && LINE_BYTES > 255, "the widths below");
     if (sscanf(line, "(%lf) %107s %255s", &seconds, path, text) != 3 || !(seconds >= 0 && seconds < 1e10))
         return false;
     *time = (int64_t)(seconds * 1e6) * 1000;
@@ -213,7 +213,7 @@ static bool read_line(const char *line, int64_t *time, char path[UNIX_BUS_PATH_B
 
 int bus_play(void)
 {
-    char line[LINE_BYTES], path[UNIX_BUS_PATH_BYTES];
+    char line[LINE_BYTES], path[UNIX_SOCKET_PATH_BYTES];
     struct can_frame frame;
     int64_t time, first = 0, begin = 0;
     unsigned long number = 0;

@@ -1,14 +1,12 @@
 #include "client.h"
 
 #include "clock.h"
+#include "unix_socket.h"
 
 #include <errno.h>
 #include <poll.h>
-#include <stdio.h>
-#include <string.h>
 #include <sys/socket.h>
 #include <sys/time.h>
-#include <sys/un.h>
 #include <unistd.h>
 
 #define PATIENCE_SECONDS 5
@@ -17,12 +15,8 @@ int client_connect(const char *path)
 {
     const struct timeval limit = {PATIENCE_SECONDS, 0};
     struct sockaddr_un address;
-    memset(&address, 0, sizeof address);
-    address.sun_family = AF_UNIX;
-    if (snprintf(address.sun_path, sizeof address.sun_path, "%s", path) >= (int)sizeof address.sun_path) {
-        errno = ENAMETOOLONG;
+    if (!unix_socket_address(path, &address))
         return -1;
-    }
     int fd = socket(AF_UNIX, SOCK_STREAM | SOCK_CLOEXEC, 0);
     if (fd < 0)
         return -1;

@@ -14,7 +14,7 @@
 enum interface_state { INTERFACE_GONE, INTERFACE_DOWN, INTERFACE_BUS_OFF, INTERFACE_UP };
 
 /* The longest name, its end included: `unix:PATH`. */
-#define INTERFACE_NAME_BYTES (sizeof UNIX_BUS_PREFIX - 1 + UNIX_BUS_PATH_BYTES)
+#define INTERFACE_NAME_BYTES (sizeof UNIX_BUS_PREFIX - 1 + UNIX_SOCKET_PATH_BYTES)
 
 struct interface {
     char name[INTERFACE_NAME_BYTES];

@@ -88,7 +88,7 @@ static bool read_value(int option, const char *value, struct options *options, s
 static bool is_name(const char *word)
 {
     const char *path = unix_bus_path(word);
-    return path == NULL ? word[0] != '\0' && strlen(word) < IFNAMSIZ : path[0] != '\0' && strlen(path) < UNIX_BUS_PATH_BYTES;
+    return path == NULL ? word[0] != '\0' && strlen(word) < IFNAMSIZ : path[0] != '\0' && strlen(path) < UNIX_SOCKET_PATH_BYTES;
 }
 
 static bool read_interfaces(int count, char *words[], struct options *options, char *error)

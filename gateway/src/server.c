@@ -2,11 +2,10 @@
 
 #include "clock.h"
 #include "log.h"
+#include "unix_socket.h"
 
 #include <errno.h>
-#include <stdio.h>
 #include <string.h>
-#include <sys/un.h>
 #include <unistd.h>
 
 #define BACKLOG 4
@@ -16,14 +15,6 @@ void server_begin(struct server *server)
     server->fd = -1;
     for (int i = 0; i < SERVER_CLIENTS; i++)
         server->clients[i].fd = -1;
-}
-
-/* A socket at the path at which nobody listens any more. */
-static bool abandoned(int fd, const struct sockaddr_un *address)
-{
-    struct stat about;
-    return lstat(address->sun_path, &about) == 0 && S_ISSOCK(about.st_mode) &&
-           connect(fd, (const struct sockaddr *)address, sizeof *address) != 0 && errno == ECONNREFUSED;
 }
 
 /* Its rights are the owner's alone until the group is set. */
@@ -40,13 +31,12 @@ static bool bind_and_listen(int fd, const struct sockaddr_un *address, mode_t mo
 bool server_listen(struct server *server, const char *path, mode_t mode, gid_t group)
 {
     struct sockaddr_un address;
-    memset(&address, 0, sizeof address);
-    address.sun_family = AF_UNIX;
-    snprintf(address.sun_path, sizeof address.sun_path, "%s", path);
+    if (!unix_socket_address(path, &address))
+        return false;
     int fd = socket(AF_UNIX, SOCK_STREAM | SOCK_NONBLOCK | SOCK_CLOEXEC, 0);
     if (fd < 0)
         return false;
-    if (abandoned(fd, &address) && unlink(path) != 0)
+    if (unix_socket_abandoned(fd, &address) && unlink(path) != 0)
         log_line(LOG_WARNING, "%s: %s", path, strerror(errno));
     if (bind_and_listen(fd, &address, mode, group)) {
         server->fd = fd;

@@ -11,23 +11,10 @@ const char *unix_bus_path(const char *name)
     return strncmp(name, UNIX_BUS_PREFIX, length) == 0 ? name + length : NULL;
 }
 
-bool unix_bus_address(const char *path, struct sockaddr_un *address)
-{
-    size_t length = strlen(path);
-    memset(address, 0, sizeof *address);
-    address->sun_family = AF_UNIX;
-    if (length == 0 || length >= sizeof address->sun_path) {
-        errno = length == 0 ? ENOENT : ENAMETOOLONG;
-        return false;
-    }
-    memcpy(address->sun_path, path, length);
-    return true;
-}
-
 int unix_bus_join(const char *path)
 {
     struct sockaddr_un address;
-    if (!unix_bus_address(path, &address))
+    if (!unix_socket_address(path, &address))
         return -1;
     int fd = socket(AF_UNIX, SOCK_SEQPACKET | SOCK_NONBLOCK | SOCK_CLOEXEC, 0);
     if (fd < 0 || connect(fd, (const struct sockaddr *)&address, sizeof address) == 0)

@@ -5,16 +5,14 @@
 #ifndef GATEWAY_UNIX_BUS_H
 #define GATEWAY_UNIX_BUS_H
 
+#include "unix_socket.h"
+
 #include <linux/can.h>
 #include <stdbool.h>
 #include <stdint.h>
-#include <sys/un.h>
 
 /* What stands before the path in the name of such an interface. */
 #define UNIX_BUS_PREFIX "unix:"
-
-/* A path's length, its end included. */
-#define UNIX_BUS_PATH_BYTES (sizeof ((struct sockaddr_un *)0)->sun_path)
 
 #define UNIX_BUS_ECHO 1
 
@@ -22,9 +20,6 @@ enum unix_bus_read { UNIX_BUS_HEARD, UNIX_BUS_SENT, UNIX_BUS_MISSED, UNIX_BUS_NO
 
 /* The path in `unix:PATH`, or NULL for a name that is none. */
 const char *unix_bus_path(const char *name);
-
-/* The address of a path; false with ENAMETOOLONG. */
-bool unix_bus_address(const char *path, struct sockaddr_un *address);
 
 /* Joins the bus, without waiting. A file descriptor, or -1 with errno. */
 int unix_bus_join(const char *path);
