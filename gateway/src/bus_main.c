@@ -1,5 +1,6 @@
 /* deorasaeng-bus: buses without CAN, for trying the gateway where there is none. */
 #include "bus_commands.h"
+#include "version.h"
 
 #include <stdbool.h>
 #include <stdio.h>
@@ -50,6 +51,8 @@ int main(int argc, char *argv[])
     const char *command = argc > 1 ? argv[1] : "";
     if (strcmp(command, "--help") == 0 || strcmp(command, "-h") == 0)
         return fputs(USAGE, stdout) >= 0 && fflush(stdout) == 0 ? BUS_DONE : BUS_FAILED;
+    if (strcmp(command, "--version") == 0)
+        return puts("deorasaeng-bus " GATEWAY_VERSION) >= 0 && fflush(stdout) == 0 ? BUS_DONE : BUS_FAILED;
     if (strcmp(command, "serve") == 0)
         return serve(argc - 2, argv + 2);
     if (strcmp(command, "dump") == 0 && argc > 2 && argc - 2 <= BUSES_MAX)
