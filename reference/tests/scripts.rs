@@ -77,20 +77,27 @@ fn one_up() {
     check(include_str!("../scripts/one_up.txt"), include_str!("../scripts/one_up.out"));
 }
 
+/// A file of `scripts/`.
+fn file(name: &str) -> String {
+    std::fs::read_to_string(format!("{}/scripts/{name}", env!("CARGO_MANIFEST_DIR"))).expect(name)
+}
+
+/// The bundled scripts are those that `recorded` names.
+#[test]
+fn every_script_is_recorded() {
+    let mut named: Vec<String> = file("recorded").lines().map(|name| format!("{name}.txt")).collect();
+    let folder = std::fs::read_dir(concat!(env!("CARGO_MANIFEST_DIR"), "/scripts")).unwrap();
+    let files = folder.map(|entry| entry.unwrap().file_name().into_string().unwrap());
+    let mut bundled: Vec<String> = files.filter(|name| name.ends_with(".txt")).collect();
+    named.sort();
+    bundled.sort();
+    assert_eq!(named, bundled);
+}
+
 /// What the gate runs the program `replay` on, and what it must print, are what `record` makes.
 #[test]
 fn recorded() {
-    let mut script = String::new();
-    script += include_str!("../scripts/lines.txt");
-    script += include_str!("../scripts/examples.txt");
-    script += include_str!("../scripts/morning.txt");
-    script += include_str!("../scripts/unit.txt");
-    script += include_str!("../scripts/one_up.txt");
-    script += include_str!("../scripts/ports.txt");
-    script += include_str!("../scripts/parameters.txt");
-    script += include_str!("../scripts/contention.txt");
-    script += include_str!("../scripts/mornings.txt");
-    script += include_str!("../scripts/payloads.txt");
+    let mut script: String = file("recorded").lines().map(|name| file(&format!("{name}.txt"))).collect();
     for call in sweep().iter().chain(&generate(1325, 9000)) {
         script += &(write_call(call) + "\n");
     }
