@@ -47,7 +47,7 @@ enum deorasaeng_number {
     DEORASAENG_WRONG_MODE = 13,          /* Create mode not 0 or 1 */
     DEORASAENG_NOT_CLEARED = 14,         /* Create: a named pair not cleared */
     DEORASAENG_IS_CLEARED = 15,          /* Add, Delete: a named pair cleared */
-    DEORASAENG_LIST_FULL = 16,           /* a named pair would pass 32 */
+    DEORASAENG_LIST_FULL = 16,           /* a named pair would pass 32 PGNs */
     DEORASAENG_PGN_ABSENT = 17,          /* Delete: a PGN absent from a named pair */
     DEORASAENG_WRONG_STATE = 18,         /* Start not in Unstarted, Quiet not in Claiming */
     DEORASAENG_WRONG_ENTRY = 22,         /* an entry is no PGN */
