@@ -178,28 +178,96 @@ const FLEXIBLE: usize = 3;
 const ERROR: usize = 4;
 const NO_LINE: usize = 5;
 
-/// What a turning of text as `candump -l` writes it gives: the output, and the lines passed over by reason.
+/// What a turning of text as `candump -l` writes it gives: the output, how many lines were turned, and those passed over by reason.
 #[derive(Default, Debug, PartialEq, Eq)]
 pub struct Mapped {
     pub output: Vec<u8>,
+    pub turned: usize,
     pub passed_over: [usize; 6],
 }
 
-/// Text as `candump -l` writes it to our log: the 29-bit data frames of the interfaces that a map gives a port.
-pub fn from_candump_map(text: &[u8], map: &[(&str, u8)]) -> Mapped {
+/// Text as `candump -l` writes it to our log: the 29-bit data frames of the interfaces that a map gives a port. With a bit rate, takes stand where buses of it would
+/// send. A last line needs no line feed.
+pub fn from_candump_map(text: &[u8], map: &[(&str, u8)], rate: Option<u64>) -> Mapped {
     let mut mapped = Mapped::default();
+    let mut buses = rate.map(Buses::of_rate);
+    let text = if text.is_empty() || text.ends_with(b"\n") { text.to_vec() } else { [text, b"\n"].concat() };
     for line in text.split_inclusive(|byte| *byte == b'\n') {
         match bus_frame(line, map) {
-            Ok((port, frame)) => mapped.output.extend(Record::of_frame(port, &frame).bytes()),
+            Ok((port, frame)) => {
+                mapped.turned += 1;
+                if let Some(buses) = &mut buses {
+                    mapped.output.extend(buses.before(port, time_of(line)));
+                }
+                mapped.output.extend(Record::of_frame(port, &frame).bytes());
+            }
             Err(reason) => mapped.passed_over[reason] += 1,
         }
+    }
+    if let Some(buses) = &mut buses {
+        mapped.output.extend(buses.rest());
     }
     mapped
 }
 
-/// The parts of a line: the time and a blank in 20 bytes, the interface, a blank, identifier and data up to the direction or the line's end.
+/// The time of a line in ns.
+fn time_of(line: &[u8]) -> u64 {
+    let digits = line[..19].iter().filter(|byte| byte.is_ascii_digit());
+    1000 * digits.fold(0, |time, digit| 10 * time + u64::from(digit - b'0'))
+}
+
+/// Four buses of a bit rate: how many frames wait for each, with every pair cleared, and from when on it is free.
+struct Buses {
+    frame: u64,
+    waiting: [usize; 4],
+    free: [u64; 4],
+}
+
+impl Buses {
+    /// A frame of 8 bytes has 131 bits with the gap behind it, stuff bits left out.
+    fn of_rate(rate: u64) -> Buses {
+        Buses { frame: 131_000_000_000 / rate, waiting: [0; 4], free: [0; 4] }
+    }
+
+    /// The takes of one bus that begin by a time.
+    fn sends(&mut self, bus: usize, limit: u64) -> Vec<u8> {
+        let mut takes = Vec::new();
+        while self.waiting[bus] > 0 && self.free[bus] <= limit {
+            self.waiting[bus] -= 1;
+            self.free[bus] = self.free[bus].wrapping_add(self.frame);
+            takes.extend(Record::Take { port: bus as u8 + 1 }.bytes());
+        }
+        takes
+    }
+
+    /// The takes before a frame that has arrived at a port by a time; then it waits for the other buses, and its own is free.
+    fn before(&mut self, port: u8, time: u64) -> Vec<u8> {
+        let own = usize::from(port) - 1;
+        let mut takes = Vec::new();
+        for bus in 0..4 {
+            takes.extend(self.sends(bus, if bus == own { time.saturating_sub(self.frame) } else { time }));
+        }
+        for bus in 0..4 {
+            if bus == own || self.waiting[bus] == 0 {
+                self.free[bus] = self.free[bus].max(time);
+            }
+            if bus != own {
+                self.waiting[bus] = (self.waiting[bus] + 1).min(32);
+            }
+        }
+        takes
+    }
+
+    /// The takes of what waits at the end.
+    fn rest(&mut self) -> Vec<u8> {
+        (0..4).flat_map(|bus| self.sends(bus, u64::MAX)).collect()
+    }
+}
+
+/// The parts of a line: the time and a blank in 20 bytes, the interface behind any blanks, a blank, identifier and data up to the direction or the line's end.
 fn bus_frame(line: &[u8], map: &[(&str, u8)]) -> Result<(u8, Frame), usize> {
     let (time, rest) = line.split_at_checked(20).ok_or(NO_LINE)?;
+    let rest = &rest[rest.iter().position(|byte| *byte != b' ').ok_or(NO_LINE)?..];
     let blank = rest.iter().position(|byte| *byte == b' ').ok_or(NO_LINE)?;
     let (name, rest) = (&rest[..blank], &rest[blank + 1..]);
     let end = rest.iter().position(|byte| b" \r\n".contains(byte)).ok_or(NO_LINE)?;
@@ -375,6 +443,7 @@ pub fn generate_text(seed: u64, lines: usize) -> Vec<u8> {
 pub fn generate_bus(seed: u64, lines: usize) -> Vec<u8> {
     let mut random = Random::new(seed);
     let mut text = Vec::new();
+    let mut now = 1_763_380_800_000_000;
     for _ in 0..lines {
         let data = &random.number().to_le_bytes()[..random.below(9) as usize];
         let id = random.below(1 << 29);
@@ -388,14 +457,19 @@ pub fn generate_bus(seed: u64, lines: usize) -> Vec<u8> {
             6 => format!("{id:08x}#{}", hex(data).to_lowercase()),
             _ => format!("{id:08X}#{}", hex(data)),
         };
-        let time = format!("({:010}.{:06})", random.number() % 10_000_000_000, random.below(1_000_000));
-        let name = random.pick(&["can0", "vcan1", "can2", "slcan10", "can1"]);
+        // Mostly some frames' time later, now and then anything.
+        now = if random.once_in(20) { random.number() % 10_000_000_000_000_000 } else { now + u64::from(random.below(2000)) };
+        let time = format!("({:010}.{:06})", now / 1_000_000 % 10_000_000_000, now % 1_000_000);
+        let name = random.pick(&["can0", "vcan1", "can2", "slcan10", "can1", "   can0", "  vcan1"]);
         let end = random.pick(&["\n", "\n", " R\n", " T\n", "\r\n", " R\r\n"]);
         let mut line = format!("{time} {name} {word}{end}").into_bytes();
         if random.once_in(5) {
             damage(&mut random, &mut line);
         }
         text.extend(line);
+    }
+    if random.once_in(2) {
+        text.pop();
     }
     text
 }

@@ -115,11 +115,41 @@ fn lines_of_a_real_bus() {
     let text = "(1794789563.773934) can0 18FEF121#0102 R\n(1794789563.773934) vcan1 18fef121#0aff\r\n\
         (1794789563.773934) can7 18FEF121#0102\n(1794789563.773934) can0 123#0102\n(1794789563.773934) can0 18FEF121#R\n\
         (1794789563.773934) can0 18FEF121##1112233\n(1794789563.773934) can0 20000004#0000000000000000\nno line\n";
-    let mapped = from_candump_map(text.as_bytes(), &map);
+    let mapped = from_candump_map(text.as_bytes(), &map, None);
     assert_eq!(mapped.passed_over, [1, 1, 1, 1, 1, 1]);
     let first = Record::of_frame(1, &Frame { id: 0x18FE_F121, bytes: vec![1, 2] }).bytes();
     let second = Record::of_frame(4, &Frame { id: 0x18FE_F121, bytes: vec![0x0A, 0xFF] }).bytes();
     assert_eq!(mapped.output, [first, second].concat());
+}
+
+/// `candump -l` fills a short name up with blanks before it; a last line may lack its line feed.
+#[test]
+fn names_of_different_lengths_and_a_last_line_without_its_end() {
+    let map = [("can0", 1), ("vcan10", 2)];
+    let text = b"(1763380800.000000)   can0 18FEF121#0102\n(1763380800.001000) vcan10 18FEF122#";
+    let mapped = from_candump_map(text, &map, None);
+    assert_eq!((mapped.turned, mapped.passed_over), (2, [0; 6]));
+    assert_eq!(from_candump_map(b"", &map, None), Mapped::default());
+    assert_eq!(from_candump_map(b"no\n", &map, None).turned, 0);
+}
+
+/// At 250,000 bits a second a frame takes 524 us: the second of three waits for the first, the third finds the buses free; the port of arrival has nothing to send.
+#[test]
+fn takes_stand_where_buses_would_send() {
+    let text = b"(1763380800.000000) can0 18FEF121#\n(1763380800.000100) can0 18FEF122#\n(1763380800.000500) can1 18FEF123#\n\
+        (1763380800.001100) can0 18FEF124#\n";
+    let log = from_candump_map(text, &[("can0", 1), ("can1", 2)], Some(250_000)).output;
+    let mut kinds = String::new();
+    let mut rest = &log[..];
+    while !rest.is_empty() {
+        let (record, size) = Record::first(rest).unwrap();
+        kinds += &match record {
+            Record::Frame { id, .. } => format!("F{} ", id % 256),
+            Record::Take { port } => format!("T{port} "),
+        };
+        rest = &rest[size..];
+    }
+    assert_eq!(kinds, "F33 T2 T3 T4 F34 F35 T1 T2 T3 T4 F36 T2 T3 T3 T4 T4 ");
 }
 
 #[test]
@@ -129,6 +159,6 @@ fn a_map_of_the_strict_names_reads_what_the_strict_reader_reads() {
     let strict: Vec<u8> =
         text.split_inclusive(|b| *b == b'\n').filter(|line| frame_of(line).is_ok()).flatten().copied().collect();
     assert!(strict.len() > 20_000);
-    assert_eq!(from_candump_map(&strict, &map).output, from_candump(&strict).output);
-    assert_eq!(from_candump_map(&strict, &map).passed_over, [0; 6]);
+    assert_eq!(from_candump_map(&strict, &map, None).output, from_candump(&strict).output);
+    assert_eq!(from_candump_map(&strict, &map, None).passed_over, [0; 6]);
 }

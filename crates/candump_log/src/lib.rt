@@ -1,5 +1,6 @@
 // A line as `candump -l` writes it on a real bus, written anew as the strict reader of `candump` takes it: the interface's name becomes can1 to can4 by a map
-// such as can0=1,vcan1=2, hex digits become upper case, and a direction letter and a carriage return are left out. What is a frame the strict reader says.
+// such as can0=1,vcan1=2, hex digits become upper case, and a direction letter, a carriage return and the blanks that fill a short name up are left out. What is a
+// frame the strict reader says.
 ghost use mathlib.Core.Path.{_≡_};
 ghost use Prim.Native.Nat.{_+_, _≤_, _<_};
 ghost use lib.ListN.{length};
@@ -40,6 +41,21 @@ fn find(text: &[u8], from: usize, byte: u8) -> usize
     let mut i = from;
     while i < text.len() {
         if text[i] == byte {
+            return i;
+        }
+        i += 1;
+    }
+    i
+}
+
+// The first place from one on that is no blank, or the end.
+fn skip_blanks(text: &[u8], from: usize) -> usize
+    requires { ⌜ from ≤ length (now text) ⌝ }
+    ensures { λ r. ⌜ (from ≤ r) × (r ≤ length (now (text .entry))) ⌝ }
+{
+    let mut i = from;
+    while i < text.len() {
+        if text[i] != b' ' {
             return i;
         }
         i += 1;
@@ -229,7 +245,8 @@ pub fn rewrite(map: &[u8], line: &[u8], out: &mut [u8]) -> Rewritten
     if out.len() < ROOM || line.len() < HEAD {
         return passed_over(NO_LINE);
     }
-    let name_end = find(line, HEAD, b' ');
+    let name = skip_blanks(line, HEAD);
+    let name_end = find(line, name, b' ');
     if line.len() <= name_end {
         return passed_over(NO_LINE);
     }
@@ -238,7 +255,7 @@ pub fn rewrite(map: &[u8], line: &[u8], out: &mut [u8]) -> Rewritten
     if !is_tail(&line[end..]) {
         return passed_over(NO_LINE);
     }
-    let digit = port_of(map, &line[HEAD..name_end]);
+    let digit = port_of(map, &line[name..name_end]);
     if digit == 0 {
         return passed_over(NOT_MAPPED);
     }

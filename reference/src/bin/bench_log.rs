@@ -1,4 +1,4 @@
-//! bench_log run | from_candump | to_candump | map NAME=PORT,..: what the programs bench, from_candump (with --map) and to_candump are to print for standard input.
+//! bench_log run | from_candump | to_candump | map NAME=PORT,.. [RATE]: what the programs bench, from_candump (with --map, and --bitrate) and to_candump are to print for standard input.
 //! bench_log log SEED RECORDS [bad] | text SEED LINES | bus SEED LINES: generated input for them; frames SEED FRAMES: a log for `frame_parts_examples`.
 
 use std::io::{self, Read, Write};
@@ -27,6 +27,10 @@ fn tell_mapped(mapped: Mapped) -> io::Result<()> {
     for (reason, count) in PASSED_OVER.iter().zip(mapped.passed_over).filter(|(_, count)| *count > 0) {
         eprintln!("passed over, {reason}: {count}");
     }
+    let over: usize = mapped.passed_over.iter().sum();
+    if over > 0 && mapped.turned == 0 {
+        eprintln!("nothing was turned, of lines: {over}");
+    }
     io::stdout().write_all(&mapped.output)
 }
 
@@ -35,7 +39,7 @@ fn number(argument: Option<&String>) -> u64 {
 }
 
 fn usage() -> ! {
-    eprintln!("usage: bench_log run | from_candump | to_candump | map NAME=PORT,.. | log SEED RECORDS [bad] | frames SEED FRAMES | text SEED LINES | bus SEED LINES");
+    eprintln!("usage: bench_log run | from_candump | to_candump | map NAME=PORT,.. [RATE] | log SEED RECORDS [bad] | frames SEED FRAMES | text SEED LINES | bus SEED LINES");
     std::process::exit(2);
 }
 
@@ -47,7 +51,8 @@ fn main() -> io::Result<()> {
         Some("to_candump") => tell(to_candump(&input()?)),
         Some("map") => {
             let map = arguments.get(1).and_then(|map| pairs(map)).unwrap_or_else(|| usage());
-            tell_mapped(from_candump_map(&input()?, &map))
+            let rate = arguments.get(2).map(|_| number(arguments.get(2)));
+            tell_mapped(from_candump_map(&input()?, &map, rate))
         }
         Some("log") => {
             let records = number(arguments.get(2)) as usize;

@@ -1,16 +1,16 @@
--- `feed` meets its contract: the line stays within its space, and a record has 15 bytes for each byte of text at most. Assumes nothing.
+-- `feed` meets its contract: the line stays within its space, and the records within theirs. Assumes nothing.
 use mathlib.Core.Path.{_≡_}
-use Prim.Native.Nat.{_-_, _*_, _≤_}
+use Prim.Native.Nat.{_-_, _≤_}
 use borrow.Author.Needs.{needs}
 use lib.ListN.{length}
 use Rattle.from_candump.proofs.feed.Statement.{statement}
 use Rattle.from_candump.proofs.feed.Tie as tie
 
 abbrev Inv-loop : tie.InvT-loop
-Inv-loop map text line₀ counts₀ out₀ begun passed fed₀ i₀ line counts out fed i = (i ≤ length text) × (fed .len ≤ length line₀) × (fed .written ≤ 15 * i) × (length line ≡ length line₀) × (length counts ≡ length counts₀) × (length out ≡ length out₀)
+Inv-loop map text line₀ words₀ out₀ begun passed fed₀ i₀ line words out fed i = (i ≤ length text) × (fed .len ≤ length line₀) × (fed .written ≤ length out₀) × (length line ≡ length line₀) × (length words ≡ length words₀) × (length out ≡ length out₀)
 
 abbrev μ-loop : tie.MeasureT-loop
-μ-loop map text line₀ counts₀ out₀ begun passed fed₀ i₀ line counts out fed i = length text - i
+μ-loop map text line₀ words₀ out₀ begun passed fed₀ i₀ line words out fed i = length text - i
 
 loop-holds : tie.Need-loop-holds Inv-loop μ-loop
 loop-holds c = search needs

@@ -7,11 +7,11 @@ use Rattle.from_candump.proofs.read_all.Statement.{statement}
 use Rattle.from_candump.proofs.read_all.Tie as tie
 
 abbrev Inv-loop : tie.InvT-loop
-Inv-loop map block₀ line₀ counts₀ out₀ len₀ place₀ more₀ turns₀ block line counts out len place more turns =
-    (len ≤ length line₀) × (length line ≡ length line₀) × (length block ≡ length block₀) × (length counts ≡ length counts₀) × (length out ≡ length out₀)
+Inv-loop map block₀ line₀ words₀ out₀ len₀ place₀ more₀ turns₀ block line words out len place more turns =
+    (len ≤ length line₀) × (length line ≡ length line₀) × (length block ≡ length block₀) × (length words ≡ length words₀) × (length out ≡ length out₀)
 
 abbrev μ-loop : tie.MeasureT-loop
-μ-loop map block₀ line₀ counts₀ out₀ len₀ place₀ more₀ turns₀ block line counts out len place more turns =
+μ-loop map block₀ line₀ words₀ out₀ len₀ place₀ more₀ turns₀ block line words out len place more turns =
     turns
 
 loop-holds : tie.Need-loop-holds Inv-loop μ-loop
