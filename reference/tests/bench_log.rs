@@ -133,7 +133,7 @@ fn names_of_different_lengths_and_a_last_line_without_its_end() {
     assert_eq!(from_candump_map(b"no\n", &map, None).turned, 0);
 }
 
-/// At 250,000 bits a second a frame takes 524 us: the second of three waits for the first, the third finds the buses free; the port of arrival has nothing to send.
+/// At 250,000 bits a second a frame takes 524 us: the second waits for the first, and the bus of arrival sends nothing while the frame is on it.
 #[test]
 fn takes_stand_where_buses_would_send() {
     let text = b"(1763380800.000000) can0 18FEF121#\n(1763380800.000100) can0 18FEF122#\n(1763380800.000500) can1 18FEF123#\n\
@@ -149,7 +149,7 @@ fn takes_stand_where_buses_would_send() {
         };
         rest = &rest[size..];
     }
-    assert_eq!(kinds, "F33 T2 T3 T4 F34 F35 T1 T2 T3 T4 F36 T2 T3 T3 T4 T4 ");
+    assert_eq!(kinds, "F33 T2 T3 T4 F34 F35 T1 T2 T3 T3 T4 T4 F36 T2 T3 T4 ");
 }
 
 #[test]

@@ -14,7 +14,7 @@ ghost use Rattle.deorasaeng.specs.Interface.{lentRefusal, FrameCall, Tak
 ghost use Rattle.deorasaeng.specs.PlanCalls.{Telling, PlanCall, LinksCall};
 
 // The version of the interface, which the header names: it rises with every function, number or word that is added.
-pub const VERSION: u64 = 8;
+pub const VERSION: u64 = 9;
 
 // The published lengths of the answers.
 pub const FRAME_WORDS: usize = 8;
@@ -39,6 +39,14 @@ fn lent_refusal(words: &[u64], port: u32) -> u32
         return 1;
     }
     2
+}
+
+// The version of the interface that this library has; the header has the one that a caller was compiled with.
+#[no_mangle]
+pub extern "C" fn deorasaeng_version() -> u64
+    ensures { λ r. do ⌜ r ≡ (← ⟦VERSION⟧ .entry) ⌝ }
+{
+    VERSION
 }
 
 // Power-on: the record becomes that of a fresh unit of four ports.

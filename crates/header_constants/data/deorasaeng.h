@@ -13,6 +13,8 @@
    An answer is lent storage of the length given below, in words; another length is number 2. On a refusal it is left as it was (deorasaeng_message says
    where not). Where several numbers apply the lowest is given, so 1 stands before 2 and 2 before every other; but 23 stands directly after 11, 22 directly after 12, and at
    deorasaeng_start 18 before 8.
+   A record of zeros is that of a unit with four ports, Unstarted, NAME 0, preferred address 0: every call is defined on it, but power-on is what makes a unit. On a damaged
+   record too every call is defined, ends and stays inside what it was lent; what it then answers is that of the words that stand there, until the next power-on.
    A unit has the number of ports that its power-on was given, four where none was: every call reads it in the record. Ports are 1 to that number. Ports in an answer
    are a mask of eight bits: bit p - 1 for port p. */
 #ifndef DEORASAENG_H
@@ -26,8 +28,10 @@ extern "C" {
 #endif
 
 /* The version of this interface. A version may add functions, numbers, and words at the end of an answer or of the record, whose published length then grows: a
-   call that lends the old length is refused with 2. So callers are compiled again with the header of the library that they link. */
-#define DEORASAENG_VERSION 8
+   call that lends the old length is refused with 2. So callers are compiled again with the header of the library that they link: deorasaeng_version() tells the
+   library's own, and where it is not this one the two do not fit. */
+#define DEORASAENG_VERSION 9
+uint64_t deorasaeng_version(void);
 
 /* What a function gives back: 0 for done, else why the call is refused. */
 enum deorasaeng_number {
@@ -130,7 +134,11 @@ enum deorasaeng_reason {
 
 /* The reason at port 1 to 8 in answer[DEORASAENG_REASONS], which has four bits a port. No pair is asked at the arrival port, at a port that the unit has not, and of a
    consumed frame. */
+#ifdef __cplusplus
+#define DEORASAENG_REASON(word, port) (static_cast<deorasaeng_reason>((word) >> 4 * ((port) - 1) & 15))
+#else
 #define DEORASAENG_REASON(word, port) ((enum deorasaeng_reason)((word) >> 4 * ((port) - 1) & 15))
+#endif
 
 /* The words of a take's answer. */
 enum deorasaeng_take_word {

@@ -217,7 +217,10 @@ fn pgns(words: &mut [u64]) -> [u64; 2] {
     ]
 }
 
-const VERSION: [u64; 1] = [deorasaeng::VERSION];
+// VERSION, as the library tells it.
+fn version() -> [u64; 1] {
+    [deorasaeng::deorasaeng_version()]
+}
 
 // The number that a plan of one segment is given, by the segment on two ports of its unit.
 fn plan_number(segment: u64) -> u64 {
@@ -236,7 +239,7 @@ fn plan_numbers() -> [u64; 2] {
 
 // The numbers of an Unstarted unit.
 fn early_numbers(head: &[u8], names: &[u8], from: Passed, words: &mut [u64]) -> Passed {
-    let mut p = all(head, names, from, &VERSION);
+    let mut p = all(head, names, from, &version());
     p = all(head, names, p, &call_numbers(words));
     p = all(head, names, p, &frame_numbers(words));
     all(head, names, p, &state_numbers(words))
