@@ -458,7 +458,11 @@ pub fn generate_bus(seed: u64, lines: usize) -> Vec<u8> {
             _ => format!("{id:08X}#{}", hex(data)),
         };
         // Mostly some frames' time later, now and then anything.
-        now = if random.once_in(500) { random.number() % 10_000_000_000_000_000 } else { now + u64::from(random.below(2000)) };
+        now = if random.once_in(500) {
+            random.number() % 10_000_000_000_000_000
+        } else {
+            now + u64::from(random.below(2000))
+        };
         let time = format!("({:010}.{:06})", now / 1_000_000 % 10_000_000_000, now % 1_000_000);
         let name = random.pick(&["can0", "vcan1", "can2", "slcan10", "can1", "   can0", "  vcan1"]);
         let end = random.pick(&["\n", "\n", " R\n", " T\n", "\r\n", " R\r\n"]);

@@ -136,7 +136,8 @@ fn names_of_different_lengths_and_a_last_line_without_its_end() {
 /// At 250,000 bits a second a frame takes 524 us: the second waits for the first, and the bus of arrival sends nothing while the frame is on it.
 #[test]
 fn takes_stand_where_buses_would_send() {
-    let text = b"(1763380800.000000) can0 18FEF121#\n(1763380800.000100) can0 18FEF122#\n(1763380800.000500) can1 18FEF123#\n\
+    let text =
+        b"(1763380800.000000) can0 18FEF121#\n(1763380800.000100) can0 18FEF122#\n(1763380800.000500) can1 18FEF123#\n\
         (1763380800.001100) can0 18FEF124#\n";
     let log = from_candump_map(text, &[("can0", 1), ("can1", 2)], Some(250_000)).output;
     let mut kinds = String::new();

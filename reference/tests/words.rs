@@ -58,7 +58,10 @@ fn reasons() {
 fn events() {
     let given = given("event");
     assert_eq!(given[0], (0, "none".to_string()));
-    assert_eq!(given.iter().map(|(number, _)| *number).collect::<Vec<_>>(), (0..given.len() as u32).collect::<Vec<_>>());
+    assert_eq!(
+        given.iter().map(|(number, _)| *number).collect::<Vec<_>>(),
+        (0..given.len() as u32).collect::<Vec<_>>()
+    );
     let table = RULES.split("| claim | event | what happens |").nth(1).unwrap().split("\n\n").next().unwrap();
     let mut told: Vec<&str> = table.lines().filter_map(|line| line.split(" | ").nth(1)).collect();
     told.sort();
