@@ -133,6 +133,17 @@ fn names_of_different_lengths_and_a_last_line_without_its_end() {
     assert_eq!(from_candump_map(b"no\n", &map, None).turned, 0);
 }
 
+/// What `candump -l can0 vcan10` of can-utils 2020.11 wrote on a real kernel: 34 frames, one of 11 bits, a remote one.
+#[test]
+fn a_log_of_can_utils() {
+    let text = include_bytes!("../logs/can0_vcan10.log");
+    let mapped = from_candump_map(text, &[("can0", 1), ("vcan10", 2)], Some(250_000));
+    assert_eq!((mapped.turned, mapped.passed_over), (34, [0, 1, 1, 0, 0, 0]));
+    // The frames are seconds apart, so each has left before the next comes, at three ports.
+    assert_eq!(mapped.output.len(), 34 * (15 + 3 * 2));
+    assert!(!run(&mapped.output).contains("T -"));
+}
+
 /// At 250,000 bits a second a frame takes 524 us: the second waits for the first, and the bus of arrival sends nothing while the frame is on it.
 #[test]
 fn takes_stand_where_buses_would_send() {
