@@ -3,6 +3,10 @@
 
 #![allow(unsafe_code)]
 
+// `usize` below is the C interface's `deorasaeng_size`, which has 64 bits on every processor.
+#[cfg(not(target_pointer_width = "64"))]
+compile_error!("lengths have 64 bits in the library");
+
 use std::ops::Range;
 
 use crate::frame::{Frame, NULL};

@@ -7,8 +7,11 @@
 
    Platform: x86-64 Linux, the System V calling convention, any linker for ELF. Needed are memcpy and memset and nothing else: no heap, no call of the operating
    system, no data outside the record. SSE registers and the red zone are used. Some 21 KB of code and constants, 9,872 bytes of record for four ports, at most 1.3 KB
-   of stack, 6 KB in a call on a plan. For other platforms there is no proved library today; the project's reference/, in safe Rust, is an unproved stand-in.
-   docs/INTEGRATION.md has the loop of a box, interrupts, locking and stack.
+   of stack, 6 KB in a call on a plan.
+   From the same proved module also 64-bit ARM, RISC-V and 32-bit ARM under Linux, Cortex-M4 and M7 without an operating system, and WebAssembly
+   (scripts/library --target). On top of what is believed for x86-64 stands, for a 64-bit one, another back end of the same compiler; for a 32-bit one also that offsets
+   cut to 32 bits are right, since a length has 64 in the proofs: tested, outside the proof's machine. docs/CLAIMS.md has what was tried on each.
+   docs/INTEGRATION.md has the loop of a box, interrupts, locking and stack, and a page for a microcontroller.
 
    An answer is lent storage of the length given below, in words; another length is number 2. On a refusal it is left as it was (deorasaeng_message says
    where not). Where several numbers apply the lowest is given, so 1 stands before 2 and 2 before every other; but 23 stands directly after 11, 22 directly after 12, and at
@@ -26,6 +29,25 @@
 #ifdef __cplusplus
 extern "C" {
 #endif
+
+/* A length. In the library it has 64 bits on every processor: size_t where that has as many, else uint64_t; with a size_t of 32 bits a call would link and go
+   wrong. */
+#if SIZE_MAX > 0xFFFFFFFF
+typedef size_t deorasaeng_size;
+#else
+typedef uint64_t deorasaeng_size;
+#endif
+
+/* What else the library takes for granted, and a compiler for a processor that has it otherwise stops at: the least significant byte of a word comes first, and a
+   word is aligned to 8. */
+#if defined(__BYTE_ORDER__) && __BYTE_ORDER__ != __ORDER_LITTLE_ENDIAN__
+#error "libdeorasaeng.a is for little-endian processors"
+#endif
+struct deorasaeng_byte_and_word {
+    uint8_t byte;
+    uint64_t word;
+};
+typedef char deorasaeng_words_are_aligned_to_8[offsetof(struct deorasaeng_byte_and_word, word) == 8 ? 1 : -1];
 
 /* The version of this interface. A version may add functions, numbers, and words at the end of an answer or of the record, whose published length then grows: a
    call that lends the old length is refused with 2. So callers are compiled again with the header of the library that they link: deorasaeng_version() tells the
@@ -202,50 +224,50 @@ enum deorasaeng_event {
 
 /* Power-on of a unit with four ports: every pair cleared, every queue and the address table empty, every count 0, losses too, the unit Unstarted. Whatever the record held.
    Number 2. */
-uint32_t deorasaeng_power_on(uint64_t *record, size_t record_len, uint64_t name, uint32_t preferred);
+uint32_t deorasaeng_power_on(uint64_t *record, deorasaeng_size record_len, uint64_t name, uint32_t preferred);
 
 /* The same with 2 to 8 ports, on a record of DEORASAENG_RECORD_WORDS_FOR(ports) words. Another number of ports is refused with 27, and the record is then that of a
    fresh unit with four ports all the same. Numbers 2, which changes no word, and 27. */
-uint32_t deorasaeng_power_on_ports(uint64_t *record, size_t record_len, uint64_t name, uint32_t preferred, uint32_t ports);
+uint32_t deorasaeng_power_on_ports(uint64_t *record, deorasaeng_size record_len, uint64_t name, uint32_t preferred, uint32_t ports);
 
 /* A frame arrived at a port. Numbers 1 to 5. */
-uint32_t deorasaeng_frame(uint64_t *record, size_t record_len, uint32_t port, uint32_t id, const uint8_t *bytes, size_t len,
-                          uint64_t *answer, size_t answer_len);
+uint32_t deorasaeng_frame(uint64_t *record, deorasaeng_size record_len, uint32_t port, uint32_t id, const uint8_t *bytes, deorasaeng_size len,
+                          uint64_t *answer, deorasaeng_size answer_len);
 
 /* A port is ready to send: its frame of highest rank, the earliest of those. `bytes` is 8 long and gets the frame's bytes, 0 past its length; it is untouched
    where nothing waits. Numbers 1 and 2. */
-uint32_t deorasaeng_take(uint64_t *record, size_t record_len, uint32_t port, uint64_t *answer, size_t answer_len, uint8_t *bytes,
-                         size_t bytes_len);
+uint32_t deorasaeng_take(uint64_t *record, deorasaeng_size record_len, uint32_t port, uint64_t *answer, deorasaeng_size answer_len, uint8_t *bytes,
+                         deorasaeng_size bytes_len);
 
 /* A network message to the unit, handed in whole. What is to be sent back is written to `reply`, and no byte past it is touched. Numbers 1, 2, 6 to 17, 22 and 23: 9
    to 17, 22 and 23 write the acknowledgment, and the answer begins with 59392 and 8; with 17 and 22 it tells which entry was wrong. The others write nothing, and the answer
    is 0 in every word (untouched if it is not 5 long itself). */
-uint32_t deorasaeng_message(uint64_t *record, size_t record_len, uint32_t port, uint32_t requester, const uint8_t *payload,
-                            size_t payload_len, uint8_t *reply, size_t reply_len, uint64_t *answer, size_t answer_len);
+uint32_t deorasaeng_message(uint64_t *record, deorasaeng_size record_len, uint32_t port, uint32_t requester, const uint8_t *payload,
+                            deorasaeng_size payload_len, uint8_t *reply, deorasaeng_size reply_len, uint64_t *answer, deorasaeng_size answer_len);
 
 /* The unit claims its preferred address: it is Claiming, or Lost where a lower NAME has that address. Numbers 2, 18, 8. */
-uint32_t deorasaeng_start(uint64_t *record, size_t record_len, uint64_t *answer, size_t answer_len);
+uint32_t deorasaeng_start(uint64_t *record, deorasaeng_size record_len, uint64_t *answer, deorasaeng_size answer_len);
 
 /* The 250 ms after the unit's claim are over: Claiming becomes Claimed. Numbers 2, 18. */
-uint32_t deorasaeng_quiet(uint64_t *record, size_t record_len);
+uint32_t deorasaeng_quiet(uint64_t *record, deorasaeng_size record_len);
 
 /* What the unit is: its claim state, address, preferred address, NAME and number of ports. Changes nothing. Number 2. */
-uint32_t deorasaeng_unit(const uint64_t *record, size_t record_len, uint64_t *answer, size_t answer_len);
+uint32_t deorasaeng_unit(const uint64_t *record, deorasaeng_size record_len, uint64_t *answer, deorasaeng_size answer_len);
 
 /* How full a port's queue is: how many frames wait at each priority, how many were accepted and taken. Changes nothing. Numbers 1 and 2. */
-uint32_t deorasaeng_counts(const uint64_t *record, size_t record_len, uint32_t port, uint64_t *answer, size_t answer_len);
+uint32_t deorasaeng_counts(const uint64_t *record, deorasaeng_size record_len, uint32_t port, uint64_t *answer, deorasaeng_size answer_len);
 
 /* The take on one port's queue by itself, for a transmit routine that is to touch nothing else: `queue` is record + DEORASAENG_QUEUE_AT(port), or a copy of those
    words, the port's counts among them. Answer and bytes as deorasaeng_take's. Number 2. It copies the queue (1.3 KB of stack); deorasaeng_take works in place. */
-uint32_t deorasaeng_take_queue(uint64_t queue[DEORASAENG_QUEUE_WORDS], uint64_t *answer, size_t answer_len, uint8_t *bytes,
-                               size_t bytes_len);
+uint32_t deorasaeng_take_queue(uint64_t queue[DEORASAENG_QUEUE_WORDS], uint64_t *answer, deorasaeng_size answer_len, uint8_t *bytes,
+                               deorasaeng_size bytes_len);
 
 /* A plan of a machine, asked before it is built: which segments hear a PGN that is sent on the first one? It needs no record. `ports` has eight words for each of 16
    units, the segment on each port, 1 to `segments`, or 0 if it is unused. `lists` has 56 blocks of DEORASAENG_PAIR_WORDS words for each of 16 units, in order of From, then
    To: mode (0 cleared, 1 block, 2 pass), count, 32 PGNs. What lies past the units in use is not read. The answer has bit s - 1 for segment s that hears. Numbers 2, 28
    and 29. docs/PLANS.md says what each is for. */
-uint32_t deorasaeng_plan(const uint64_t *ports, size_t ports_len, const uint64_t *lists, size_t lists_len, uint32_t segments, uint32_t units,
-                         uint32_t first, uint32_t pgn, uint64_t *answer, size_t answer_len);
+uint32_t deorasaeng_plan(const uint64_t *ports, deorasaeng_size ports_len, const uint64_t *lists, deorasaeng_size lists_len, uint32_t segments, uint32_t units,
+                         uint32_t first, uint32_t pgn, uint64_t *answer, deorasaeng_size answer_len);
 
 /* A port of a unit with the segment that it is on, each counted from 1. */
 struct deorasaeng_link {
@@ -253,8 +275,8 @@ struct deorasaeng_link {
 };
 
 /* The same with a link for each port in use, in any order, in place of `ports`. A port that is named twice is 28, as is a number out of its range. */
-uint32_t deorasaeng_plan_links(const struct deorasaeng_link *links, size_t links_len, const uint64_t *lists, size_t lists_len, uint32_t segments,
-                               uint32_t units, uint32_t first, uint32_t pgn, uint64_t *answer, size_t answer_len);
+uint32_t deorasaeng_plan_links(const struct deorasaeng_link *links, deorasaeng_size links_len, const uint64_t *lists, deorasaeng_size lists_len, uint32_t segments,
+                               uint32_t units, uint32_t first, uint32_t pgn, uint64_t *answer, deorasaeng_size answer_len);
 
 #ifdef __cplusplus
 }
