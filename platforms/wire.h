@@ -10,8 +10,8 @@ enum call { POWER_ON, POWER_ON_PORTS, FRAME, TAKE, MESSAGE, START, QUIET, UNIT, 
 /* The most arguments of a call, a pointer and its length counted as one. */
 enum { ARGUMENTS = 8 };
 
-/* The most bytes of an image: a plan's storage with something over. */
-enum { IMAGE = 8 * (DEORASAENG_PLAN_LIST_WORDS + 4096) };
+/* The most bytes of an image: a plan's storage twice, for lengths that are wrong. */
+enum { IMAGE = 8 * 2 * (DEORASAENG_PLAN_LIST_WORDS + DEORASAENG_PLAN_PORT_WORDS) + 65536 };
 
 struct request {
     uint64_t call, image_len;

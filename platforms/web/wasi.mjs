@@ -1,4 +1,4 @@
-// What a C program in WebAssembly asks of its surroundings (WASI, preview 1), as far as the project's programs do: to read and write streams, and to end. The same in node and in a browser.
+// What a C program in WebAssembly asks of its surroundings (WASI, preview 1), as far as the project's programs do: no arguments, to read and write streams, and to end. The same in node and in a browser.
 
 const SUCCESS = 0, BAD_DESCRIPTOR = 8, NOT_SUPPORTED = 58, CHARACTER_DEVICE = 2;
 
@@ -32,12 +32,16 @@ function through(memory, list, count, told, one) {
 // Runs the program to its end and gives its status. `read(piece)` fills a piece of memory and tells how much of it, `write(descriptor, piece)` takes one.
 export function run(module, read, write) {
     let memory;
+    const zero = (at, length) => (new Uint8Array(memory.buffer, at, length).fill(0), SUCCESS);
     const imports = {
+        args_sizes_get: (count, bytes) => zero(count, 4) || zero(bytes, 4),
+        args_get: () => SUCCESS,
         fd_read: (fd, list, count, told) => (fd === 0 ? through(memory, list, count, told, read) : BAD_DESCRIPTOR),
         fd_write: (fd, list, count, told) => through(memory, list, count, told, piece => (write(fd, piece), piece.length)),
         fd_close: () => SUCCESS,
         fd_seek: () => NOT_SUPPORTED,
-        fd_fdstat_get: (fd, at) => (new Uint8Array(memory.buffer, at, 24).fill(0).set([CHARACTER_DEVICE]), SUCCESS),
+        fd_prestat_get: () => BAD_DESCRIPTOR, // no folder
+        fd_fdstat_get: (fd, at) => zero(at, 24) || (new Uint8Array(memory.buffer)[at] = CHARACTER_DEVICE, SUCCESS),
         proc_exit: status => { throw new Ended(status); },
     };
     const others = { get: (known, name) => known[name] ?? (() => NOT_SUPPORTED) };
