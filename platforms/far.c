@@ -39,7 +39,7 @@ static uint32_t with_stack(uint64_t *taken)
     return make_call();
 }
 #else
-enum { STACK = 16384, PAINT = 0x5A };
+enum { STACK = 16384, STEP = 512, PAINT = 0x5A };
 static _Alignas(16) uint8_t stack[STACK];
 
 /* A function that is called with the stack pointer at `top`. */
@@ -70,9 +70,13 @@ __attribute__((noinline)) static uint32_t on_stack(uint32_t (*function)(void), u
 
 static uint32_t with_stack(uint64_t *taken)
 {
+    static uint8_t paint[STEP];
     size_t untouched = 0;
+    memset(paint, PAINT, sizeof paint);
     memset(stack, PAINT, sizeof stack);
     uint32_t number = on_stack(make_call, stack + STACK);
+    while (untouched + STEP <= STACK && memcmp(stack + untouched, paint, STEP) == 0)
+        untouched += STEP;
     while (untouched < STACK && stack[untouched] == PAINT)
         untouched++;
     *taken = STACK - untouched;
