@@ -1,4 +1,4 @@
-# The gateway against the kernel's own cangw, one after the other in the same boot, and its system calls a frame. Run in the guest by gateway/test, after the scenarios.
+# The gateway against the kernel's own cangw, one after the other in the same boot. Run in the guest by gateway/test, after the scenarios.
 echo "== measured: from vcan0 to three buses, all pairs cleared; $(uname -r), $(awk -F': ' '/model name/ { print $2; exit }' /proc/cpuinfo)"
 field() { echo "$1" | awk -v key=$2 '{ for (i = 1; i < NF; i++) if ($i == key) { print $(i + 1); exit } }'; }
 ratio() { awk -v a=$1 -v b=$2 'BEGIN { printf "%.2f", a / b }'; }
@@ -18,22 +18,3 @@ echo "      cangw,   16 on the way:       $kernel_many"
 echo "      gateway, 16 on the way:       $gateway_many"
 echo "      gateway of cangw: rate $(ratio "$(field "$gateway_one" rate)" "$(field "$kernel_one" rate)") one at a time, $(ratio "$(field "$gateway_many" rate)" "$(field "$kernel_many" rate)") with 16 on the way; speed by the median delay $(ratio "$(field "$kernel_one" median)" "$(field "$gateway_one" median)")"
 check "measured: every frame crossed the gateway" equal "$(field "$gateway_one" frames) $(field "$gateway_many" frames)" "1000 2000"
-
-# Calls of the gateway at work: those of a run that carries frames, less those of one that carries none.
-calls() { # COUNT WINDOW: a line for each call, its name and how often
-    (
-        gateway_program="strace -c -f -o $TMP/calls $gateway_program"
-        gateway_start; [ $1 = 0 ] || /load $1 $2 vcan0 vcan1 >/dev/null; within 20 idle
-        kill -TERM $(pgrep -f '^/deorasaeng-gateway'); wait $gateway
-    )
-    awk '$4 ~ /^[0-9]+$/ && $NF != "total" { print $NF, $4 }' $TMP/calls
-}
-a_frame() { # COUNT WINDOW: the calls a frame
-    calls $1 $2 >$TMP/work
-    awk -v n=$1 'NR == FNR { idle[$1] = $2; next } { c = ($2 - idle[$1]) / n; all += c; if (c >= 0.05) words = words sprintf(", %s %.1f", $1, c) } END { printf "%.1f (%s)", all, substr(words, 3) }' $TMP/idle $TMP/work
-}
-calls 0 0 >$TMP/idle
-one=$(a_frame 1000 1); many=$(a_frame 1000 16)
-echo "      calls a frame to three exits: one at a time $one"
-echo "                                    16 on the way $many"
-check "measured: a frame to three exits takes at most 16 calls" awk -v one="${one%% *}" -v many="${many%% *}" 'BEGIN { exit !(one > 0 && one <= 16 && many > 0 && many <= 16) }'
