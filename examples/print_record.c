@@ -42,6 +42,15 @@ static void print_queue(const uint64_t *queue, unsigned port)
     }
 }
 
+static void print_names(const uint64_t *pair)
+{
+    uint64_t count = pair[DEORASAENG_PAIR_MODE] < DEORASAENG_BLOCK_WITH_NAMES ? 0 : pair[DEORASAENG_PAIR_NAMES];
+    for (uint64_t i = 0; i < count && i < DEORASAENG_NAME_ENTRIES; i++) {
+        const uint64_t *entry = pair + DEORASAENG_NAME_ENTRY_AT(i);
+        printf(", %" PRIu64 " by NAME %016" PRIX64 " mask %016" PRIX64, entry[0], entry[1], entry[2]);
+    }
+}
+
 static void print_pair(const uint64_t *words, unsigned from, unsigned to)
 {
     uint32_t n = ports_of(words);
@@ -53,9 +62,10 @@ static void print_pair(const uint64_t *words, unsigned from, unsigned to)
     if (pair[DEORASAENG_PAIR_MODE] == 0) {
         printf("cleared");
     } else {
-        printf("%s", pair[DEORASAENG_PAIR_MODE] == 1 ? "block" : "pass");
+        printf("%s", pair[DEORASAENG_PAIR_MODE] == 1 || pair[DEORASAENG_PAIR_MODE] == DEORASAENG_BLOCK_WITH_NAMES ? "block" : "pass");
         for (uint64_t i = 0; i < count && i < DEORASAENG_LIST_PGNS; i++)
             printf(" %" PRIu64, pair[DEORASAENG_PAIR_PGNS + i]);
+        print_names(pair);
     }
     printf(", lost %" PRIu64 "\n", lost);
 }
@@ -73,18 +83,20 @@ static void print_record(const uint64_t *words)
     printf("lost in general %" PRIu64 "\n", words[DEORASAENG_GENERAL_LOSS_AT(n)]);
 }
 
-/* A unit that has claimed its address, heard a claim, got a list and some frames. */
+/* A unit that has claimed its address, heard a claim, got a list, a NAME entry and some frames. */
 static void make_record(void)
 {
     uint64_t answer[DEORASAENG_FRAME_ANSWER];
     uint8_t bytes[DEORASAENG_FRAME_BYTES] = {0x23, 0, 0, 0, 0, 0, 0, 0xA0}, reply[DEORASAENG_REPLY_BYTES];
     const uint8_t create[8] = {6, 0x12, 1, 0xF1, 0xFE, 0, 0xFF, 0xFF};
+    const uint8_t by_name[23] = {7, 0x12, 0x00, 0xEF, 0, 0x23, 0, 0, 0, 0, 0, 0, 0xA0, 0xFF, 0, 0, 0, 0, 0, 0, 0x80};
     deorasaeng_power_on(record, DEORASAENG_RECORD_WORDS, 0x20001C000AC00123, 128);
     deorasaeng_start(record, DEORASAENG_RECORD_WORDS, answer, DEORASAENG_START_ANSWER);
     for (uint32_t port = 1; port <= 4; port++)
         deorasaeng_take(record, DEORASAENG_RECORD_WORDS, port, answer, DEORASAENG_TAKE_ANSWER, reply, DEORASAENG_FRAME_BYTES);
     deorasaeng_quiet(record, DEORASAENG_RECORD_WORDS);
     deorasaeng_message(record, DEORASAENG_RECORD_WORDS, 1, 33, create, sizeof create, reply, sizeof reply, answer, DEORASAENG_MESSAGE_ANSWER);
+    deorasaeng_message(record, DEORASAENG_RECORD_WORDS, 1, 33, by_name, sizeof by_name, reply, sizeof reply, answer, DEORASAENG_MESSAGE_ANSWER);
     deorasaeng_frame(record, DEORASAENG_RECORD_WORDS, 3, 0x18EEFF21, bytes, 8, answer, DEORASAENG_FRAME_ANSWER);
     for (uint8_t i = 0; i < 32; i++)
         deorasaeng_frame(record, DEORASAENG_RECORD_WORDS, 1, 0x0CF00400, &i, 1, answer, DEORASAENG_FRAME_ANSWER);

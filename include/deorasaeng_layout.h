@@ -25,18 +25,24 @@
 #define DEORASAENG_QUEUE_FRAMES (DEORASAENG_QUEUE_COUNTS + DEORASAENG_COUNTS_ANSWER)
 #define DEORASAENG_QUEUE_DEPTH 32
 
-/* A pair: mode (0 cleared, 1 block, 2 and up pass), how many PGNs, the PGNs in order of addition. */
+/* A pair: mode (0 cleared, 1 block, 2 pass; 3 block and 4 and up pass, with NAME entries), how many PGNs, the PGNs in order of addition; behind them how many NAME
+   entries, and for each its PGN, NAME and mask, which mean something with a mode from 3 on alone. */
 #define DEORASAENG_PAIR_MODE 0
 #define DEORASAENG_PAIR_COUNT 1
 #define DEORASAENG_PAIR_PGNS 2
 #define DEORASAENG_LIST_PGNS 32
+#define DEORASAENG_BLOCK_WITH_NAMES 3
+#define DEORASAENG_PAIR_NAMES (DEORASAENG_PAIR_PGNS + DEORASAENG_LIST_PGNS)
+#define DEORASAENG_NAME_ENTRIES 8
+#define DEORASAENG_NAME_ENTRY_WORDS 3
+#define DEORASAENG_NAME_ENTRY_AT(i) (DEORASAENG_PAIR_NAMES + 1 + DEORASAENG_NAME_ENTRY_WORDS * (i))
 #define DEORASAENG_PAIRS_OF(n) ((n) * ((n) - 1))
 #define DEORASAENG_PAIR_NUMBER(n, from, to) (((n) - 1) * ((from) - 1) + ((to) < (from) ? (to) - 1 : (to) - 2))
 #define DEORASAENG_PAIRS_AT(n) (DEORASAENG_QUEUES_AT + DEORASAENG_QUEUE_WORDS * (n))
-#define DEORASAENG_PAIR_AT(n, from, to) (DEORASAENG_PAIRS_AT(n) + DEORASAENG_PAIR_WORDS * DEORASAENG_PAIR_NUMBER(n, from, to))
+#define DEORASAENG_PAIR_AT(n, from, to) (DEORASAENG_PAIRS_AT(n) + DEORASAENG_RECORD_PAIR_WORDS * DEORASAENG_PAIR_NUMBER(n, from, to))
 
 /* The losses: a counter for each pair in the same order, the general one last. */
-#define DEORASAENG_LOSSES_AT(n) (DEORASAENG_PAIRS_AT(n) + DEORASAENG_PAIR_WORDS * DEORASAENG_PAIRS_OF(n))
+#define DEORASAENG_LOSSES_AT(n) (DEORASAENG_PAIRS_AT(n) + DEORASAENG_RECORD_PAIR_WORDS * DEORASAENG_PAIRS_OF(n))
 #define DEORASAENG_LOSS_AT(n, from, to) (DEORASAENG_LOSSES_AT(n) + DEORASAENG_PAIR_NUMBER(n, from, to))
 #define DEORASAENG_GENERAL_LOSS_AT(n) (DEORASAENG_LOSSES_AT(n) + DEORASAENG_PAIRS_OF(n))
 
@@ -45,6 +51,7 @@
 typedef char deorasaeng_layout_fits[DEORASAENG_FITS(2) && DEORASAENG_FITS(3) && DEORASAENG_FITS(4) && DEORASAENG_FITS(5) && DEORASAENG_FITS(6) &&
                                     DEORASAENG_FITS(7) && DEORASAENG_FITS(8) &&
                                     DEORASAENG_PLACE_AT(DEORASAENG_TABLE_PLACES) == DEORASAENG_QUEUES_AT &&
+                                    DEORASAENG_NAME_ENTRY_AT(DEORASAENG_NAME_ENTRIES) == DEORASAENG_RECORD_PAIR_WORDS &&
                                     DEORASAENG_QUEUE_FRAMES + 2 * DEORASAENG_QUEUE_DEPTH == DEORASAENG_QUEUE_WORDS ? 1 : -1];
 
 #endif

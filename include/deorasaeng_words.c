@@ -20,7 +20,7 @@ const char *deorasaeng_number_words(uint32_t number)
     case DEORASAENG_WRONG_MODE: return "Create mode not 0 or 1";
     case DEORASAENG_NOT_CLEARED: return "Create: a named pair not cleared";
     case DEORASAENG_IS_CLEARED: return "Add, Delete: a named pair cleared";
-    case DEORASAENG_LIST_FULL: return "a named pair would pass 32 PGNs";
+    case DEORASAENG_LIST_FULL: return "a named pair would pass 32 PGNs or 8 NAME entries";
     case DEORASAENG_PGN_ABSENT: return "Delete: a PGN absent from a named pair";
     case DEORASAENG_WRONG_STATE: return "Start not in Unstarted, Quiet not in Claiming";
     case DEORASAENG_WRONG_ENTRY: return "an entry is no PGN";

@@ -5,13 +5,14 @@
 
 #include "../include/deorasaeng.h"
 
-enum { USUAL_PORTS = 4, FEWEST_PORTS = DEORASAENG_FEWEST_PORTS, MOST_PORTS = DEORASAENG_MOST_PORTS, LIST = 32, QUEUE = 32, RANKS = 8, PLACES = 254 };
+enum { USUAL_PORTS = 4, FEWEST_PORTS = DEORASAENG_FEWEST_PORTS, MOST_PORTS = DEORASAENG_MOST_PORTS, LIST = 32, NAMES = 8, QUEUE = 32, RANKS = 8, PLACES = 254 };
 
 /* Where a counter of losses stays. */
 enum { MOST_LOSSES = 64255 };
 
 /* The unit's own words are its claim state, address, preferred address, NAME and number of ports. A place of the table is its port and its NAME; a queue how
-   many wait, what the port counts and two words for each frame; a pair its mode, its count and its list. */
+   many wait, what the port counts and two words for each frame; a pair its mode, its count and its list, and behind that how many NAME entries it has, and for each its PGN,
+   NAME and mask. */
 enum {
     PORTS_AT = 4,
     TABLE_AT = 5,
@@ -20,16 +21,22 @@ enum {
     QUEUE_WORDS = DEORASAENG_QUEUE_WORDS,
     COUNTS_AT = 1, /* in a queue, as are the frames */
     FRAMES_AT = COUNTS_AT + DEORASAENG_COUNTS_ANSWER,
-    PAIR_WORDS = 2 + LIST,
+    NAMES_AT = 2 + LIST, /* in a pair */
+    NAME_WORDS = 3,
+    PAIR_WORDS = NAMES_AT + 1 + NAME_WORDS * NAMES,
     MOST_WORDS = DEORASAENG_RECORD_WORDS_FOR(MOST_PORTS)
 };
 
-/* A plan: for each of its units eight ports, a word each, and 56 lists. */
+/* The mode word of a pair: from 3 on it has NAME entries, 3 block and all above it pass. Below 3 the words behind the list mean nothing. */
+enum { CLEARED, BLOCK, PASS, BLOCK_NAMED, PASS_NAMED };
+
+/* A plan: for each of its units eight ports, a word each, and 56 pairs, which have a list alone and modes 0 to 2. */
 enum {
     MOST_SEGMENTS = DEORASAENG_MOST_SEGMENTS,
     MOST_UNITS = DEORASAENG_MOST_UNITS,
     PLAN_PAIRS = MOST_PORTS * (MOST_PORTS - 1),
     PLAN_PORTS = DEORASAENG_PLAN_PORT_WORDS,
+    PLAN_PAIR_WORDS = DEORASAENG_PAIR_WORDS,
     PLAN_LISTS = DEORASAENG_PLAN_LIST_WORDS
 };
 

@@ -34,6 +34,9 @@ static void make_steps(const struct control_request *request, struct steps *step
         if (request->mode != LIST_CLEARED)
             steps->count += payload_create(&steps->payloads[1], from, to, pass, request->pgns, request->count);
         break;
+    case CONTROL_NAME:
+        payload_name(&steps->payloads[0], from, to, &(struct name_entry){request->pgn, request->name, request->mask});
+        break;
     case CONTROL_RESET:
         payload_reset(&steps->payloads[0], request->pair, from, to);
         break;
@@ -157,7 +160,7 @@ static void write_asked(struct json *json, const struct gateway *gateway, const 
 static bool guard_fails(const struct gateway *gateway, const struct control_request *request)
 {
     struct list list;
-    return request->guarded && unit_read_list(&gateway->unit, request->port, request->from, request->to, &list) == 0 && !list_equal(&list, &request->guard);
+    return request->guarded && unit_read_list(&gateway->unit, request->port, request->from, request->to, &list) == 0 && !list_same_pgns(&list, &request->guard);
 }
 
 static void answer_request(struct json *json, struct gateway *gateway, const struct history_sender *sender, const struct control_request *request, int64_t now)

@@ -12,7 +12,7 @@
 #include <string.h>
 #include <unistd.h>
 
-#define REPLY_BYTES 65536
+#define REPLY_BYTES 131072
 #define INPUT_BYTES 65536
 #define WORDS_BYTES 160
 
@@ -28,6 +28,7 @@ static const char USAGE[] =
     "  replace FROM TO block|pass|cleared [PGN ..]  whatever was there; done whole or not at all\n"
     "  reset [FROM TO]                           the counter of lost frames, of a pair or of the unit\n"
     "  ask FROM PGN SOURCE                       why a frame from that port would cross to each port, or not\n"
+    "  name FROM TO PGN NAME MASK                an entry by who sent it, for a list that is there; NAME and MASK are hex\n"
     "TO may be `all`. Numbers are decimal or 0x hex; PGNs may be parted by commas or semicolons too, and - reads them from standard input.\n"
     "--if 'block 61444 65265' does it only if the list is that one now. --json prints the answer as it comes.\n"
     "The status is 0 for done, 1 for refused or no answer, 2 for a wrong command line.\n";
@@ -137,6 +138,7 @@ static const struct form {
 } FORMS[] = {
     {"read", 0, 2, false, false},    {"add", 3, INT16_MAX, false, true},     {"delete", 3, INT16_MAX, false, true}, {"create", 3, INT16_MAX, true, true},
     {"clear", 2, 2, false, false},   {"replace", 3, INT16_MAX, true, true},  {"reset", 0, 2, false, false},         {"ask", 3, 3, false, false},
+    {"name", 5, 5, false, false},
 };
 
 static const struct form *form_of(const char *name)
@@ -153,6 +155,11 @@ static bool put_words(struct json *json, const struct form *form, char *const *w
         return put_number(json, "from", words[0]) && put_number(json, "pgn", words[1]) && put_number(json, "source", words[2]);
     if (count > 0 && !put_pair(json, words))
         return false;
+    if (strcmp(form->name, "name") == 0) {
+        json_string(json, "name", words[3]);
+        json_string(json, "mask", words[4]);
+        return put_number(json, "pgn", words[2]);
+    }
     if (form->mode)
         json_string(json, "mode", words[2]);
     return !form->pgns || put_list(json, words + 2 + form->mode, count - 2 - form->mode);
@@ -189,6 +196,16 @@ static void show_pgns(const char *pgns)
         printf(" %" PRIu64, json_read_number(pgn));
 }
 
+static void show_names(const char *names)
+{
+    for (const char *entry = json_first(names); entry != NULL; entry = json_next(entry)) {
+        char name[WORDS_BYTES], mask[WORDS_BYTES];
+        json_read_string(json_member(entry, "name"), name, sizeof name);
+        json_read_string(json_member(entry, "mask"), mask, sizeof mask);
+        printf("    %" PRIu64 " of NAME %s, mask %s\n", json_read_number(json_member(entry, "pgn")), name, mask);
+    }
+}
+
 static void show_lists(const char *lists)
 {
     for (const char *list = json_first(lists); list != NULL; list = json_next(list)) {
@@ -199,6 +216,7 @@ static void show_lists(const char *lists)
             printf(":");
         show_pgns(json_member(list, "pgns"));
         printf("\n");
+        show_names(json_member(list, "names"));
     }
 }
 

@@ -11,7 +11,7 @@
 #define ENTRY_MAX 0xFFFFFE     /* three bytes; FF FF FF is filling */
 #define SOURCE_MAX 255
 
-enum member { MEMBER_DO = 1, MEMBER_PORT = 2, MEMBER_FROM = 4, MEMBER_TO = 8, MEMBER_MODE = 16, MEMBER_PGNS = 32, MEMBER_GUARD = 64, MEMBER_PGN = 128, MEMBER_SOURCE = 256 };
+enum member { MEMBER_DO = 1, MEMBER_PORT = 2, MEMBER_FROM = 4, MEMBER_TO = 8, MEMBER_MODE = 16, MEMBER_PGNS = 32, MEMBER_GUARD = 64, MEMBER_PGN = 128, MEMBER_SOURCE = 256, MEMBER_NAME = 512, MEMBER_MASK = 1024 };
 
 #define PAIR (MEMBER_FROM | MEMBER_TO)
 #define LIST (PAIR | MEMBER_MODE | MEMBER_PGNS)
@@ -29,6 +29,7 @@ static const struct {
     [CONTROL_REPLACE] = {"replace", LIST, MEMBER_GUARD},
     [CONTROL_RESET] = {"reset", 0, PAIR},
     [CONTROL_ASK] = {"ask", MEMBER_FROM | MEMBER_PGN | MEMBER_SOURCE, 0},
+    [CONTROL_NAME] = {"name", PAIR | MEMBER_PGN | MEMBER_NAME | MEMBER_MASK, MEMBER_GUARD},
 };
 _Static_assert(sizeof COMMANDS / sizeof COMMANDS[0] == CONTROL_COMMANDS, "a row for each command");
 
@@ -38,6 +39,7 @@ static const struct {
 } MEMBERS[] = {
     {"do", MEMBER_DO},     {"port", MEMBER_PORT}, {"from", MEMBER_FROM},        {"to", MEMBER_TO},   {"mode", MEMBER_MODE},
     {"pgns", MEMBER_PGNS}, {"pgn", MEMBER_PGN},   {"if_list_is", MEMBER_GUARD}, {"source", MEMBER_SOURCE},
+    {"name", MEMBER_NAME}, {"mask", MEMBER_MASK},
 };
 #define MEMBERS_COUNT (sizeof MEMBERS / sizeof MEMBERS[0])
 
@@ -106,6 +108,13 @@ static bool read_guard(const char *value, struct control_request *request, char 
     return read_mode(mode, &request->guard.mode, error) && read_pgns(pgns, request->guard.pgns, LISTS_ENTRIES, &request->guard.count, error);
 }
 
+static bool read_hex(const char *value, const char *name, uint64_t *number, char *error)
+{
+    char digits[24];
+    json_read_string(value, digits, sizeof digits);
+    return number_read_hex(digits, number) || wrong(error, "%s is not a string of up to 16 hex digits", name);
+}
+
 static bool read_command(const char *value, enum control_command *command, char *error)
 {
     for (int i = 0; i < CONTROL_COMMANDS; i++)
@@ -113,7 +122,7 @@ static bool read_command(const char *value, enum control_command *command, char 
             *command = (enum control_command)i;
             return true;
         }
-    return wrong(error, "do is not read, add, delete, create, clear, replace, reset or ask");
+    return wrong(error, "do is not read, add, delete, create, clear, replace, reset, ask or name");
 }
 
 static bool read_member(enum member member, const char *value, struct control_request *request, char *error)
@@ -134,9 +143,13 @@ static bool read_member(enum member member, const char *value, struct control_re
     case MEMBER_GUARD:
         return read_guard(value, request, error);
     case MEMBER_PGN:
-        return read_number(value, UINT32_MAX, "pgn", &request->pgn, error);
+        return read_number(value, ENTRY_MAX, "pgn", &request->pgn, error);
     case MEMBER_SOURCE:
         return read_number(value, SOURCE_MAX, "source", &request->source, error);
+    case MEMBER_NAME:
+        return read_hex(value, "name", &request->name, error);
+    case MEMBER_MASK:
+        return read_hex(value, "mask", &request->mask, error);
     }
     return false;
 }
@@ -158,7 +171,7 @@ static unsigned read_members(const char *object, struct control_request *request
         found |= MEMBERS[i].member;
     }
     if ((found & MEMBER_DO) == 0)
-        return wrong(error, "do is missing: read, add, delete, create, clear, replace, reset or ask");
+        return wrong(error, "do is missing: read, add, delete, create, clear, replace, reset, ask or name");
     return found;
 }
 

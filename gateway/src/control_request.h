@@ -12,7 +12,7 @@
 /* All ports but From. */
 #define CONTROL_TO_ALL 15
 
-enum control_command { CONTROL_READ, CONTROL_ADD, CONTROL_DELETE, CONTROL_CREATE, CONTROL_CLEAR, CONTROL_REPLACE, CONTROL_RESET, CONTROL_ASK, CONTROL_COMMANDS };
+enum control_command { CONTROL_READ, CONTROL_ADD, CONTROL_DELETE, CONTROL_CREATE, CONTROL_CLEAR, CONTROL_REPLACE, CONTROL_RESET, CONTROL_ASK, CONTROL_NAME, CONTROL_COMMANDS };
 
 struct control_request {
     enum control_command command;
@@ -23,7 +23,8 @@ struct control_request {
     uint32_t count, pgns[CONTROL_ENTRIES]; /* each below 2^24 - 1 */
     bool guarded;       /* to be done only if the list is this one */
     struct list guard;
-    uint32_t pgn, source; /* of `ask` */
+    uint32_t pgn, source; /* of `ask`; of `name` the PGN .. */
+    uint64_t name, mask;  /* .. and these */
 };
 
 /* Reads a line, behind which a 0 stands. False: `error` says why. */

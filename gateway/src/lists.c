@@ -7,8 +7,9 @@
 #include <stdio.h>
 #include <string.h>
 
-#define WORD_MAX 16
+#define WORD_MAX 20
 
+static const char NAME_WORD[] = "name";
 static const char *const MODES[] = {"cleared", "block", "pass"};
 
 const char *list_mode_word(enum list_mode mode)
@@ -16,9 +17,24 @@ const char *list_mode_word(enum list_mode mode)
     return MODES[mode];
 }
 
-bool list_equal(const struct list *a, const struct list *b)
+bool list_same_pgns(const struct list *a, const struct list *b)
 {
     return a->mode == b->mode && a->count == b->count && memcmp(a->pgns, b->pgns, sizeof a->pgns) == 0;
+}
+
+bool name_entry_equal(const struct name_entry *a, const struct name_entry *b)
+{
+    return a->pgn == b->pgn && a->name == b->name && a->mask == b->mask;
+}
+
+bool list_equal(const struct list *a, const struct list *b)
+{
+    if (!list_same_pgns(a, b) || a->names_count != b->names_count)
+        return false;
+    for (uint32_t i = 0; i < a->names_count; i++)
+        if (!name_entry_equal(&a->names[i], &b->names[i]))
+            return false;
+    return true;
 }
 
 bool lists_equal(const struct lists *a, const struct lists *b)
@@ -78,14 +94,40 @@ static bool read_port(struct line *line, uint32_t *port)
 
 static bool read_mode(struct line *line, enum list_mode *mode)
 {
-    if (next_word(line) != 1)
-        return wrong(line, "a mode is needed: block or pass");
     for (int i = LIST_BLOCK; i <= LIST_PASS; i++)
         if (strcmp(line->word, MODES[i]) == 0) {
             *mode = (enum list_mode)i;
             return true;
         }
     return wrong(line, "%s is not a mode: block or pass", line->word);
+}
+
+static bool read_hex(struct line *line, const char *what, uint64_t *value)
+{
+    if (next_word(line) != 1)
+        return wrong(line, "a PGN, a NAME and a mask are needed");
+    return number_read_hex(line->word, value) || wrong(line, "%s is not a %s of up to 16 hex digits", line->word, what);
+}
+
+/* What stands behind `name`. */
+static bool read_name(struct line *line, struct list *list)
+{
+    struct name_entry entry;
+    if (list->mode == LIST_CLEARED)
+        return wrong(line, "a name needs the line of its pair's list before it");
+    if (next_word(line) != 1)
+        return wrong(line, "a PGN, a NAME and a mask are needed");
+    if (!number_read(line->word, UINT32_MAX, &entry.pgn) || !number_is_pgn(entry.pgn))
+        return wrong(line, "%s is not a PGN", line->word);
+    if (!read_hex(line, "NAME", &entry.name) || !read_hex(line, "mask", &entry.mask))
+        return false;
+    for (uint32_t i = 0; i < list->names_count; i++)
+        if (name_entry_equal(&list->names[i], &entry))
+            return wrong(line, "this name stands there twice");
+    if (list->names_count == LISTS_NAMES)
+        return wrong(line, "more than %d names", LISTS_NAMES);
+    list->names[list->names_count++] = entry;
+    return next_word(line) == 0 || wrong(line, "a word behind the mask");
 }
 
 static bool read_pgn(struct line *line, struct list *list)
@@ -111,6 +153,10 @@ static bool read_pair(struct line *line, struct lists *lists)
     if (from == to)
         return wrong(line, "a pair has two different ports");
     struct list *list = &lists->pair[from - 1][to - 1];
+    if (next_word(line) != 1)
+        return wrong(line, "a mode is needed: block or pass");
+    if (strcmp(line->word, NAME_WORD) == 0)
+        return read_name(line, list);
     if (list->mode != LIST_CLEARED)
         return wrong(line, "the pair %" PRIu32 " to %" PRIu32 " has a line already", from, to);
     if (!read_mode(line, &list->mode))
@@ -208,13 +254,15 @@ static void print_list(struct text *text, int from, int to, const struct list *l
     for (uint32_t i = 0; i < list->count; i++)
         print(text, " %" PRIu32, list->pgns[i]);
     print(text, "\n");
+    for (uint32_t i = 0; i < list->names_count; i++)
+        print(text, "%d %d %s %" PRIu32 " %016" PRIX64 " %016" PRIX64 "\n", from, to, NAME_WORD, list->names[i].pgn, list->names[i].name, list->names[i].mask);
 }
 
 size_t lists_print(const struct lists *lists, char *bytes, size_t size)
 {
     struct text text = {bytes, size, 0, size == 0};
     if (!text.full)
-        print(&text, "# Filter lists: FROM TO block|pass PGN ..; a pair without a line is cleared. Rewritten when a command changes a list.\n");
+        print(&text, "# Filter lists: FROM TO block|pass PGN .., and FROM TO name PGN NAME MASK; a pair without a line is cleared. Rewritten when a command changes a list.\n");
     for (int from = 1; from <= LISTS_PORTS && !text.full; from++)
         for (int to = 1; to <= LISTS_PORTS && !text.full; to++)
             print_list(&text, from, to, &lists->pair[from - 1][to - 1]);

@@ -65,7 +65,7 @@ bool lists_file_load(const char *path, uint32_t ports, struct lists *lists, stru
     if (number == ENOENT)
         return refuse(error, "no such file (an empty one clears every pair)");
     if (number == EFBIG)
-        return refuse(error, "a file of over 16,384 bytes");
+        return refuse(error, "a file of over 49,152 bytes");
     if (number != 0)
         return refuse(error, strerror(number));
     if (!folder_of(path, folder) || access(folder, W_OK) != 0)

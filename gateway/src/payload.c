@@ -5,6 +5,10 @@
 #define PARAMETER_LOSSES 9
 #define PAIR_AT 1
 #define BODY_AT 2
+/* Of an entry by who sent it: its PGN stands at BODY_AT; the last two bytes are a rate that nobody reads. */
+#define NAME_AT 5
+#define MASK_AT 13
+#define NAME_BYTES 23
 
 static void begin(struct payload *payload, enum network_function function, uint32_t pair)
 {
@@ -84,4 +88,37 @@ uint32_t payload_create(struct payload payloads[2], uint32_t from, uint32_t to, 
 uint32_t payload_entry(const uint8_t *at)
 {
     return (uint32_t)at[0] | (uint32_t)at[1] << 8 | (uint32_t)at[2] << 16;
+}
+
+static void put_long(uint8_t *at, uint64_t value)
+{
+    for (unsigned byte = 0; byte < 8; byte++)
+        at[byte] = (uint8_t)(value >> 8 * byte & 0xFF);
+}
+
+static uint64_t get_long(const uint8_t *at)
+{
+    uint64_t value = 0;
+    for (int byte = 7; byte >= 0; byte--)
+        value = value << 8 | at[byte];
+    return value;
+}
+
+void payload_name(struct payload *payload, uint32_t from, uint32_t to, const struct name_entry *entry)
+{
+    memset(payload->bytes, 0xFF, NAME_BYTES);
+    payload->bytes[0] = FUNCTION_NAME;
+    payload->bytes[PAIR_AT] = (uint8_t)pair_byte(from, to);
+    put_entries(payload, BODY_AT, &entry->pgn, 1);
+    put_long(payload->bytes + NAME_AT, entry->name);
+    put_long(payload->bytes + MASK_AT, entry->mask);
+    payload->length = NAME_BYTES;
+}
+
+bool payload_read_name(const uint8_t *bytes, size_t length, struct name_entry *entry)
+{
+    if (length != NAME_BYTES || bytes[0] != FUNCTION_NAME)
+        return false;
+    *entry = (struct name_entry){payload_entry(bytes + BODY_AT), get_long(bytes + NAME_AT), get_long(bytes + MASK_AT)};
+    return true;
 }

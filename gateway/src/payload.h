@@ -2,12 +2,10 @@
 #ifndef GATEWAY_PAYLOAD_H
 #define GATEWAY_PAYLOAD_H
 
-#include <stdbool.h>
-#include <stddef.h>
-#include <stdint.h>
+#include "lists.h"
 
 enum network_function {
-    FUNCTION_REQUEST = 0, FUNCTION_REQUEST_REPLY = 1, FUNCTION_ADD = 2, FUNCTION_DELETE = 3, FUNCTION_CLEAR = 4, FUNCTION_CREATE = 6,
+    FUNCTION_REQUEST = 0, FUNCTION_REQUEST_REPLY = 1, FUNCTION_ADD = 2, FUNCTION_DELETE = 3, FUNCTION_CLEAR = 4, FUNCTION_CREATE = 6, FUNCTION_NAME = 7,
     FUNCTION_ADDRESSES = 64, FUNCTION_ADDRESSES_REPLY = 65,
     FUNCTION_PARAMETER = 128, FUNCTION_PARAMETER_REPLY = 129, FUNCTION_RESET = 130,
     FUNCTION_PAIR_PARAMETER = 131, FUNCTION_PAIR_PARAMETER_REPLY = 132, FUNCTION_PAIR_RESET = 133
@@ -37,6 +35,10 @@ void payload_reset(struct payload *payload, bool pair, uint32_t from, uint32_t t
 
 /* Create has an entry at least, so a list without one is made with PGN 0, which is then deleted: how many payloads, one or two. */
 uint32_t payload_create(struct payload payloads[2], uint32_t from, uint32_t to, bool pass, const uint32_t *pgns, uint32_t count);
+
+/* An entry by who sent it, in 23 bytes; and read back. False where it is none. */
+void payload_name(struct payload *payload, uint32_t from, uint32_t to, const struct name_entry *entry);
+bool payload_read_name(const uint8_t *bytes, size_t length, struct name_entry *entry);
 
 /* An entry of a payload or a reply. */
 uint32_t payload_entry(const uint8_t *at);

@@ -142,6 +142,17 @@ static void show_numbers(const char *array)
     printf("\n");
 }
 
+/* The entries of a list by who sent it. */
+static void show_names(const char *names)
+{
+    for (const char *entry = json_first(names); entry != NULL; entry = json_next(entry)) {
+        char name[WORD_BYTES], mask[WORD_BYTES];
+        json_read_string(json_member(entry, "name"), name, sizeof name);
+        json_read_string(json_member(entry, "mask"), mask, sizeof mask);
+        printf("    %" PRIu64 " of NAME %s, mask %s\n", number_in(entry, "pgn"), name, mask);
+    }
+}
+
 static bool is_true(const char *value)
 {
     return value != NULL && *value == 't';
@@ -159,6 +170,7 @@ static void show_lists(const char *lists, const char *saved, const char *edited)
             continue;
         printf("  %" PRIu64 " to %" PRIu64 " %s:", number_in(list, "from"), number_in(list, "to"), mode);
         show_numbers(json_member(list, "pgns"));
+        show_names(json_member(list, "names"));
         shown++;
     }
     printf(shown == 0 ? "  all pairs are cleared\n" : "  all other pairs are cleared\n");

@@ -51,6 +51,15 @@ void status_list(struct json *json, uint32_t from, uint32_t to, const struct lis
     for (uint32_t i = 0; i < list->count; i++)
         json_number(json, NULL, list->pgns[i]);
     json_end_array(json);
+    json_array(json, "names");
+    for (uint32_t i = 0; i < list->names_count; i++) {
+        json_object(json, NULL);
+        json_number(json, "pgn", list->names[i].pgn);
+        json_hex(json, "name", list->names[i].name);
+        json_hex(json, "mask", list->names[i].mask);
+        json_end_object(json);
+    }
+    json_end_array(json);
     json_end_object(json);
 }
 

@@ -25,7 +25,7 @@ void status_commands(struct json *json, const struct gateway *gateway, const str
 /* When something was: "time" of day and "seconds" since power-on. */
 void status_time(struct json *json, const struct status_moment *moment, int64_t at);
 
-/* A list: from, to, mode and PGNs. */
+/* A list: from, to, mode, PGNs and NAME entries. */
 void status_list(struct json *json, uint32_t from, uint32_t to, const struct list *list);
 
 #endif

@@ -2,7 +2,7 @@
 #ifndef GATEWAY_UNIT_H
 #define GATEWAY_UNIT_H
 
-#include "../../include/deorasaeng.h"
+#include "../../include/deorasaeng_layout.h"
 #include "lists.h"
 #include "payload.h"
 
@@ -10,7 +10,7 @@
 
 /* The interface that this program is written for. Another version may have functions, numbers, events or reasons that it does not know: look them through in this
    folder, then change it here. */
-_Static_assert(DEORASAENG_VERSION == 9, "gateway/ was read against version 9 of include/deorasaeng.h");
+_Static_assert(DEORASAENG_VERSION == 10, "gateway/ was read against version 10 of include/deorasaeng.h");
 
 /* What arrays are sized by: the highest number that refuses a call, the addresses that can be claimed, the ranks of a frame. */
 #define UNIT_NUMBERS 29
@@ -22,14 +22,15 @@ _Static_assert(UNIT_ADDRESSES == DEORASAENG_NO_ADDRESS, "0 to 253");
 _Static_assert(UNIT_RANKS == DEORASAENG_COUNTS_ACCEPTED - DEORASAENG_COUNTS_WAITING, "a word for each rank");
 _Static_assert(UNIT_REASONS == DEORASAENG_REASON_STOPPED_AS_NOT_LISTED + 1, "the reasons, not asked among them");
 _Static_assert(LISTS_PORTS == DEORASAENG_MOST_PORTS, "a list for each pair");
-_Static_assert(LISTS_ENTRIES == DEORASAENG_PAIR_WORDS - 2, "a pair's words are its mode, its count and its entries");
+_Static_assert(LISTS_ENTRIES == DEORASAENG_LIST_PGNS, "a list's PGNs");
+_Static_assert(LISTS_NAMES == DEORASAENG_NAME_ENTRIES, "a pair's NAME entries");
 _Static_assert(CAN_MAX_DLEN == DEORASAENG_FRAME_BYTES, "a frame's bytes");
 
 struct unit {
     uint64_t record[DEORASAENG_RECORD_WORDS_FOR(DEORASAENG_MOST_PORTS)];
     size_t words; /* of the record, for its number of ports */
     uint32_t ports;
-    struct lists lists; /* as last read; they change by messages alone, and every message passes here */
+    struct lists lists; /* as last read, NAME entries as followed; they change by messages alone, and every message passes here */
 };
 
 /* What the unit tells of itself. */

@@ -2,6 +2,7 @@
 #include "unit.h"
 
 #include "identifier.h"
+#include "name_entries.h"
 
 #include <string.h>
 
@@ -20,6 +21,8 @@ static void send_message(struct unit *unit, uint32_t port, uint32_t requester, c
     answer->entry = words[DEORASAENG_ENTRY];
     answer->to = words[DEORASAENG_TO];
     answer->absent = words[DEORASAENG_ABSENT];
+    if (answer->number == 0 && answer->pgn == PGN_ACKNOWLEDGMENT) /* a command was done */
+        name_entries_follow(&unit->lists, unit->ports, payload, length);
 }
 
 void unit_tool(struct unit *unit, uint32_t port, const struct payload *payload, struct message_answer *answer)
@@ -30,9 +33,7 @@ void unit_tool(struct unit *unit, uint32_t port, const struct payload *payload, 
 struct unit *unit_copy(const struct unit *unit)
 {
     static struct unit copy;
-    memcpy(copy.record, unit->record, unit->words * sizeof unit->record[0]);
-    copy.words = unit->words;
-    copy.ports = unit->ports;
+    copy = *unit;
     return &copy;
 }
 
@@ -67,7 +68,8 @@ static uint32_t read_list(struct unit *unit, uint32_t port, uint32_t from, uint3
     unit_tool(unit, port, &payload, &answer);
     if (answer.number != 0 || answer.length < PAYLOAD_LEAST || answer.bytes[0] != FUNCTION_REQUEST_REPLY)
         return answer.number;
-    memset(list, 0, sizeof *list);
+    list->count = 0; /* the NAME entries stay: no reply tells them */
+    memset(list->pgns, 0, sizeof list->pgns);
     read_entries(&answer, list);
     list->mode = answer.bytes[2] != 0 ? LIST_PASS : list->count > 0 ? LIST_BLOCK : mode_of_empty(unit, port, from, to);
     return 0;
@@ -75,6 +77,9 @@ static uint32_t read_list(struct unit *unit, uint32_t port, uint32_t from, uint3
 
 uint32_t unit_read_list(const struct unit *unit, uint32_t port, uint32_t from, uint32_t to, struct list *list)
 {
+    memset(list, 0, sizeof *list);
+    if (from >= 1 && from <= unit->ports && to >= 1 && to <= unit->ports)
+        *list = unit->lists.pair[from - 1][to - 1];
     return read_list(unit_copy(unit), port, from, to, list);
 }
 
@@ -101,6 +106,10 @@ static uint32_t set_list(struct unit *unit, uint32_t from, uint32_t to, const st
     answer.number = 0;
     for (uint32_t i = 0; i < count && answer.number == 0; i++)
         unit_tool(unit, SERVICE_PORT, &payloads[i], &answer);
+    for (uint32_t i = 0; i < list->names_count && answer.number == 0; i++) {
+        payload_name(&payloads[0], from, to, &list->names[i]);
+        unit_tool(unit, SERVICE_PORT, &payloads[0], &answer);
+    }
     return answer.number;
 }
 

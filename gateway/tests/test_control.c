@@ -47,11 +47,11 @@ static bool list_is(int from, int to, enum list_mode mode, uint32_t count)
 static void commands(void)
 {
     bench_claimed(4);
-    CHECK(gives("{\"do\":\"read\",\"from\":1,\"to\":2}", "{\"number\":0,\"words\":\"done\",\"lists\":[{\"from\":1,\"to\":2,\"mode\":\"cleared\",\"pgns\":[]}]}\n"));
+    CHECK(gives("{\"do\":\"read\",\"from\":1,\"to\":2}", "{\"number\":0,\"words\":\"done\",\"lists\":[{\"from\":1,\"to\":2,\"mode\":\"cleared\",\"pgns\":[],\"names\":[]}]}\n"));
     CHECK(gives("{\"do\":\"create\",\"from\":1,\"to\":2,\"mode\":\"block\",\"pgns\":[61444]}",
-                "{\"number\":0,\"words\":\"done\",\"lists\":[{\"from\":1,\"to\":2,\"mode\":\"block\",\"pgns\":[61444]}]}\n"));
+                "{\"number\":0,\"words\":\"done\",\"lists\":[{\"from\":1,\"to\":2,\"mode\":\"block\",\"pgns\":[61444],\"names\":[]}]}\n"));
     CHECK(gives(" { \"to\" : 2 , \"do\" : \"add\" , \"from\" : 1 , \"pgns\" : [ 65265 , 65265 , 0 ] } ",
-                "{\"number\":0,\"words\":\"done\",\"lists\":[{\"from\":1,\"to\":2,\"mode\":\"block\",\"pgns\":[61444,65265,0]}]}\n"));
+                "{\"number\":0,\"words\":\"done\",\"lists\":[{\"from\":1,\"to\":2,\"mode\":\"block\",\"pgns\":[61444,65265,0],\"names\":[]}]}\n"));
     CHECK(gives("{\"do\":\"delete\",\"from\":1,\"to\":2,\"pgns\":[61444,0]}", "{\"number\":0,") && list_is(1, 2, LIST_BLOCK, 1));
     CHECK(gives("{\"do\":\"replace\",\"from\":1,\"to\":2,\"mode\":\"pass\",\"pgns\":[]}", "{\"number\":0,") && list_is(1, 2, LIST_PASS, 0));
     CHECK(gives("{\"do\":\"replace\",\"from\":1,\"to\":2,\"mode\":\"cleared\",\"pgns\":[]}", "{\"number\":0,") && list_is(1, 2, LIST_CLEARED, 0));
@@ -77,7 +77,7 @@ static void refusals(void)
     CHECK(gives("{\"do\":\"create\",\"from\":1,\"to\":2,\"mode\":\"block\",\"pgns\":[61444]}", "{\"number\":0,"));
     CHECK(gives("{\"do\":\"create\",\"from\":1,\"to\":2,\"mode\":\"block\",\"pgns\":[61444]}", "{\"number\":14,"));
     CHECK(gives("{\"do\":\"delete\",\"from\":1,\"to\":2,\"pgns\":[61444,65265]}",
-                "{\"number\":17,\"words\":\"Delete: a PGN absent from a named pair\",\"entry\":2,\"to\":2,\"absent\":65265,\"lists\":[{\"from\":1,\"to\":2,\"mode\":\"block\",\"pgns\":[61444]}]}"));
+                "{\"number\":17,\"words\":\"Delete: a PGN absent from a named pair\",\"entry\":2,\"to\":2,\"absent\":65265,\"lists\":[{\"from\":1,\"to\":2,\"mode\":\"block\",\"pgns\":[61444],\"names\":[]}]}"));
     CHECK(gives("{\"do\":\"replace\",\"from\":1,\"to\":2,\"mode\":\"pass\",\"pgns\":[65265,70001]}", "{\"number\":22,\"words\":\"an entry is no PGN\",\"entry\":2,"));
     CHECK(list_is(1, 2, LIST_BLOCK, 1) && history_command(&gateway.history, 0)->number == 22 && history_command(&gateway.history, 0)->function == 6);
     CHECK(gives("{\"do\":\"read\",\"from\":1,\"to\":1}", "{\"number\":10,"));
@@ -99,12 +99,31 @@ static void refusals(void)
     bench_close();
 }
 
+/* An entry by who sent it: done where the unit has function 7, and then in the copy; else refused with 9. */
+static void names(void)
+{
+    bench_claimed(4);
+    tell("{\"do\":\"create\",\"from\":1,\"to\":2,\"mode\":\"pass\",\"pgns\":[]}");
+    const struct list *list = &gateway.unit.lists.pair[0][1];
+    uint64_t got = number(tell("{\"do\":\"name\",\"from\":1,\"to\":2,\"pgn\":65265,\"name\":\"A00086000AC00123\",\"mask\":\"0xFF\"}"), "number");
+    CHECK(got == 0 && list->names_count == 1 && list->names[0].pgn == 65265 && list->names[0].mask == 0xFF);
+    CHECK(history_command(&gateway.history, 0)->function == 7);
+    gateway.unit.lists.pair[0][1].names_count = 1;
+    gateway.unit.lists.pair[0][1].names[0] = (struct name_entry){65265, 1, 2};
+    CHECK(gives("{\"do\":\"read\",\"from\":1,\"to\":2}", "{\"number\":0,\"words\":\"done\",\"lists\":[{\"from\":1,\"to\":2,\"mode\":\"pass\",\"pgns\":[],"
+                "\"names\":[{\"pgn\":65265,\"name\":\"0000000000000001\",\"mask\":\"0000000000000002\"}]}]}"));
+    CHECK(gives("{\"do\":\"read\",\"port\":3,\"from\":1,\"to\":2}", "{\"number\":11,\"words\":\"pair or port not this tool's\",\"lists\":[]}"));
+    CHECK(gives("{\"do\":\"add\",\"from\":1,\"to\":2,\"pgns\":[0]}", "{\"number\":0,") && list->names_count == 1);
+    CHECK(gives("{\"do\":\"replace\",\"from\":1,\"to\":2,\"mode\":\"pass\",\"pgns\":[]}", "{\"number\":0,") && list->names_count == 0);
+    bench_close();
+}
+
 static void guards(void)
 {
     bench_claimed(4);
     CHECK(gives("{\"do\":\"create\",\"from\":1,\"to\":2,\"mode\":\"block\",\"pgns\":[61444,0],\"if_list_is\":{\"mode\":\"cleared\",\"pgns\":[]}}", "{\"number\":0,"));
     CHECK(gives("{\"do\":\"add\",\"from\":1,\"to\":2,\"pgns\":[65265],\"if_list_is\":{\"mode\":\"block\",\"pgns\":[61444]}}",
-                "{\"error\":\"the list is not the one of if_list_is: nothing is done\",\"lists\":[{\"from\":1,\"to\":2,\"mode\":\"block\",\"pgns\":[61444,0]}]}"));
+                "{\"error\":\"the list is not the one of if_list_is: nothing is done\",\"lists\":[{\"from\":1,\"to\":2,\"mode\":\"block\",\"pgns\":[61444,0],\"names\":[]}]}"));
     CHECK(list_is(1, 2, LIST_BLOCK, 2));
     CHECK(gives("{\"do\":\"add\",\"from\":1,\"to\":2,\"pgns\":[65265],\"if_list_is\":{\"mode\":\"block\",\"pgns\":[61444,0]}}", "{\"number\":0,") && list_is(1, 2, LIST_BLOCK, 3));
     CHECK(gives("{\"do\":\"clear\",\"from\":1,\"to\":2,\"if_list_is\":{\"mode\":\"pass\",\"pgns\":[61444,0,65265]}}", "{\"error\""));
@@ -145,6 +164,9 @@ static const char *const WRONG[][2] = {
     {"{\"do\":\"clear\",\"from\":1,\"to\":2,\"if_list_is\":{\"mode\":\"pass\",\"pgns\":[],\"x\":1}}", "if_list_is needs mode and pgns"},
     {"{\"do\":\"clear\",\"from\":1,\"to\":2,\"if_list_is\":7}", "if_list_is needs mode and pgns"},
     {"{\"do\":\"ask\",\"from\":1,\"pgn\":61445,\"source\":256}", "source is not a number of 0 to 255"}, {"{\"do\":\"ask\",\"from\":1,\"pgn\":1,\"source\":1}", "pgn is not a PGN"},
+    {"{\"do\":\"name\",\"from\":1,\"to\":2,\"pgn\":0,\"name\":\"x\",\"mask\":\"1\"}", "name is not a string of up to 16 hex digits"},
+    {"{\"do\":\"name\",\"from\":1,\"to\":2,\"pgn\":0,\"name\":\"1\",\"mask\":1}", "mask is not a string of up to 16 hex digits"},
+    {"{\"do\":\"name\",\"from\":1,\"to\":2,\"pgn\":0,\"name\":\"1\"}", "name needs mask"},
     {"{\"do\":\"ask\",\"from\":1,\"to\":2,\"pgn\":0,\"source\":1}", "ask has no to"},
 };
 
@@ -168,6 +190,7 @@ static const char *const SEEDS[] = {
     "{\"do\":\"delete\",\"from\":2,\"to\":\"all\",\"pgns\":[65265]}", "{\"do\":\"create\",\"from\":2,\"to\":3,\"mode\":\"pass\",\"pgns\":[65265,256]}",
     "{\"do\":\"clear\",\"from\":1,\"to\":15}", "{\"do\":\"replace\",\"from\":3,\"to\":1,\"mode\":\"block\",\"pgns\":[65265],\"if_list_is\":{\"mode\":\"block\",\"pgns\":[61444]}}",
     "{\"do\":\"reset\",\"from\":1,\"to\":2}", "{\"do\":\"ask\",\"from\":1,\"pgn\":61444,\"source\":33,\"port\":2}", "{\"do\":\"replace\",\"from\":1,\"to\":4,\"mode\":\"cleared\",\"pgns\":[]}",
+    "{\"do\":\"name\",\"from\":1,\"to\":2,\"pgn\":65265,\"name\":\"A00086000AC00123\",\"mask\":\"FFFFFFFFFFFFFFFF\"}",
 };
 
 /* A seed with some bytes changed, taken out, put in or joined with another's end. */
@@ -404,6 +427,7 @@ int main(int argc, char *argv[])
     log_open(LOG_ERROR);
     commands();
     refusals();
+    names();
     guards();
     asked();
     wrong_lines();

@@ -55,7 +55,7 @@ static void wrong_text(void)
     CHECK(refused("1\n", 1, "two ports"));
     CHECK(refused("1 2 cleared\n", 1, "cleared is not a mode"));
     CHECK(refused("1 2 block 61444 61444\n", 1, "twice"));
-    CHECK(refused("1 2 block 1234567890123456\n", 1, "a word of 16 bytes"));
+    CHECK(refused("1 2 block 12345678901234567890\n", 1, "a word of 20 bytes"));
     CHECK(refused(many, 1, "more than 32"));
     CHECK(refused("1 2 block 010\n", 1, "010 is not a PGN"));
     CHECK(refused("01 2 block\n", 1, "01 is not a port"));
@@ -92,6 +92,28 @@ static void unseen_bytes(void)
     }
 }
 
+/* Entries by who sent it stand behind the line of their pair, eight at most. */
+static void name_lines(void)
+{
+    struct lists lists;
+    char many[800] = "1 2 pass\n";
+    CHECK(parse("1 2 pass 61444\n1 2 name 65265 A00086000AC00123 FFFFFFFFFFE00000\n1 2 name 0xFEF1 0x1 0 # all\n", &lists));
+    const struct list *list = &lists.pair[0][1];
+    CHECK(list->mode == LIST_PASS && list->count == 1 && list->names_count == 2 && list->names[0].pgn == 65265 && list->names[1].pgn == 65265);
+    CHECK(list->names[0].name == UINT64_C(0xA00086000AC00123) && list->names[0].mask == UINT64_C(0xFFFFFFFFFFE00000) && list->names[1].name == 1 && list->names[1].mask == 0);
+    CHECK(refused("1 2 name 65265 1 1\n", 1, "needs the line of its pair's list before it"));
+    CHECK(refused("1 2 pass\n1 2 name 65265 1\n", 2, "a PGN, a NAME and a mask are needed"));
+    CHECK(refused("1 2 pass\n1 2 name\n", 2, "a PGN, a NAME and a mask are needed"));
+    CHECK(refused("1 2 pass\n1 2 name 1 1 1\n", 2, "1 is not a PGN"));
+    CHECK(refused("1 2 pass\n1 2 name 0 1x 1\n", 2, "1x is not a NAME"));
+    CHECK(refused("1 2 pass\n1 2 name 0 1 12345678901234567\n", 2, "is not a mask"));
+    CHECK(refused("1 2 pass\n1 2 name 0 1 1 1\n", 2, "a word behind the mask"));
+    CHECK(refused("1 2 pass\n1 2 name 0 1 1\n1 2 name 0x0 01 1\n", 3, "stands there twice"));
+    for (int i = 0; i < 9; i++)
+        snprintf(many + strlen(many), sizeof many - strlen(many), "1 2 name 0 %d 1\n", i);
+    CHECK(refused(many, 10, "more than 8 names"));
+}
+
 /* Every list that can be, there and back. */
 static void round_trip(void)
 {
@@ -107,6 +129,9 @@ static void round_trip(void)
                 list->count = list->mode == LIST_CLEARED ? 0 : (uint32_t)(rand() % (LISTS_ENTRIES + 1));
                 for (uint32_t i = 0; i < list->count; i++)
                     list->pgns[i] = i % 2 == 0 ? 0x1F000 + i : i << 8;
+                list->names_count = list->mode == LIST_CLEARED ? 0 : (uint32_t)(rand() % (LISTS_NAMES + 1));
+                for (uint32_t i = 0; i < list->names_count; i++)
+                    list->names[i] = (struct name_entry){0x3FF00, UINT64_MAX - i, UINT64_MAX};
             }
         size_t length = lists_print(&lists, text, sizeof text);
         CHECK(length > 0 && lists_parse(text, length, LISTS_PORTS, &again, &error) && lists_equal(&lists, &again));
@@ -144,7 +169,7 @@ static void file(void)
     CHECK(access(beside, F_OK) != 0);
     memset(big, '\n', sizeof big);
     write_file(path, big, sizeof big);
-    CHECK(!lists_file_load(path, 4, &lists, &known, &error) && error.line == 0 && strstr(error.text, "16,384") != NULL);
+    CHECK(!lists_file_load(path, 4, &lists, &known, &error) && error.line == 0 && strstr(error.text, "49,152") != NULL);
     CHECK(lists_file_save(path, &known, &text) == LISTS_EDITED);
     write_file(path, big, sizeof big - 1);
     CHECK(lists_file_load(path, 4, &lists, &known, &error));
@@ -213,6 +238,7 @@ int main(void)
     good_text();
     wrong_text();
     unseen_bytes();
+    name_lines();
     round_trip();
     file();
     edited();

@@ -148,6 +148,8 @@ static void full_lists(struct lists *lists)
                 lists->pair[from][to].count = LISTS_ENTRIES;
                 for (uint32_t i = 0; i < LISTS_ENTRIES; i++)
                     lists->pair[from][to].pgns[i] = 0x3FFE0 + i;
+                for (uint32_t i = 0; i < LISTS_NAMES; i++)
+                    lists->pair[from][to].names[i] = (struct name_entry){0x3FFE0, i, UINT64_MAX};
             }
 }
 
@@ -168,6 +170,11 @@ static void full_gateway(void)
     bench_claimed(GATEWAY_PORTS_MAX);
     full_lists(&lists);
     CHECK(unit_set_lists(&gateway.unit, &lists) == 0);
+    for (int from = 0; from < LISTS_PORTS; from++)
+        for (int to = 0; to < LISTS_PORTS; to++) {
+            memcpy(gateway.unit.lists.pair[from][to].names, lists.pair[from][to].names, sizeof lists.pair[from][to].names);
+            gateway.unit.lists.pair[from][to].names_count = from == to ? 0 : LISTS_NAMES;
+        }
     for (uint32_t address = 0; address < UNIT_ADDRESSES; address++) {
         uint8_t name[8] = {(uint8_t)address, 0, 0xE0, 0xFE, 0xFE, 0xFE, 0xFC, 0xFE};
         bench_frame(4, 0x18EEFF00 | address, name, 8, 0);

@@ -1,6 +1,7 @@
 /* The proved unit behind the program: lists set and read through network messages, answers as frames, counts, NAMEs. */
 #include "../src/answers.h"
 #include "../src/identifier.h"
+#include "../src/name_entries.h"
 #include "../src/names.h"
 #include "../src/refusal.h"
 #include "check.h"
@@ -236,6 +237,42 @@ static void fields(void)
     CHECK_TEXT(refusal_words(UINT32_MAX), "a number that this program does not know");
 }
 
+/* Function 7's bytes, and the copy of the entries: appended unless there, emptied by Clear and Create, each on the pairs that the command names. */
+static void entries(void)
+{
+    static const uint8_t BYTES[23] = {7, 0x12, 0xF1, 0xFE, 0, 0x23, 1, 0xC0, 0x0A, 0, 0x86, 0, 0xA0, 0, 0, 0xE0, 0xFF, 0xFF, 0xFF, 0xFF, 0xFF, 0xFF, 0xFF};
+    static const struct name_entry ENTRY = {65265, UINT64_C(0xA00086000AC00123), UINT64_C(0xFFFFFFFFFFE00000)};
+    static struct payload payloads[2];
+    static struct lists lists;
+    struct name_entry read;
+    payload_name(&payloads[0], 1, 2, &ENTRY);
+    CHECK(payloads[0].length == 23 && memcmp(payloads[0].bytes, BYTES, 23) == 0);
+    CHECK(payload_read_name(BYTES, 23, &read) && name_entry_equal(&read, &ENTRY) && !payload_read_name(BYTES, 22, &read));
+    for (uint32_t i = 0; i < 3; i++)
+        name_entries_follow(&lists, 4, BYTES, 23);
+    CHECK(lists.pair[0][1].names_count == 1 && name_entry_equal(&lists.pair[0][1].names[0], &ENTRY) && lists.pair[0][2].names_count == 0 && lists.pair[1][0].names_count == 0);
+    for (uint32_t i = 0; i < 12; i++) {
+        const struct name_entry other = {65265, ENTRY.name, i};
+        payload_name(&payloads[0], 1, 3, &other);
+        name_entries_follow(&lists, 4, payloads[0].bytes, payloads[0].length);
+    }
+    CHECK(lists.pair[0][2].names_count == LISTS_NAMES && lists.pair[0][2].names[7].mask == 7 && lists.pair[0][1].names_count == 1);
+    payload_request(&payloads[0], 1, 2);
+    name_entries_follow(&lists, 4, payloads[0].bytes, payloads[0].length);
+    payload_delete(&payloads[0], 1, 2, &ENTRY.pgn, 1);
+    name_entries_follow(&lists, 4, payloads[0].bytes, payloads[0].length);
+    payload_clear(&payloads[0], 5, 1); /* no port of this unit */
+    name_entries_follow(&lists, 4, payloads[0].bytes, payloads[0].length);
+    CHECK(lists.pair[0][1].names_count == 1);
+    payload_clear(&payloads[0], 1, 2);
+    name_entries_follow(&lists, 4, payloads[0].bytes, payloads[0].length);
+    CHECK(lists.pair[0][1].names_count == 0 && lists.pair[0][2].names_count == LISTS_NAMES);
+    name_entries_follow(&lists, 4, BYTES, 23);
+    payload_create(payloads, 1, 15, true, &ENTRY.pgn, 1);
+    name_entries_follow(&lists, 4, payloads[0].bytes, payloads[0].length);
+    CHECK(lists.pair[0][1].names_count == 0 && lists.pair[0][2].names_count == 0);
+}
+
 int main(void)
 {
     lists_there_and_back();
@@ -247,5 +284,6 @@ int main(void)
     losses();
     names();
     fields();
+    entries();
     return checks_end("unit");
 }

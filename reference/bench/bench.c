@@ -11,6 +11,7 @@
 /* Words of the record; those of a pair in that of a unit with four ports. */
 #define MODE(pair) (PAIRS_AT(USUAL_PORTS) + PAIR_WORDS * (pair))
 #define COUNT(pair) (MODE(pair) + 1)
+#define NAMED(pair) (MODE(pair) + NAMES_AT)
 #define WAITING(port) DEORASAENG_QUEUE_AT(port)
 #define HOLDER(address) (TABLE_AT + PLACE_WORDS * (address))
 
@@ -24,14 +25,15 @@ struct row {
     uint32_t number;
     /* How many ports the unit has, four unless said. */
     uint32_t ports;
-    /* Every pair: its mode (1 block, 2 pass), how many PGNs it lists, where the frame's PGN stands among them, from 1. Every queue: how many wait, and whether
-       they are of lower rank than the frame. Addresses held. */
-    int mode, entries, at, waiting, lower, held;
+    /* Every pair: its mode, how many PGNs it lists, where the frame's PGN stands among them, from 1; how many NAME entries it has, all of the frame's PGN, and which of them
+       has the sender's NAME, from 1. Every queue: how many wait, and whether they are of lower rank than the frame. Addresses held. */
+    int mode, entries, at, names, name_at, waiting, lower, held;
     /* A frame: identifier, length (8 for a frame with its takes, unless said) and bytes. */
     uint32_t id;
     size_t len;
     uint64_t bytes;
-    /* A message: function, pair byte, parameter; how many entries, how many of them different, the first one's place among the PGNs, the last one's; backwards or not. */
+    /* A message: function, pair byte, parameter; how many entries, how many of them different, the first one's place among the PGNs, or that of the NAME among the NAMEs, the
+       last one's; backwards or not. */
     uint8_t function, pair, parameter;
     int named, different, first, last, backwards;
     /* A plan: how many units it has, and whether they close a ring; its lists are as every pair's above, and the last word of the last is wrong where the number is 28. */
@@ -55,6 +57,12 @@ static uint32_t listed(int i)
     return 0xFE00 + i;
 }
 
+/* The NAME of an entry that is not the sender's; the sender has NAME 1. */
+static uint64_t named(int i)
+{
+    return 0xA000000000000100 + i;
+}
+
 static void restore(const struct row *r)
 {
     for (int i = 0; r->resets[i][0]; i++)
@@ -70,6 +78,13 @@ static void make_payload(const struct row *r)
         payload[n++] = 1;
     if (r->function >= 128)
         payload[n++] = r->parameter;
+    if (r->function == 7) {
+        const uint64_t words[4] = {PGN, named(r->first), UINT64_MAX, 0};
+        const int bytes[4] = {3, 8, 8, 2};
+        for (int i = 0; i < 4; i++)
+            for (int b = 0; b < bytes[i]; b++)
+                payload[n++] = words[i] >> 8 * b;
+    }
     for (int i = 0; i < r->named; i++) {
         int k = i % r->different;
         uint32_t pgn = listed(r->last && i == r->named - 1 ? r->last : r->first + (r->backwards ? r->different - 1 - k : k));
@@ -97,14 +112,14 @@ static void make_plan(const struct row *r)
             unit[(i + 5) % MOST_PORTS] = (i + 1) % plan.segments + 1;
     }
     for (uint32_t i = 0; i < PLAN_PAIRS * plan.units; i++) {
-        uint64_t *pair = plan.lists + PAIR_WORDS * i;
+        uint64_t *pair = plan.lists + PLAN_PAIR_WORDS * i;
         pair[0] = r->mode;
         pair[1] = r->entries;
         for (int j = 0; j < r->entries; j++)
             pair[2 + j] = j + 1 == r->at ? PGN : listed(j);
     }
     if (r->number == 28)
-        plan.lists[PAIR_WORDS * PLAN_PAIRS * plan.units - 1] = 1;
+        plan.lists[PLAN_PAIR_WORDS * PLAN_PAIRS * plan.units - 1] = 1;
     make_links(&plan);
 }
 
@@ -120,11 +135,17 @@ static void make(const struct row *r)
     w[3] = 0xA000000000000050;
     w[PORTS_AT] = ports;
     for (uint32_t i = 0; i < ports * (ports - 1); i++) {
-        uint64_t *pair = w + PAIRS_AT(ports) + PAIR_WORDS * i;
+        uint64_t *pair = w + PAIRS_AT(ports) + PAIR_WORDS * i, *name = pair + NAMES_AT + 1;
         pair[0] = r->mode;
         pair[1] = r->entries;
         for (int j = 0; j < r->entries; j++)
             pair[2 + j] = j + 1 == r->at ? PGN : listed(j);
+        pair[NAMES_AT] = r->names;
+        for (int j = 0; j < r->names; j++, name += NAME_WORDS) {
+            name[0] = PGN;
+            name[1] = j + 1 == r->name_at ? 1 : named(j);
+            name[2] = UINT64_MAX;
+        }
     }
     for (uint32_t port = 1; port <= ports; port++) {
         uint64_t *queue = w + WAITING(port), id = DATA | (r->lower ? 0x18000000 : 0);
@@ -270,6 +291,9 @@ static const struct row frame_rows[] = {
     {"frame lost at 3 full queues", frames, .waiting = 32, .id = DATA, .len = 8},
     {"frame stopped by 3 empty pass lists", frames, .mode = 2, .id = DATA, .len = 8},
     {"frame stopped by 3 pass lists of 32", frames, .mode = 2, .entries = 32, .id = DATA, .len = 8},
+    {"frame and 3 takes, 3 pass pairs, by the 1st of 8 NAME entries", frame_and_takes, .mode = PASS_NAMED, .names = 8, .name_at = 1, .held = 1},
+    {"frame and 3 takes, 3 pass pairs, by the 8th of 8 NAME entries", frame_and_takes, .mode = PASS_NAMED, .names = 8, .name_at = 8, .held = 1},
+    {"frame stopped by 3 pass pairs, by none of 8 NAME entries", frames, .mode = PASS_NAMED, .names = 8, .held = 1, .id = DATA, .len = 8},
     {"frame of 5 bytes lost at 3 full queues", frames, .waiting = 32, .id = DATA, .len = 5},
     {"frame refused (5)", frames, .number = 5, .id = DATA | 0xFF, .len = 8},
     {"frame consumed", frames, .id = TO_UNIT, .len = 8},
@@ -316,6 +340,9 @@ static const struct row message_rows[] = {
     {"Create of 1", messages, .function = 6, .pair = 0x12, .named = 1, .different = 1, .resets = MODES(0)},
     {"Create of 32", messages, .function = 6, .pair = 0x12, .named = 32, .different = 32, .resets = MODES(0)},
     {"Create of 32, 3 pairs", messages, .function = 6, .pair = 0x1F, .named = 32, .different = 32, .resets = MODES(0)},
+    {"Add by NAME, to 7", messages, .mode = PASS_NAMED, .names = 7, .function = 7, .pair = 0x12, .first = 7, .resets = {{NAMED(0), 7}}},
+    {"Add by NAME, already there, the 8th", messages, .mode = PASS_NAMED, .names = 8, .function = 7, .pair = 0x12, .first = 7},
+    {"Add by NAME, refused (16)", messages, .number = 16, .mode = PASS_NAMED, .names = 8, .function = 7, .pair = 0x12, .first = 8},
     {"address list of none", messages, .function = 64, .pair = 0x02},
     {"address list of 253", messages, .function = 64, .pair = 0x02, .held = 253},
     {"losses of a pair told", messages, .function = 131, .pair = 0x12, .parameter = 9},
@@ -431,7 +458,7 @@ static size_t timed_count;
 
 static int same_case(const struct row *a, const struct row *b)
 {
-    return a->run == b->run && a->number == b->number && a->ports == b->ports && a->mode == b->mode && a->entries == b->entries && a->at == b->at && a->waiting == b->waiting &&
+    return a->run == b->run && a->number == b->number && a->ports == b->ports && a->mode == b->mode && a->entries == b->entries && a->at == b->at && a->names == b->names && a->name_at == b->name_at && a->waiting == b->waiting &&
            a->lower == b->lower && a->held == b->held && a->id == b->id && a->len == b->len && a->bytes == b->bytes && a->function == b->function &&
            a->pair == b->pair && a->parameter == b->parameter && a->units == b->units && a->ring == b->ring && a->named == b->named && a->different == b->different && a->first == b->first && a->last == b->last &&
            a->backwards == b->backwards && memcmp(a->resets, b->resets, sizeof a->resets) == 0;

@@ -46,15 +46,22 @@ static uint32_t some_pgn(void)
     return i & 1 ? 0xFE00 + i : 0x1C000 + 256 * i;
 }
 
+/* One of the PGNs that most NAME entries have. */
+static uint32_t named_pgn(void)
+{
+    return 0xFE01 + 2 * below(4);
+}
+
 static uint32_t some_id(void)
 {
     uint32_t source = one_in(8) ? 254 + below(2) : below(254), destination = one_in(3) ? own_address : below(256), rank = below(8) << 26;
-    switch (below(9)) {
+    switch (below(10)) {
     case 0: case 1: return 0x18EEFF00 | (one_in(8) ? own_address : one_in(4) ? source : below(6));
     case 2: return 0x18EA0000 | (one_in(2) ? 255 : destination) << 8 | source;
     case 3: return rank | below(240) << 16 | destination << 8 | source;
     case 4: return next();
     case 5: return rank | some_permanent() << 8 | destination << 8 | source;
+    case 6: return rank | named_pgn() << 8 | below(6);
     default: return rank | some_pgn() << 8 | source;
     }
 }
@@ -113,15 +120,33 @@ static void make_entries(struct call *c, const uint64_t *pair, size_t start)
         c->len += 1 + below(3);
 }
 
+static void put_word(uint8_t *bytes, uint64_t word)
+{
+    for (int i = 0; i < 8; i++)
+        bytes[i] = word >> 8 * i;
+}
+
+/* The entry of an Add by NAME: one that the pair has, or a PGN of few, a NAME of those that claim and a mask of no bit, one, all or any; now and then no PGN, or another length. */
+static void make_name_entry(struct call *c, const uint64_t *pair)
+{
+    uint64_t masks[4] = {0, 1ull << below(64), UINT64_MAX, next()}, n = pair[0] < BLOCK_NAMED ? 0 : pair[NAMES_AT];
+    const uint64_t *there = pair + NAMES_AT + 1 + NAME_WORDS * (n ? below(n) : 0);
+    int again = n && one_in(3);
+    put_entry(c->payload + 2, one_in(32) ? next() : again ? there[0] : one_in(2) ? named_pgn() : some_pgn());
+    put_word(c->payload + 5, again ? there[1] : some_name());
+    put_word(c->payload + 13, again && !one_in(8) ? there[2] : masks[below(4)]);
+    c->len = one_in(16) ? 8 + below(30) : 23;
+}
+
 static void make_message(struct call *c, const uint64_t *record)
 {
-    static const uint8_t functions[] = {0, 2, 2, 2, 3, 3, 3, 4, 6, 6, 6, 64, 128, 130, 131, 133}, parameters[] = {1, 2, 3, 9, 9, 9};
+    static const uint8_t functions[] = {0, 2, 2, 2, 3, 3, 3, 4, 6, 6, 6, 7, 7, 7, 64, 128, 130, 131, 133}, parameters[] = {1, 2, 3, 9, 9, 9};
     uint32_t ports = ports_of(record, MOST_WORDS), from = 1 + below(ports), to = 1 + (from + below(ports - 1)) % ports;
     const uint64_t *pair = record + PAIRS_AT(ports) + PAIR_WORDS * pair_number(ports, from, to);
-    for (int i = 0; i < 16; i++)
+    for (int i = 0; i < 40; i++)
         c->payload[i] = next();
     c->payload[0] = one_in(64) ? below(256) : functions[below(sizeof functions)];
-    c->payload[1] = one_in(64) ? below(256) : from << 4 | (c->payload[0] && one_in(c->payload[0] < 128 ? 3 : 32) ? 15 : to);
+    c->payload[1] = one_in(64) ? below(256) : from << 4 | (c->payload[0] && one_in(c->payload[0] < 7 ? 3 : 32) ? 15 : to);
     c->len = one_in(32) ? below(1800) : 8;
     c->requester = one_in(64) ? below(300) : 0x21;
     if (one_in(3))
@@ -134,6 +159,8 @@ static void make_message(struct call *c, const uint64_t *record)
         make_entries(c, pair, 2);
     if (c->payload[0] == 6)
         make_entries(c, pair, 3);
+    if (c->payload[0] == 7)
+        make_name_entry(c, pair);
 }
 
 /* ---- plans */
@@ -171,7 +198,7 @@ static void make_ports(struct plan *p)
 static void make_lists(struct plan *p)
 {
     for (uint32_t i = 0; i < PLAN_PAIRS * p->units; i++) {
-        uint64_t *pair = p->lists + PAIR_WORDS * i;
+        uint64_t *pair = p->lists + PLAN_PAIR_WORDS * i;
         pair[0] = one_in(2) ? 0 : below(3);
         pair[1] = one_in(4) ? below(LIST + 1) : below(3);
         for (uint64_t j = 0; pair[0] && j < pair[1]; j++)
@@ -182,14 +209,14 @@ static void make_lists(struct plan *p)
 /* A number out of its range. */
 static void spoil_plan(struct plan *p)
 {
-    uint64_t *pair = p->lists + PAIR_WORDS * below(PLAN_PAIRS * MOST_UNITS);
+    uint64_t *pair = p->lists + PLAN_PAIR_WORDS * below(PLAN_PAIRS * MOST_UNITS);
     switch (below(9)) {
     case 0: p->segments = one_in(2) ? 0 : MOST_SEGMENTS + 1; break;
     case 1: p->units = MOST_UNITS + 1; break;
     case 2: p->first = one_in(2) ? 0 : p->segments + 1; break;
     case 3: p->pgn = one_in(2) ? 1 : 1 << 18; break;
     case 4: p->ports[below(PLAN_PORTS)] = p->segments + 1; break;
-    case 5: pair[0] = 3; break;
+    case 5: pair[0] = BLOCK_NAMED + below(2); break;
     case 6: pair[1] = LIST + 1; break;
     case 7: pair[2] = 0xEF01; break;
     default: p->links[p->links_len++] = (struct deorasaeng_link){below(p->units + 2), below(MOST_PORTS + 2), below(p->segments + 2)};
@@ -284,15 +311,18 @@ uint32_t do_call(const struct side *side, const struct call *c, struct lent *l)
     }
 }
 
-/* The record with 0 in each word that means nothing: places past a count, the list of a cleared pair, what lies behind the last pair. */
+/* The record with 0 in each word that means nothing: places past a count, the list of a cleared pair, NAME entries where the mode says that there are none, what lies behind the last pair. */
 static void meaning(const uint64_t *record, uint64_t *out)
 {
     uint32_t ports = ports_of(record, MOST_WORDS);
     memcpy(out, record, 8 * MOST_WORDS);
     for (uint32_t i = 0; i < ports * (ports - 1); i++) {
         uint64_t *pair = out + PAIRS_AT(ports) + PAIR_WORDS * i, n = pair[0] ? pair[1] : 0;
+        uint64_t *names = pair + NAMES_AT, named = pair[0] < BLOCK_NAMED ? 0 : names[0];
         pair[1] = n;
         memset(pair + 2 + n, 0, 8 * (LIST - n));
+        names[0] = named;
+        memset(names + 1 + NAME_WORDS * named, 0, 8 * NAME_WORDS * (NAMES - named));
     }
     for (uint32_t port = 1; port <= ports; port++) {
         uint64_t *queue = out + DEORASAENG_QUEUE_AT(port);
@@ -322,7 +352,7 @@ static bool is_number(int i)
 /* What came of the calls, so that one sees that nothing was left untried. */
 struct tally {
     long numbers[NUMBERS], events[8], reasons[REASONS], done[256], ports[MOST_PORTS + 1], full, longest, permanent, later_entry, later_absent, later_pair, counts_of_full,
-        counts_of_none, losses_told, most_told, heard[MOST_SEGMENTS + 1];
+        counts_of_none, losses_told, most_told, heard[MOST_SEGMENTS + 1], by_name[2], names_full, names_sixteen;
 };
 
 /* How many lists on a frame's way would stop it if its PGN, which is permanent, were not. */
@@ -337,9 +367,29 @@ static long crossed(const struct call *c, const uint64_t *record)
         uint64_t i = 0;
         while (i < pair[1] && pair[2 + i] != pgn)
             i++;
-        n += pair[0] != 0 && (i < pair[1]) == (pair[0] == 1);
+        n += pair[0] != 0 && (i < pair[1]) == (pair[0] == BLOCK || pair[0] == BLOCK_NAMED);
     }
     return n;
+}
+
+/* Whether a frame counts as listed at a port where the list has not its PGN. */
+static bool is_by_name(const struct call *c, const uint64_t *record, uint32_t to, uint32_t reason)
+{
+    uint32_t ports = ports_of(record, MOST_WORDS), pgn = c->id >> 8 & ((c->id >> 16 & 255) < 240 ? 0x3FF00 : 0x3FFFF);
+    if (reason != DEORASAENG_REASON_LISTED_IN_PASS && reason != DEORASAENG_REASON_STOPPED_AS_LISTED)
+        return false;
+    const uint64_t *pair = record + PAIRS_AT(ports) + PAIR_WORDS * pair_number(ports, c->port, to);
+    for (uint64_t i = 0; i < pair[1]; i++)
+        if (pair[2 + i] == pgn)
+            return false;
+    return true;
+}
+
+/* Whether the pair of a message has all the NAME entries that it can have. */
+static bool has_eight(const struct call *c, const uint64_t *record)
+{
+    uint32_t ports = ports_of(record, MOST_WORDS);
+    return record[PAIRS_AT(ports) + PAIR_WORDS * pair_number(ports, c->payload[1] >> 4, c->payload[1] & 15) + NAMES_AT] == NAMES;
 }
 
 static void count(struct tally *t, const struct call *c, const struct lent *l, uint32_t number)
@@ -349,14 +399,19 @@ static void count(struct tally *t, const struct call *c, const struct lent *l, u
     if (number == 0 && c->kind == FRAME) {
         t->events[l->answer[DEORASAENG_EVENT]]++;
         t->permanent += l->answer[DEORASAENG_CONSUMED] ? 0 : crossed(c, l->record);
-        for (uint32_t port = 1; port <= ports_of(l->record, MOST_WORDS); port++)
-            t->reasons[DEORASAENG_REASON(l->answer[DEORASAENG_REASONS], port)]++;
+        for (uint32_t port = 1; port <= ports_of(l->record, MOST_WORDS); port++) {
+            uint32_t reason = DEORASAENG_REASON(l->answer[DEORASAENG_REASONS], port);
+            t->reasons[reason]++;
+            if (is_by_name(c, l->record, port, reason))
+                t->by_name[reason == DEORASAENG_REASON_LISTED_IN_PASS]++;
+        }
     }
     if (number == 0 && c->kind == COUNTS) {
         uint64_t waiting = l->answer[DEORASAENG_COUNTS_ACCEPTED] - l->answer[DEORASAENG_COUNTS_TAKEN];
         t->counts_of_full += waiting == QUEUE;
         t->counts_of_none += waiting == 0;
     }
+    t->names_sixteen += number == DEORASAENG_LIST_FULL && c->payload[0] == 7;
     if (number == DEORASAENG_WRONG_ENTRY)
         t->later_entry += l->answer[DEORASAENG_ENTRY] > 1;
     if (number == DEORASAENG_PGN_ABSENT) {
@@ -366,6 +421,7 @@ static void count(struct tally *t, const struct call *c, const struct lent *l, u
     if (number == 0 && c->kind == MESSAGE) {
         t->done[c->payload[0]]++;
         t->full += c->payload[0] == 0 && l->answer[DEORASAENG_WRITTEN] == 99;
+        t->names_full += c->payload[0] == 7 && has_eight(c, l->record);
         t->longest += c->payload[0] && c->len >= 1784;
         if ((c->payload[0] == 128 || c->payload[0] == 131) && c->payload[2] == 9) {
             uint32_t losses = l->reply[3] | (uint32_t)l->reply[4] << 8;
@@ -381,7 +437,7 @@ static bool is_whole(const struct tally *t, long calls)
 {
     bool whole = t->full && t->longest && t->permanent && t->later_entry && t->later_absent && t->later_pair && t->counts_of_full && t->counts_of_none &&
                  t->losses_told && t->most_told && t->done[128] && t->done[130] && t->done[131] && t->done[133] &&
-                 t->heard[1] && t->heard[MOST_SEGMENTS];
+                 t->heard[1] && t->heard[MOST_SEGMENTS] && t->by_name[0] && t->by_name[1] && t->names_full && t->names_sixteen;
     for (int i = 0; i < NUMBERS; i++)
         whole &= !is_number(i) || t->numbers[i] > 0;
     for (int i = FEWEST_PORTS; i <= MOST_PORTS; i++)
@@ -390,9 +446,9 @@ static bool is_whole(const struct tally *t, long calls)
         whole &= t->events[i] > 0;
     for (int i = 0; i < REASONS; i++)
         whole &= t->reasons[i] > 0;
-    printf("%ld random calls: the three sides agree. Messages done: Request %ld (%ld of 32 PGNs), Add %ld, Delete %ld, Clear %ld, Create %ld, addresses %ld; %ld of 594 entries; parameters told %ld in general, %ld of a pair, "
+    printf("%ld random calls: the three sides agree. Messages done: Request %ld (%ld of 32 PGNs), Add %ld, Delete %ld, Clear %ld, Create %ld, Add by NAME %ld (%ld where there are 8 now), addresses %ld; %ld of 594 entries; parameters told %ld in general, %ld of a pair, "
            "losses that are not 0 %ld, at the most %ld; reset %ld and %ld.\n",
-           calls, t->done[0], t->full, t->done[2], t->done[3], t->done[4], t->done[6], t->done[64], t->longest, t->done[128], t->done[131], t->losses_told, t->most_told, t->done[130], t->done[133]);
+           calls, t->done[0], t->full, t->done[2], t->done[3], t->done[4], t->done[6], t->done[7], t->names_full, t->done[64], t->longest, t->done[128], t->done[131], t->losses_told, t->most_told, t->done[130], t->done[133]);
     printf("Refused, by number:");
     for (int i = 1; i < NUMBERS; i++)
         if (is_number(i))
@@ -405,6 +461,7 @@ static bool is_whole(const struct tally *t, long calls)
         printf(" %d:%ld", i, t->reasons[i]);
     printf("; permanent PGNs across lists that stop others: %ld; wrong entries behind the first: %ld; absent ones: %ld, in a pair behind the first of all: %ld", t->permanent,
            t->later_entry, t->later_absent, t->later_pair);
+    printf("; listed by NAME in pass: %ld, in block: %ld; the ninth NAME entry refused: %ld", t->by_name[1], t->by_name[0], t->names_sixteen);
     printf("; counts of full queues: %ld, of empty ones: %ld", t->counts_of_full, t->counts_of_none);
     printf("; on units with so many ports:");
     for (int i = FEWEST_PORTS; i <= MOST_PORTS; i++)

@@ -3,15 +3,26 @@
 #include <stdbool.h>
 #include <string.h>
 
-enum { FEWEST = 2, USUAL = 4, MOST = 8, LIST = 32, QUEUE = 32, PLACES = 254, NO_ADDRESS = 254, LONGEST = 1785, ALL = 15, FILLING = 0xFF, MOST_LOSSES = 64255 };
+enum { FEWEST = 2, USUAL = 4, MOST = 8, LIST = 32, NAMES = 8, QUEUE = 32, PLACES = 254, NO_ADDRESS = 254, LONGEST = 1785, ALL = 15, FILLING = 0xFF, MOST_LOSSES = 64255 };
 enum { UNSTARTED, CLAIMING, CLAIMED, LOST };
-enum { CLEARED, BLOCK, PASS };
-enum { REQUEST = 0, ADD = 2, DELETE = 3, CLEAR = 4, CREATE = 6, ADDRESSES = 64 };
+enum { CLEARED, BLOCK, PASS, BLOCK_NAMED, PASS_NAMED };
+enum { REQUEST = 0, ADD = 2, DELETE = 3, CLEAR = 4, CREATE = 6, ADD_BY_NAME = 7, ADDRESSES = 64 };
 enum { TELL_GENERAL = 128, RESET_GENERAL = 130, TELL_PAIR = 131, RESET_PAIR = 133 };
 enum { BUFFER_SIZE = 1, LIST_SIZE = 2, ENTRIES = 3, LOSSES = 9 };
 enum { REQUEST_PGN = 59904, CLAIM_PGN = 60928, REPLY_PGN = 60672, ACKNOWLEDGMENT_PGN = 59392 };
 
+struct name_entry {
+    uint64_t pgn, name, mask;
+};
+
+/* From BLOCK_NAMED on there are NAME entries, below it what stands behind the list means nothing. */
 struct pair {
+    uint64_t mode, count, pgns[LIST], names;
+    struct name_entry named[NAMES];
+};
+
+/* A pair in a plan. */
+struct list {
     uint64_t mode, count, pgns[LIST];
 };
 
@@ -45,7 +56,7 @@ _Static_assert(sizeof(struct queue) == 8 * DEORASAENG_QUEUE_WORDS, "the publishe
 #define PUBLISHED(ports) (WORDS_FOR(ports) == DEORASAENG_RECORD_WORDS_FOR(ports))
 
 _Static_assert(PUBLISHED(2) && PUBLISHED(3) && PUBLISHED(4) && PUBLISHED(5) && PUBLISHED(6) && PUBLISHED(7) && PUBLISHED(8), "the published lengths");
-_Static_assert(DEORASAENG_RECORD_WORDS_FOR(9) == DEORASAENG_RECORD_WORDS && sizeof(struct pair) == 8 * DEORASAENG_PAIR_WORDS, "and those of four ports, of a pair");
+_Static_assert(DEORASAENG_RECORD_WORDS_FOR(9) == DEORASAENG_RECORD_WORDS && sizeof(struct list) == 8 * DEORASAENG_PAIR_WORDS, "and those of four ports, of a pair in a plan");
 
 static const uint16_t words_for[MOST + 1] = {0, 0, WORDS_FOR(2), WORDS_FOR(3), WORDS_FOR(4), WORDS_FOR(5), WORDS_FOR(6), WORDS_FOR(7), WORDS_FOR(8)};
 
@@ -113,7 +124,26 @@ static uint64_t find(const uint64_t *list, uint64_t n, uint64_t x)
     return i;
 }
 
-/* Rules 2, 3 and 5. */
+static bool passes(uint64_t mode)
+{
+    return mode == PASS || mode == PASS_NAMED;
+}
+
+/* Whether a NAME entry lists a PGN of the sender; and how many were compared, which are added. */
+static bool is_named(const struct pair *p, uint64_t pgn, const struct place *sender, uint64_t *compared)
+{
+    for (uint64_t i = 0; i < p->names; i++) {
+        const struct name_entry *e = &p->named[i];
+        if (e->pgn == pgn && sender->port && !((e->name ^ sender->name) & e->mask)) {
+            *compared += i + 1;
+            return true;
+        }
+    }
+    *compared += p->names;
+    return false;
+}
+
+/* Rules 2, 3 and 5. The table has a place for the sender of every PGN that is not permanent. */
 static void forward(struct unit *u, uint32_t ports, uint32_t from, uint32_t pgn, uint64_t head, uint64_t bytes, uint64_t *answer)
 {
     uint64_t accepted = 0, lost = 0, compared = 0, reasons = 0;
@@ -127,7 +157,9 @@ static void forward(struct unit *u, uint32_t ports, uint32_t from, uint32_t pgn,
             uint64_t i = find(p->pgns, p->count, pgn);
             bool listed = i < p->count;
             compared += i + listed;
-            if (p->mode == PASS)
+            if (p->mode >= BLOCK_NAMED && !listed)
+                listed = is_named(p, pgn, &u->table[head & 255], &compared);
+            if (passes(p->mode))
                 reason = listed ? DEORASAENG_REASON_LISTED_IN_PASS : DEORASAENG_REASON_STOPPED_AS_NOT_LISTED;
             else
                 reason = listed ? DEORASAENG_REASON_STOPPED_AS_LISTED : DEORASAENG_REASON_NOT_LISTED_IN_BLOCK;
@@ -295,6 +327,12 @@ static uint32_t entry(const uint8_t *bytes)
     return bytes[0] | bytes[1] << 8 | bytes[2] << 16;
 }
 
+/* What a number has that no PGN has: bits from 18 on, or a low byte where its PF is below 240. */
+static uint64_t no_pgn(uint64_t n)
+{
+    return n >> 18 | ((n & 0xF000) == 0xF000 ? 0 : n & 0xFF);
+}
+
 /* Which entry was wrong: its number from 1, the To port and the PGN, as they stand in the answer. */
 struct wrong {
     uint64_t entry, to, pgn;
@@ -314,8 +352,7 @@ static uint32_t entries(const uint8_t *bytes, size_t n, bool eight, size_t *coun
         return 12;
     *count = n / 3;
     for (size_t i = 0; i < *count; i++) {
-        uint32_t pgn = entry(bytes + 3 * i);
-        if (pgn >> 18 || ((pgn & 0xF000) != 0xF000 && pgn & 0xFF)) {
+        if (no_pgn(entry(bytes + 3 * i))) {
             wrong->entry = i + 1;
             return 22;
         }
@@ -409,13 +446,38 @@ static uint32_t create(struct pair *pairs, int named, uint64_t mode, const uint8
     return 0;
 }
 
+/* One entry, in 23 bytes, to one pair. */
+static uint32_t add_by_name(struct pair *p, const uint8_t *payload, size_t n, struct wrong *wrong)
+{
+    if (n != 23)
+        return 12;
+    struct name_entry e = {entry(payload + 2), pack(payload + 5, 8), pack(payload + 13, 8)};
+    if (no_pgn(e.pgn)) {
+        wrong->entry = 1;
+        return 22;
+    }
+    if (p->mode == CLEARED)
+        return 15;
+    uint64_t names = p->mode >= BLOCK_NAMED ? p->names : 0;
+    for (uint64_t i = 0; i < names; i++)
+        if (p->named[i].pgn == e.pgn && p->named[i].name == e.name && p->named[i].mask == e.mask)
+            return 0;
+    if (names == NAMES)
+        return 16;
+    p->named[names] = e;
+    p->names = names + 1;
+    if (p->mode < BLOCK_NAMED)
+        p->mode += BLOCK_NAMED - BLOCK;
+    return 0;
+}
+
 /* Writes a list's reply; its length without filling. */
 static size_t reply_list(const struct pair *p, uint8_t named, uint8_t *reply)
 {
     uint64_t n = p->mode == CLEARED ? 0 : p->count;
     reply[0] = 1;
     reply[1] = named;
-    reply[2] = p->mode == PASS;
+    reply[2] = passes(p->mode);
     for (uint64_t i = 0; i < n; i++) {
         uint32_t pgn = p->pgns[i];
         reply[3 + 3 * i] = pgn;
@@ -484,7 +546,7 @@ static uint32_t judge(uint32_t ports, uint32_t port, uint8_t function, uint32_t 
         return to - 1 >= ports ? 10 : port != 1 && port != to ? 11 : 0;
     case TELL_GENERAL: case RESET_GENERAL:
         return port != 1 ? 11 : 0;
-    case REQUEST: case ADD: case DELETE: case CLEAR: case CREATE: case TELL_PAIR: case RESET_PAIR:
+    case REQUEST: case ADD: case DELETE: case CLEAR: case CREATE: case ADD_BY_NAME: case TELL_PAIR: case RESET_PAIR:
         if (from - 1 >= ports || from == to || (to - 1 >= ports && (to != ALL || function == REQUEST || function > CREATE)))
             return 10;
         return port != 1 && port != from && port != to && !(to == ALL && ports == 2) ? 11 : 0;
@@ -530,6 +592,8 @@ static uint32_t perform(struct unit *u, uint32_t ports, uint32_t from, uint32_t 
     if (to == ALL)
         return command(pairs, ports - 1, from, to, payload, n, wrong);
     pairs += to < from ? to - 1 : to - 2;
+    if (payload[0] == ADD_BY_NAME)
+        return add_by_name(pairs, payload, n, wrong);
     if (payload[0] != REQUEST)
         return command(pairs, 1, from, to, payload, n, wrong);
     if (n != 8)
@@ -668,14 +732,8 @@ uint32_t c_counts(const uint64_t *record, size_t record_len, uint32_t port, uint
 /* ---- plans */
 enum { SEGMENTS = 16, UNITS = 16, PAIRS = MOST * (MOST - 1), PLAN_PORTS = UNITS * MOST, PLAN_LISTS = UNITS * PAIRS * (2 + LIST), PLAN_ANSWER = 1 };
 
-/* What a number has that no PGN has: bits from 18 on, or a low byte where its PF is below 240. */
-static uint64_t no_pgn(uint64_t n)
-{
-    return n >> 18 | ((n & 0xF000) == 0xF000 ? 0 : n & 0xFF);
-}
-
 /* A list is judged where there is one: that of a cleared pair is not read. */
-static bool is_good_pair(const struct pair *p)
+static bool is_good_pair(const struct list *p)
 {
     if (p->mode == CLEARED)
         return true;
@@ -687,7 +745,7 @@ static bool is_good_pair(const struct pair *p)
     return !wrong;
 }
 
-static bool is_good_plan(const uint64_t *ports, const struct pair *pairs, uint32_t segments, uint32_t units, uint32_t first, uint32_t pgn)
+static bool is_good_plan(const uint64_t *ports, const struct list *pairs, uint32_t segments, uint32_t units, uint32_t first, uint32_t pgn)
 {
     if (segments > SEGMENTS || units > UNITS || first - 1 >= segments || no_pgn(pgn))
         return false;
@@ -720,7 +778,7 @@ static bool has_ring(const uint64_t *ports, uint32_t segments, uint32_t units)
     return false;
 }
 
-static bool permits(const struct pair *p, uint64_t pgn)
+static bool permits(const struct list *p, uint64_t pgn)
 {
     if (p->mode == CLEARED)
         return true;
@@ -728,7 +786,7 @@ static bool permits(const struct pair *p, uint64_t pgn)
 }
 
 /* The segments that hear, bit s for segment s. Without a ring each is reached once. */
-static uint32_t walk(const uint64_t *ports, const struct pair *pairs, uint32_t units, uint32_t first, uint32_t pgn)
+static uint32_t walk(const uint64_t *ports, const struct list *pairs, uint32_t units, uint32_t first, uint32_t pgn)
 {
     bool permanent = pgn == CLAIM_PGN || pgn == REQUEST_PGN;
     struct { uint32_t segment, by; } waiting[SEGMENTS] = {{first, UNITS}};
@@ -740,7 +798,7 @@ static uint32_t walk(const uint64_t *ports, const struct pair *pairs, uint32_t u
             uint32_t from = unit == by ? MOST : find(on, MOST, segment);
             if (from == MOST)
                 continue;
-            const struct pair *p = pairs + PAIRS * unit + (MOST - 1) * from;
+            const struct list *p = pairs + PAIRS * unit + (MOST - 1) * from;
             for (uint32_t to = 0; to < MOST; to++) {
                 if (to == from)
                     continue;
@@ -758,7 +816,7 @@ static uint32_t walk(const uint64_t *ports, const struct pair *pairs, uint32_t u
 
 static uint32_t plan(const uint64_t *ports, const uint64_t *lists, uint32_t segments, uint32_t units, uint32_t first, uint32_t pgn, uint64_t *answer)
 {
-    const struct pair *pairs = (const struct pair *)lists;
+    const struct list *pairs = (const struct list *)lists;
     if (!is_good_plan(ports, pairs, segments, units, first, pgn))
         return 28;
     if (has_ring(ports, segments, units))

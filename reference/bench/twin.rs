@@ -21,8 +21,6 @@ const CLAIMED: u64 = 2;
 const LOST: u64 = 3;
 
 const CLEARED: u64 = 0;
-const BLOCK: u64 = 1;
-const PASS: u64 = 2;
 
 const REQUEST_PGN: u32 = 59904;
 const CLAIM_PGN: u32 = 60928;
@@ -43,6 +41,7 @@ const ADD: u8 = 2;
 const DELETE: u8 = 3;
 const CLEAR: u8 = 4;
 const CREATE: u8 = 6;
+const ADD_BY_NAME: u8 = 7;
 const ADDRESSES: u8 = 64;
 const TELL_GENERAL: u8 = 128;
 const RESET_GENERAL: u8 = 130;
@@ -54,8 +53,11 @@ const LIST_SIZE: u8 = 2;
 const ENTRIES: u8 = 3;
 const LOSSES: u8 = 9;
 
-/// The mode, the count, the PGNs.
+/// The mode, the count, the PGNs; behind them how many NAME entries, where the mode says that there are some, and each one's PGN, NAME and mask.
 type Pair = [u64; PAIR_WORDS];
+/// The mode, the count, the PGNs.
+type PlanPair = [u64; PLAN_PAIR_WORDS];
+type NameEntry = [u64; NAME_WORDS];
 /// How many wait, what the port counts, and two words for each frame: the identifier with the length above it, the bytes.
 type Queue = [u64; QUEUE_WORDS];
 /// The arrival port, the NAME.
@@ -138,24 +140,54 @@ fn take(queue: &mut Queue) -> Option<Taken> {
 
 // ---- lists
 
-fn entries_of(pair: &Pair) -> &[u64] {
+fn entries_of(pair: &[u64]) -> &[u64] {
     match pair[0] {
         CLEARED => &[],
         _ => &pair[2..2 + pair[1] as usize],
     }
 }
 
-/// Why a pair lets a PGN through or stops it, and the entries compared.
-fn ask(pair: &Pair, pgn: u32) -> (u64, u64) {
+fn names_of(pair: &Pair) -> &[NameEntry] {
+    match pair[0] {
+        BLOCK_NAMED.. => &pair[NAMES_AT + 1..].as_chunks().0[..pair[NAMES_AT] as usize],
+        _ => &[],
+    }
+}
+
+fn passes(mode: u64) -> bool {
+    mode == PASS || mode == PASS_NAMED
+}
+
+/// The place of the first that a test holds for, from 1, or how many there are; and whether there is one.
+fn search<T>(all: &[T], test: impl Fn(&T) -> bool) -> (bool, u64) {
+    match all.iter().position(test) {
+        Some(i) => (true, i as u64 + 1),
+        None => (false, all.len() as u64),
+    }
+}
+
+/// Why a pair lets a PGN from an address through or stops it, and the entries compared. Who is in no place of the table sends permanent PGNs alone.
+fn ask(pair: &Pair, pgn: u32, table: &[Place; PLACES], sa: usize) -> (u64, u64) {
     if pair[0] == CLEARED {
         return (reason::CLEARED, 0);
     }
-    let entries = entries_of(pair);
-    match (pair[0], entries.iter().position(|&x| x == u64::from(pgn))) {
-        (PASS, Some(i)) => (reason::LISTED_IN_PASS, i as u64 + 1),
-        (PASS, None) => (reason::STOPPED_AS_NOT_LISTED, entries.len() as u64),
-        (_, Some(i)) => (reason::STOPPED_AS_LISTED, i as u64 + 1),
-        (_, None) => (reason::NOT_LISTED_IN_BLOCK, entries.len() as u64),
+    let pgn = u64::from(pgn);
+    let (mut listed, mut compared) = search(entries_of(pair), |&x| x == pgn);
+    if pair[0] >= BLOCK_NAMED && !listed {
+        let [port, sender] = table.get(sa).copied().unwrap_or_default();
+        let matches = |&[of, name, mask]: &NameEntry| of == pgn && port != 0 && (name ^ sender) & mask == 0;
+        let (named, further) = search(names_of(pair), matches);
+        (listed, compared) = (named, compared + further);
+    }
+    (reason_of(pair[0], listed), compared)
+}
+
+fn reason_of(mode: u64, listed: bool) -> u64 {
+    match (passes(mode), listed) {
+        (true, true) => reason::LISTED_IN_PASS,
+        (true, false) => reason::STOPPED_AS_NOT_LISTED,
+        (false, true) => reason::STOPPED_AS_LISTED,
+        (false, false) => reason::NOT_LISTED_IN_BLOCK,
     }
 }
 
@@ -277,6 +309,34 @@ fn create(pairs: &mut [Pair], mode: u8, body: &[u8]) -> Result<(), Refusal> {
         pair[0] = BLOCK + u64::from(mode);
         pair[1] = held as u64;
         pair[2..2 + held].copy_from_slice(&pgns[..held]);
+    }
+    Ok(())
+}
+
+/// One NAME entry, in 23 bytes, to one pair.
+fn add_by_name(pair: &mut Pair, payload: &[u8]) -> Result<(), Refusal> {
+    let &[_, _, a, b, c, ref rest @ ..] = payload else { return Err(12.into()) };
+    let Ok(rest) = <&[u8; 18]>::try_from(rest) else { return Err(12.into()) };
+    let (pgn, words) = (u32::from_le_bytes([a, b, c, 0]), rest.as_chunks::<8>().0);
+    if !is_pgn(pgn) {
+        return Err(Refusal { number: 22, wrong: [1, 0, 0] });
+    }
+    if pair[0] == CLEARED {
+        return Err(15.into());
+    }
+    let entry = [u64::from(pgn), u64::from_le_bytes(words[0]), u64::from_le_bytes(words[1])];
+    let names = names_of(pair);
+    if names.contains(&entry) {
+        return Ok(());
+    }
+    let n = names.len();
+    if n == NAMES {
+        return Err(16.into());
+    }
+    pair[NAMES_AT + 1 + NAME_WORDS * n..][..NAME_WORDS].copy_from_slice(&entry);
+    pair[NAMES_AT] = n as u64 + 1;
+    if pair[0] < BLOCK_NAMED {
+        pair[0] += BLOCK_NAMED - BLOCK;
     }
     Ok(())
 }
@@ -418,8 +478,9 @@ impl<'a> Unit<'a> {
         let permanent = pgn == CLAIM_PGN || pgn == REQUEST_PGN;
         let n = self.ports() - 1;
         let pairs = &self.pairs[n * from..][..n];
+        let sa = (head & 255) as usize;
         for (pair, to) in pairs.iter().zip((0..=n).filter(|&to| to != from)) {
-            let (reason, compared) = if permanent { (reason::PERMANENT, 0) } else { ask(pair, pgn) };
+            let (reason, compared) = if permanent { (reason::PERMANENT, 0) } else { ask(pair, pgn, self.table, sa) };
             total += compared;
             reasons |= reason << (4 * to);
             if reason >= reason::STOPPED_AS_LISTED {
@@ -488,7 +549,7 @@ impl<'a> Unit<'a> {
     fn reply_list(&mut self, from: usize, to: usize, pair: u8, reply: &mut [u8]) -> usize {
         let block = &self.pairs_from(from - 1)[pair_of(from - 1, to - 1)];
         let entries = entries_of(block);
-        reply[..3].copy_from_slice(&[1, pair, u8::from(block[0] == PASS)]);
+        reply[..3].copy_from_slice(&[1, pair, u8::from(passes(block[0]))]);
         for (out, pgn) in reply[3..].chunks_exact_mut(3).zip(entries) {
             out.copy_from_slice(&pgn.to_le_bytes()[..3]);
         }
@@ -549,7 +610,7 @@ impl<'a> Unit<'a> {
             ADDRESSES => has_eight_bytes(payload).map(|()| Some(self.reply_addresses(to, reply))),
             TELL_GENERAL | RESET_GENERAL if port != 1 => Err(11.into()),
             TELL_GENERAL | RESET_GENERAL => self.parameter(None, payload, reply),
-            REQUEST | ADD | DELETE | CLEAR | CREATE | TELL_PAIR | RESET_PAIR => {
+            REQUEST | ADD | DELETE | CLEAR | CREATE | ADD_BY_NAME | TELL_PAIR | RESET_PAIR => {
                 if !is_port(from) || from == to || !(is_port(to) || to == ALL && (ADD..=CREATE).contains(&function)) {
                     return Err(10.into());
                 }
@@ -562,7 +623,10 @@ impl<'a> Unit<'a> {
                 }
                 if function > CREATE {
                     let pair = (ports - 1) * (from - 1) + pair_of(from - 1, to - 1);
-                    return self.parameter(Some(pair), payload, reply);
+                    return match function {
+                        ADD_BY_NAME => add_by_name(&mut self.pairs[pair], payload).map(|()| None),
+                        _ => self.parameter(Some(pair), payload, reply),
+                    };
                 }
                 self.command(from, to, payload).map(|()| None)
             }
@@ -716,7 +780,7 @@ fn no_pgn(number: u64) -> u64 {
 }
 
 /// A list is judged where there is one: that of a cleared pair is not read.
-fn is_good_pair(pair: &Pair) -> bool {
+fn is_good_pair(pair: &PlanPair) -> bool {
     match pair[0] {
         CLEARED => true,
         BLOCK | PASS if pair[1] <= LIST as u64 => entries_of(pair).iter().fold(0, |wrong, &x| wrong | no_pgn(x)) == 0,
@@ -744,8 +808,12 @@ fn has_ring(units: &[[u64; MOST_PORTS]]) -> bool {
     false
 }
 
+fn permits(pair: &PlanPair, pgn: u32) -> bool {
+    pair[0] == CLEARED || entries_of(pair).contains(&u64::from(pgn)) == (pair[0] == PASS)
+}
+
 /// The segments that hear, bit s for segment s. Without a ring each is reached once.
-fn walk(units: &[[u64; MOST_PORTS]], pairs: &[Pair], first: usize, pgn: u32) -> u64 {
+fn walk(units: &[[u64; MOST_PORTS]], pairs: &[PlanPair], first: usize, pgn: u32) -> u64 {
     let permanent = pgn == CLAIM_PGN || pgn == REQUEST_PGN;
     let mut waiting = [(0, MOST_UNITS); MOST_SEGMENTS];
     waiting[0].0 = first as u64;
@@ -758,7 +826,7 @@ fn walk(units: &[[u64; MOST_PORTS]], pairs: &[Pair], first: usize, pgn: u32) -> 
             let others = (0..MOST_PORTS).filter(|&to| to != from);
             for (to, pair) in others.zip(&pairs[PLAN_PAIRS * unit + (MOST_PORTS - 1) * from..]) {
                 let s = ports[to];
-                if s != 0 && (permanent || ask(pair, pgn).0 < reason::STOPPED_AS_LISTED) {
+                if s != 0 && (permanent || permits(pair, pgn)) {
                     heard |= 1 << s;
                     waiting[n] = (s, unit);
                     n += 1;
@@ -770,7 +838,7 @@ fn walk(units: &[[u64; MOST_PORTS]], pairs: &[Pair], first: usize, pgn: u32) -> 
 }
 
 fn plan(ports: &[u64], lists: &[u64], q: Question, answer: &mut [u64]) -> Result<(), u32> {
-    let (units, pairs) = (ports.as_chunks::<MOST_PORTS>().0, lists.as_chunks::<PAIR_WORDS>().0);
+    let (units, pairs) = (ports.as_chunks::<MOST_PORTS>().0, lists.as_chunks::<PLAN_PAIR_WORDS>().0);
     let ([told], true, true) = (answer, units.len() == MOST_UNITS && ports.len() == PLAN_PORTS, lists.len() == PLAN_LISTS) else {
         return Err(2);
     };

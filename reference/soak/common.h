@@ -99,6 +99,7 @@ static uint32_t some_id(void)
     case 2: return priority | 61184u << 8 | 0x8000u | source;
     case 3: return below(64) == 0 ? (uint32_t)next() : (uint32_t)next() & 0x1FFFFFFF;
     case 4: return priority | (below(4) ? 0 : below(4) << 24) | (below(2) ? 0xEE0000u : 0xEA0000u) | below(256) << 8 | source;
+    case 5: return priority | (0xF000u + below(4)) << 8 | source;
     default: return priority | (some_pgn() & 0x3FFFF) << 8 | source;
     }
 }
@@ -128,6 +129,66 @@ static void check_reasons(uint32_t port, uint32_t id, const uint64_t *answer)
     }
     check(word >> 4 * ports == 0, "a reason of no port");
     check(!permanent || answer[DEORASAENG_COMPARED] == 0, "a permanent PGN that was compared");
+}
+
+static uint64_t at_most(uint64_t n, uint64_t size)
+{
+    return n < size ? n : size;
+}
+
+/* The words of the pair from a port to another. */
+static const uint64_t *pair_of(const uint64_t *record, uint32_t from, uint32_t to)
+{
+    return record + PAIRS_AT(ports) + PAIR_WORDS * pair_number(ports, from, to);
+}
+
+/* How many NAME entries a pair has; its entry at an index. */
+static uint64_t names_of(const uint64_t *pair)
+{
+    return pair[0] < BLOCK_NAMED ? 0 : at_most(pair[NAMES_AT], NAMES);
+}
+
+static const uint64_t *name_at(const uint64_t *pair, uint64_t i)
+{
+    return pair + NAMES_AT + 1 + NAME_WORDS * i;
+}
+
+static int is_block(uint64_t mode)
+{
+    return mode == BLOCK || mode == BLOCK_NAMED;
+}
+
+/* How often a NAME entry listed a frame, in block and in pass; and how often one was added, was there already, and was the ninth. */
+static uint64_t by_name[2], names_added, names_there, names_ninth;
+
+/* What a pair's words and the table's say of a PGN from an address; the entries that are compared are added. */
+static enum deorasaeng_reason due_reason(const uint64_t *record, const uint64_t *pair, uint32_t pgn, uint32_t source, uint64_t *compared)
+{
+    uint64_t count = at_most(pair[1], LIST), names = names_of(pair), i = 0, j = 0;
+    const uint64_t *place = record + TABLE_AT + PLACE_WORDS * source;
+    if (is_permanent(pgn))
+        return DEORASAENG_REASON_PERMANENT;
+    if (pair[0] == CLEARED)
+        return DEORASAENG_REASON_CLEARED;
+    while (i < count && pair[2 + i] != pgn)
+        i++;
+    while (i == count && j < names && !(place[0] != 0 && name_at(pair, j)[0] == pgn && ((name_at(pair, j)[1] ^ place[1]) & name_at(pair, j)[2]) == 0))
+        j++;
+    int listed = i < count || j < names;
+    *compared += i < count ? i + 1 : count + (j < names ? j + 1 : names);
+    by_name[!is_block(pair[0])] += i == count && listed;
+    if (is_block(pair[0]))
+        return listed ? DEORASAENG_REASON_STOPPED_AS_LISTED : DEORASAENG_REASON_NOT_LISTED_IN_BLOCK;
+    return listed ? DEORASAENG_REASON_LISTED_IN_PASS : DEORASAENG_REASON_STOPPED_AS_NOT_LISTED;
+}
+
+/* Every port's reason, and the entries compared, by the record before the frame. */
+static void check_due(uint32_t port, uint32_t id, const uint64_t *before, const uint64_t *answer)
+{
+    uint64_t compared = 0;
+    for (uint32_t q = 1; q <= ports && !answer[DEORASAENG_CONSUMED]; q++)
+        check(q == port || DEORASAENG_REASON(answer[DEORASAENG_REASONS], q) == due_reason(before, pair_of(before, port, q), pgn_of(id), id & 0xFF, &compared), "another reason");
+    check(answer[DEORASAENG_COMPARED] == compared, "compared");
 }
 
 /* How many frames wait in a queue. */
@@ -232,7 +293,7 @@ static int is_parameter(uint8_t function)
 
 static int is_function(uint8_t function)
 {
-    return function == 0 || function == 2 || function == 3 || function == 4 || function == 6 || function == 64 || is_parameter(function);
+    return function == 0 || function == 2 || function == 3 || function == 4 || function == 6 || function == 7 || function == 64 || is_parameter(function);
 }
 
 /* What a reply tells of a pair whose words these are, and of its counter: sizes, entries, losses. */
@@ -241,7 +302,7 @@ static uint64_t value_of(uint8_t parameter, const uint64_t *pair, uint64_t count
     switch (parameter) {
     case 1: return 13 * QUEUE;
     case 2: return 3 * LIST;
-    case 3: return pair[0] == 0 ? 0 : pair[1] < LIST ? pair[1] : LIST;
+    case 3: return pair[0] == CLEARED ? 0 : at_most(pair[1], LIST);
     default: return losses_of(counter);
     }
 }
@@ -316,6 +377,75 @@ static int is_pgn(uint32_t number)
     return number < 1u << 18 && ((number >> 8 & 0xFF) >= 240 || (number & 0xFF) == 0);
 }
 
+/* The bytes of function 7: function, pair byte, PGN, NAME, mask, rate. */
+enum { NAME_BYTES = 23 };
+
+static uint64_t number_at(const uint8_t *bytes, int length)
+{
+    uint64_t number = 0;
+    while (length-- > 0)
+        number = number << 8 | bytes[length];
+    return number;
+}
+
+/* Whether a pair has the NAME entry of these words. */
+static int has_name(const uint64_t *pair, const uint64_t *entry)
+{
+    for (uint64_t i = 0; i < names_of(pair); i++)
+        if (memcmp(name_at(pair, i), entry, NAME_WORDS * sizeof *entry) == 0)
+            return 1;
+    return 0;
+}
+
+/* 12, 22, 15 and 16 of function 7 by the record before, in this order. */
+static uint32_t name_number(const uint64_t *pair, const uint64_t *entry, size_t length)
+{
+    if (length != NAME_BYTES)
+        return DEORASAENG_WRONG_BODY;
+    if (!is_pgn((uint32_t)entry[0]))
+        return DEORASAENG_WRONG_ENTRY;
+    if (pair[0] == CLEARED)
+        return DEORASAENG_IS_CLEARED;
+    return names_of(pair) == NAMES && !has_name(pair, entry) ? DEORASAENG_LIST_FULL : DEORASAENG_DONE;
+}
+
+/* Function 7 that is not refused with 1 to 11: its number; and where it is done, the entry behind those that were there, unless it is one of them, and nothing else. */
+static void check_name_entry(uint32_t number, const uint8_t *payload, size_t length, const uint64_t *record, const uint64_t *before, const uint64_t *answer)
+{
+    uint32_t from = payload[1] >> 4, to = payload[1] & 15;
+    const uint64_t *pair = pair_of(record, from, to), *old = pair_of(before, from, to);
+    uint64_t entry[NAME_WORDS] = {0}, names = names_of(old);
+    if (length == NAME_BYTES) {
+        entry[0] = number_at(payload + 2, 3);
+        entry[1] = number_at(payload + 5, 8);
+        entry[2] = number_at(payload + 13, 8);
+    }
+    check(number == name_number(old, entry, length), "the number of function 7");
+    check(answer[DEORASAENG_ENTRY] == (number == DEORASAENG_WRONG_ENTRY), "the entry of function 7");
+    names_ninth += number == DEORASAENG_LIST_FULL;
+    if (number != 0)
+        return;
+    size_t at = (size_t)(pair - record);
+    check(memcmp(record, before, at * sizeof *record) == 0, "function 7 changed a word before its pair");
+    check(memcmp(pair + PAIR_WORDS, old + PAIR_WORDS, (GENERAL_AT(ports) + 1 - at - PAIR_WORDS) * sizeof *record) == 0, "function 7 changed a word behind its pair");
+    if (has_name(old, entry)) {
+        check(memcmp(pair, old, PAIR_WORDS * sizeof *pair) == 0, "one already there changed something");
+        names_there++;
+        return;
+    }
+    names_added++;
+    check(pair[0] >= BLOCK_NAMED && is_block(pair[0]) == is_block(old[0]) && names_of(pair) == names + 1, "one NAME entry more");
+    check(memcmp(pair + 1, old + 1, (NAMES_AT - 1) * sizeof *pair) == 0, "function 7 changed the list");
+    check(memcmp(name_at(pair, 0), name_at(old, 0), NAME_WORDS * names * sizeof *pair) == 0, "function 7 changed another NAME entry");
+    check(memcmp(name_at(pair, names), entry, sizeof entry) == 0, "another NAME entry than was sent");
+}
+
+static void print_names(void)
+{
+    printf("listed by NAME in pass %" PRIu64 ", in block %" PRIu64 "; NAME entries added %" PRIu64 ", already there %" PRIu64 ", a ninth refused %" PRIu64 "\n", by_name[1], by_name[0],
+           names_added, names_there, names_ninth);
+}
+
 /* The entry of a command at a place from 1. */
 static uint32_t entry_at(const uint8_t *payload, uint64_t place)
 {
@@ -362,6 +492,18 @@ static void check_entry(uint32_t number, const uint8_t *payload, size_t length, 
     }
 }
 
+/* A NAME near the unit's, as most claims have; a mask of no bit, all, one, those in which such NAMEs differ, or any. */
+static uint64_t some_near_name(void)
+{
+    return 0xA000000000000000u + below(16);
+}
+
+static uint64_t some_mask(void)
+{
+    const uint64_t masks[8] = {0, 0, UINT64_MAX, UINT64_MAX, 15, 15, UINT64_C(1) << below(64), next()};
+    return masks[below(8)];
+}
+
 /* In a storm of losses the NAMEs are near the unit's, so that it is not displaced, and of its resets one in so many is made, so that the others add up. */
 static int storm;
 enum { RESETS_IN_A_STORM = 10000 };
@@ -369,7 +511,7 @@ enum { RESETS_IN_A_STORM = 10000 };
 static void some_bytes(uint8_t *bytes, uint32_t id, size_t length)
 {
     static const uint8_t request[3] = {0x00, 0xEE, 0x00};
-    uint64_t name = storm || below(64) ? 0xA000000000000000u + below(16) : next();
+    uint64_t name = storm || below(64) ? some_near_name() : next();
     for (size_t i = 0; i < length; i++)
         bytes[i] = (uint8_t)(name >> 8 * (i % 8));
     if ((id >> 16 & 0xFF) == 0xEA && length == 3 && below(8))
@@ -399,14 +541,15 @@ static size_t some_payload_length(void)
     case 0: return 8 + 3 * below(40);
     case 1: return 9 + 3 * below(40);
     case 2: return below(64) == 0 ? below(2000) : 8 + below(200);
+    case 3: return NAME_BYTES;
     default: return 8;
     }
 }
 
 static uint8_t some_function(void)
 {
-    static const uint8_t functions[12] = {0, 2, 2, 3, 4, 6, 6, 64, 128, 131, 130, 133};
-    uint8_t function = below(20) == 0 ? (uint8_t)(below(4) == 0 ? 128 + below(6) : next()) : functions[below(12)];
+    static const uint8_t functions[13] = {0, 2, 2, 3, 4, 6, 6, 7, 64, 128, 131, 130, 133};
+    uint8_t function = below(20) == 0 ? (uint8_t)(below(4) == 0 ? 128 + below(6) : next()) : functions[below(13)];
     if (storm && (function == 130 || function == 133) && below(RESETS_IN_A_STORM) != 0)
         return function == 130 ? 128 : 131;
     return function;
@@ -419,6 +562,36 @@ static uint8_t some_parameter(void)
     return below(8) == 0 ? (uint8_t)next() : parameters[below(8)];
 }
 
+/* A NAME entry as function 7 has it, and any rate. */
+static void put_name_entry(uint8_t *payload, const uint64_t *entry)
+{
+    const uint64_t words[4] = {entry[0], entry[1], entry[2], next()};
+    static const int bytes[4] = {3, 8, 8, 2};
+    for (int i = 0, n = 2; i < 4; i++)
+        for (int k = 0; k < bytes[i]; k++)
+            payload[n++] = (uint8_t)(words[i] >> 8 * k);
+}
+
+/* One of few PGNs and NAMEs. */
+static void some_name_entry(uint8_t *payload)
+{
+    const uint64_t entry[NAME_WORDS] = {below(4) ? 0xF000 + below(4) : some_pgn(), 0xA000000000000000u + below(4), some_mask()};
+    put_name_entry(payload, entry);
+}
+
+/* In place of a function 7's entry now and then one that its pair has. */
+static void name_there(uint8_t *payload, size_t length, const uint64_t *record)
+{
+    if (length != NAME_BYTES || payload[0] != 7 || below(3) != 0)
+        return;
+    uint32_t from = payload[1] >> 4, to = payload[1] & 15;
+    if (from < 1 || from > ports || to < 1 || to > ports || from == to)
+        return;
+    const uint64_t *pair = pair_of(record, from, to);
+    if (names_of(pair) != 0)
+        put_name_entry(payload, name_at(pair, below((uint32_t)names_of(pair))));
+}
+
 /* A payload that is mostly in good form. */
 static void some_payload(uint8_t *payload, size_t length)
 {
@@ -426,9 +599,13 @@ static void some_payload(uint8_t *payload, size_t length)
         payload[i] = 0xFF;
     if (length < 3)
         return;
-    payload[0] = some_function();
+    payload[0] = length == NAME_BYTES && below(4) ? 7 : some_function();
     payload[1] = (uint8_t)(below(20) == 0 ? next() : (1 + below(ports)) << 4 | (below(4) == 0 ? 15 : 1 + below(ports)));
     size_t first = payload[0] == 6 ? 3 : 2;
+    if (payload[0] == 7 && length == NAME_BYTES) {
+        some_name_entry(payload);
+        return;
+    }
     if (payload[0] >= 128) {
         payload[2] = some_parameter();
         return;

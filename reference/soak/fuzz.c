@@ -76,8 +76,8 @@ static size_t some_size(size_t right, uint32_t most)
     }
 }
 
-/* A record whose claim state is one of the four, whose lists and queues are of likely lengths, of whose counts some are likely or the last before 2^64, and of whose
-   counters of losses some are near the most. */
+/* A record whose claim state is one of the four, whose modes, lists, NAME entries and queues are likely or of likely lengths, of whose counts some are likely or the last before
+   2^64, and of whose counters of losses some are near the most. */
 static void fill_record(uint64_t *record, uint32_t likely, size_t length)
 {
     record[0] = below(3) ? 2 : below(5);
@@ -86,10 +86,16 @@ static void fill_record(uint64_t *record, uint32_t likely, size_t length)
         if (below(2) == 0)
             record[i] = below(4) == 0 ? below(300) : MOST_LOSSES - 3 + below(6);
     for (uint64_t *pair = record + PAIRS_AT(likely); pair < record + LOSSES_AT(likely); pair += PAIR_WORDS) {
-        pair[0] = below(4);
+        pair[0] = below(8) ? below(6) : next();
         pair[1] = below(LIST + 4);
         for (int j = 0; j < LIST; j++)
             pair[2 + j] = some_pgn();
+        pair[NAMES_AT] = below(8) ? below(NAMES + 4) : next();
+        for (uint64_t *name = pair + NAMES_AT + 1; name < pair + PAIR_WORDS; name += NAME_WORDS) {
+            name[0] = below(2) ? 0xF000 + below(4) : some_pgn();
+            name[1] = some_near_name();
+            name[2] = some_mask();
+        }
     }
     for (uint32_t port = 1; port <= likely; port++) {
         uint64_t *queue = record + DEORASAENG_QUEUE_AT(port);
@@ -203,6 +209,7 @@ static void fuzz_frame(size_t length, uint64_t *record)
         check_reasons(port, id, answer);
         judge_joined(record, id, answer[DEORASAENG_ACCEPTED], answer[DEORASAENG_OWN_LOST]);
         check_losses(record, old_words(), port, answer[DEORASAENG_LOST], answer[DEORASAENG_OWN_LOST]);
+        check_due(port, id, old_words(), answer);
     }
     if (is_port(port) && right) {
         check((id >> 29 != 0) == (number == 3), "number 3");
@@ -243,6 +250,8 @@ static void fuzz_message(size_t length, uint64_t *record)
     uint8_t *reply = lend(2, room), *payload = lend(3, size);
     if (below(8) != 0)
         some_payload(payload, size);
+    if (length == record_words)
+        name_there(payload, size, record);
     keep(3);
     uint32_t number = deorasaeng_message(record, length, port, requester, payload, size, reply, room, answer, words);
     int right = length == record_words && words == DEORASAENG_MESSAGE_ANSWER && room >= DEORASAENG_REPLY_BYTES;
@@ -266,6 +275,8 @@ static void fuzz_message(size_t length, uint64_t *record)
         check(memcmp(record + LOSSES_AT(ports), old_words() + LOSSES_AT(ports), 8 * (length - LOSSES_AT(ports))) == 0, "a command changed a counter of losses");
         check(number != DEORASAENG_WRONG_PARAMETER, "number 23");
     }
+    if (payload[0] == 7 && (number == 0 || number >= DEORASAENG_WRONG_BODY))
+        check_name_entry(number, payload, size, record, old_words(), answer);
 }
 
 static void fuzz_start(size_t length, uint64_t *record)
@@ -327,7 +338,7 @@ static void fill_links(struct deorasaeng_link *links, size_t length)
 static void fill_lists(uint64_t *lists, size_t length)
 {
     for (size_t i = 0; i < length; i++)
-        lists[i] = i % PAIR_WORDS == 0 ? below(3) : i % PAIR_WORDS == 1 ? below(LIST + 1) : 0xF000u + below(60);
+        lists[i] = i % PLAN_PAIR_WORDS == 0 ? below(3) : i % PLAN_PAIR_WORDS == 1 ? below(LIST + 1) : 0xF000u + below(60);
     if (length != 0 && below(4) == 0)
         lists[below((uint32_t)length)] = next();
 }
@@ -365,7 +376,7 @@ static void fuzz(void)
         return;
     }
     uint32_t likely = kind == POWER_ON && below(2) ? USUAL_PORTS : FEWEST_PORTS + below(7);
-    size_t length = kind == TAKE_QUEUE ? DEORASAENG_QUEUE_WORDS : some_size(DEORASAENG_RECORD_WORDS_FOR(likely), 4000);
+    size_t length = kind == TAKE_QUEUE ? DEORASAENG_QUEUE_WORDS : some_size(DEORASAENG_RECORD_WORDS_FOR(likely), 5000);
     uint64_t *record = some_record(length, likely);
     switch (kind) {
     case POWER_ON: judge(kind, deorasaeng_power_on(record, length, next(), (uint32_t)next()), 1, length == DEORASAENG_RECORD_WORDS); break;
@@ -391,6 +402,7 @@ int main(int argc, char **argv)
         fuzz();
     print_counts();
     print_losses();
+    print_names();
     printf("%" PRIu64 " buffers of no length were null\n", nulls);
     printf("%" PRIu64 " fuzzed calls from seed %s: every check held\n", calls, argc > 1 ? argv[1] : "1");
     return 0;

@@ -158,22 +158,6 @@ static void check_frame_joined(uint32_t port, uint32_t id, size_t length)
     check((accepted | lost | own_lost) >> ports == 0, "ports");
 }
 
-/* What a pair's words say of a PGN. */
-static enum deorasaeng_reason due_reason(uint32_t from, uint32_t to, uint32_t pgn)
-{
-    const uint64_t *pair = record + PAIRS_AT(ports) + PAIR_WORDS * pair_number(ports, from, to);
-    int listed = 0;
-    if (is_permanent(pgn))
-        return DEORASAENG_REASON_PERMANENT;
-    if (pair[0] == 0)
-        return DEORASAENG_REASON_CLEARED;
-    for (uint64_t i = 0; i < pair[1]; i++)
-        listed |= pair[2 + i] == pgn;
-    if (pair[0] == 1)
-        return listed ? DEORASAENG_REASON_STOPPED_AS_LISTED : DEORASAENG_REASON_NOT_LISTED_IN_BLOCK;
-    return listed ? DEORASAENG_REASON_LISTED_IN_PASS : DEORASAENG_REASON_STOPPED_AS_NOT_LISTED;
-}
-
 static void frame(void)
 {
     uint32_t port = some_port(), id = some_id();
@@ -196,9 +180,7 @@ static void frame(void)
     if (answer[DEORASAENG_CONSUMED])
         check((answer[DEORASAENG_ACCEPTED] | answer[DEORASAENG_LOST] | answer[DEORASAENG_COMPARED]) == 0, "consumed and forwarded");
     check_reasons(port, id, answer);
-    for (uint32_t q = 1; q <= ports; q++)
-        check(q == port || answer[DEORASAENG_CONSUMED] || DEORASAENG_REASON(answer[DEORASAENG_REASONS], q) == due_reason(port, q, pgn_of(id)), "another reason");
-    check(answer[DEORASAENG_COMPARED] <= LIST * (ports - 1), "compared");
+    check_due(port, id, before, answer);
     check(answer[DEORASAENG_EVENT] <= 7 && (answer[DEORASAENG_EVENT] == 6 || answer[DEORASAENG_OLD_NAME] == 0), "event");
 }
 
@@ -255,7 +237,7 @@ static void take(void)
 /* Whether a pair's words list a PGN. */
 static int lists(uint32_t from, uint32_t to, uint32_t pgn)
 {
-    const uint64_t *pair = record + PAIRS_AT(ports) + PAIR_WORDS * pair_number(ports, from, to);
+    const uint64_t *pair = pair_of(record, from, to);
     for (uint64_t i = 0; i < pair[1]; i++)
         if (pair[2 + i] == pgn)
             return 1;
@@ -298,6 +280,7 @@ static void message(void)
     uint32_t port = some_port(), requester = below(100) == 0 ? 254 : below(254);
     size_t room = below(50) == 0 ? DEORASAENG_REPLY_BYTES - 1 : DEORASAENG_REPLY_BYTES;
     some_payload(handed_in, length);
+    name_there(handed_in, length, record);
     lend(room);
     uint32_t number =
         deorasaeng_message(record, words, port, requester, handed_in, length, bytes, room, answer, DEORASAENG_MESSAGE_ANSWER);
@@ -310,6 +293,8 @@ static void message(void)
     check_entry(number, handed_in, length, answer);
     if (pgn != 0)
         check_parameters(number, port, length);
+    if (pgn != 0 && handed_in[0] == 7 && (number == 0 || number >= DEORASAENG_WRONG_BODY))
+        check_name_entry(number, handed_in, length, record, before, answer);
     if (number == DEORASAENG_PGN_ABSENT)
         check_absent(handed_in, length);
     if (pgn == 60672)
@@ -410,6 +395,7 @@ int main(int argc, char **argv)
     }
     print_counts();
     print_losses();
+    print_names();
     printf("17 at an entry behind the first %" PRIu64 ", at a pair of all behind the first %" PRIu64 "\n", later_entry, later_pair);
     printf("counts of a full queue %" PRIu64 ", of an empty one %" PRIu64 "\n", counts_of_full, counts_of_none);
     printf("%" PRIu64 " calls from seed %s, %" PRIu64 " with port 1 full: every check held\n", calls, argc > 1 ? argv[1] : "1", full);

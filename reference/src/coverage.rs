@@ -6,7 +6,8 @@ use std::ops::RangeInclusive;
 use crate::address::{is_claim, is_request_for_address_claimed, name_of, ClaimState, Event, StartAnswer};
 use crate::counts::{recount, Counts};
 use crate::frame::{self, is_pgn, Frame, PERMANENT};
-use crate::message::{entries, entry_places, MessageAnswer, WrongEntry};
+use crate::message::{entries, entry_places, name_entry, MessageAnswer, WrongEntry, NAME_PAYLOAD};
+use crate::names::{first_match, NameEntry, MOST_NAMES};
 use crate::pair::{added, Pair, Reason, LONGEST_LIST};
 use crate::parameters::{Whose, ENTRIES, HELD, LOST, MOST_LOSSES};
 use crate::script::{apply, is_passed_over, lines_of, read_call, Answer, Call};
@@ -122,6 +123,51 @@ pub const DEEP: [&str; 91] = [
     "pair with the port one past the count refused with 10",
 ];
 
+/// The further rows of NAME entries: function 7, and the frames that they are compared with.
+pub const NAMED: [&str; 36] = [
+    "NAME entry with mask 0",
+    "NAME entry with a mask of all ones",
+    "NAME entry with a mask of one bit",
+    "NAME entry with another mask",
+    "NAME entry with the PGN and NAME of another, another mask",
+    "NAME entry with the PGN and mask of another, another NAME",
+    "NAME entry with a permanent PGN",
+    "NAME entry with a PGN that the list has",
+    "NAME entry that was there already",
+    "NAME entry that was there already, beside seven others",
+    "NAME entry added by another port than 1",
+    "the eighth NAME entry",
+    "10 for a NAME entry with To 15",
+    "11 though the length is wrong, function 7",
+    "12 though three bytes are no PGN, function 7",
+    "22 though the pair is cleared, function 7",
+    "16 though the PGN is listed, function 7",
+    "reply 1 of a pair with NAME entries",
+    "entries told of a pair with NAME entries",
+    "17 for a PGN that a NAME entry has",
+    "Clear of a pair with NAME entries",
+    "Create of a pair that had NAME entries",
+    "listed by NAME in pass",
+    "listed by NAME in block",
+    "listed by NAME behind a plain list",
+    "listed by NAME, known on the arrival port",
+    "listed by NAME, known on another port",
+    "listed by NAME to a full port",
+    "listed by NAME at some ports, not at others",
+    "listed by NAME, sent to one address",
+    "compared with eight NAME entries, none matches",
+    "list has the PGN, a NAME entry would match",
+    "sender unknown, mask 0",
+    "sender withdrawn, would have matched",
+    "sender displaced, would have matched",
+    "sender with the unit's own address, mask 0",
+];
+
+/// The lengths of function 7's payloads, the bits of its masks of one bit, and the places of the entry that matches.
+pub const NAME_LENGTHS: RangeInclusive<usize> = 8..=30;
+pub const MASK_BITS: RangeInclusive<usize> = 0..=63;
+pub const NAME_PLACES: RangeInclusive<usize> = 1..=MOST_NAMES;
+
 /// The rows that only a script reaches whose counters stay (`generate::storms`).
 pub const AT_THE_MOST: [&str; 6] = [
     "losses of a pair told at the most",
@@ -132,8 +178,9 @@ pub const AT_THE_MOST: [&str; 6] = [
     "reset of the general counter at the most",
 ];
 
-/// The functions of parameters, their replies among them, and the numbers from 9 on that each can give.
-pub const BY_FUNCTION: [(u8, &[Number]); 6] = [
+/// Function 7 and those of parameters, their replies among them, and the numbers from 9 on that each can give.
+pub const BY_FUNCTION: [(u8, &[Number]); 7] = [
+    (7, &[0, 10, 11, 12, 22, 15, 16]),
     (128, &[0, 11, 23, 12]),
     (129, &[9]),
     (130, &[0, 11, 23, 12]),
@@ -162,6 +209,10 @@ pub struct Coverage {
     not_calls: u64,
     /// The ports of the unit that have lost a frame.
     losing: BTreeSet<u32>,
+    /// The pairs of the unit whose NAME entries were cleared.
+    emptied: BTreeSet<(u32, u32)>,
+    /// The NAMEs of the unit's table that withdrew from an address or were displaced there, by the address.
+    gone: BTreeMap<u32, (u64, &'static str)>,
     longest_queue: usize,
     largest_table: usize,
 }
@@ -206,6 +257,8 @@ impl Coverage {
         self.largest_table = self.largest_table.max(after.table.len());
         if matches!(call, Call::PowerOn { .. }) {
             self.losing.clear();
+            self.emptied.clear();
+            self.gone.clear();
         }
         let Some(before) = before else { return };
         if !matches!(call, Call::PowerOn { .. }) {
@@ -217,6 +270,8 @@ impl Coverage {
             (Call::Frame { port, id, bytes }, Answer::Frame(Ok(answer))) => {
                 let frame = Frame { id: *id, bytes: bytes.clone() };
                 self.count_frame(before, *port, &frame, answer);
+                self.count_by_name(before, *port, &frame, answer);
+                self.note_gone(before, &frame, answer);
                 self.count_losses(before, *port, &answer.lost, &answer.own_lost);
             }
             (Call::Start, Answer::Start(Ok(answer))) => {
@@ -281,7 +336,6 @@ impl Coverage {
     /// A message of the functions of parameters.
     fn count_parameter(&mut self, before: &Unit, payload: &[u8], number: Number, written: &[u8]) {
         let (function, byte, parameter) = (payload[0], payload[1], payload[2]);
-        self.add(&format!("function {function} number {number}"));
         self.add_if(number == 10 && byte & 0x0F == 15, "10 for a parameter of To 15");
         self.add_if(number == 11 && !HELD.contains(&parameter), "11 though the parameter is not held");
         self.add_if(number == 23 && payload.len() != 8, "23 though the length is wrong");
@@ -306,12 +360,120 @@ impl Coverage {
                 self.add_if(told != 0, &format!("entries {of} told, not 0"));
                 let cleared = before.pairs.get(&(from, to)).is_some_and(Pair::is_cleared);
                 self.add_if(function == 131 && cleared, "entries of a cleared pair told");
+                let has_names = before.names.get(&(from, to)).is_some_and(|names| !names.is_empty());
+                self.add_if(function == 131 && has_names, "entries told of a pair with NAME entries");
             }
             LOST => {
                 self.add_if(told != 0, &format!("losses {of} told, not 0"));
                 self.add_if(told == MOST_LOSSES, &format!("losses {of} told at the most"));
                 let sum: u64 = before.losses.pairs.values().map(|counter| counter.told()).sum();
                 self.add_if(function == 128 && told != sum, "losses in general told, no sum of the pairs'");
+            }
+            _ => {}
+        }
+    }
+
+    /// A message of function 7.
+    fn count_name_entry(&mut self, before: &Unit, port: u32, payload: &[u8], number: Number) {
+        self.add(&format!("function 7 of length {}", payload.len()));
+        let no_pgn = is_no_pgn(&payload[2..5]);
+        let pair = before.one_pair(payload[1]);
+        self.add_if(number == 10 && payload[1] & 0x0F == 15, "10 for a NAME entry with To 15");
+        self.add_if(number == 11 && payload.len() != NAME_PAYLOAD, "11 though the length is wrong, function 7");
+        self.add_if(number == 12 && no_pgn, "12 though three bytes are no PGN, function 7");
+        let cleared = pair.is_ok_and(|pair| before.pairs[&pair].is_cleared());
+        self.add_if(number == 22 && cleared, "22 though the pair is cleared, function 7");
+        let (Ok(pair), Ok(entry)) = (pair, name_entry(payload)) else { return };
+        let listed = before.pairs[&pair].entries().contains(&entry.pgn);
+        self.add_if(number == 16 && listed, "16 though the PGN is listed, function 7");
+        if number == 0 {
+            self.add_if(port != 1, "NAME entry added by another port than 1");
+            self.add_if(listed, "NAME entry with a PGN that the list has");
+            self.count_entry(&before.names[&pair], &entry);
+        }
+    }
+
+    /// A NAME entry that was taken, beside those that the pair had.
+    fn count_entry(&mut self, names: &[NameEntry], entry: &NameEntry) {
+        let NameEntry { pgn, name, mask } = *entry;
+        self.add(match mask.count_ones() {
+            0 => "NAME entry with mask 0",
+            1 => "NAME entry with a mask of one bit",
+            64 => "NAME entry with a mask of all ones",
+            _ => "NAME entry with another mask",
+        });
+        if mask.is_power_of_two() {
+            self.add(&format!("masks of bit {}", mask.trailing_zeros()));
+        }
+        self.add_if(PERMANENT.contains(&pgn), "NAME entry with a permanent PGN");
+        let there = names.contains(entry);
+        self.add_if(there, "NAME entry that was there already");
+        self.add_if(there && names.len() == MOST_NAMES, "NAME entry that was there already, beside seven others");
+        self.add_if(!there && names.len() + 1 == MOST_NAMES, "the eighth NAME entry");
+        let same = |one: &&NameEntry| !there && one.pgn == pgn;
+        let other_mask = names.iter().filter(same).any(|one| one.name == name);
+        let other_name = names.iter().filter(same).any(|one| one.mask == mask);
+        self.add_if(other_mask, "NAME entry with the PGN and NAME of another, another mask");
+        self.add_if(other_name, "NAME entry with the PGN and mask of another, another NAME");
+    }
+
+    /// A frame at the pairs that have NAME entries.
+    fn count_by_name(&mut self, before: &Unit, port: u32, frame: &Frame, answer: &FrameAnswer) {
+        let (pgn, sa) = (frame::pgn(frame.id), frame::sa(frame.id));
+        let sender = before.table.get(&sa).map(|holder| holder.name);
+        let asked = if answer.consumed || PERMANENT.contains(&pgn) { vec![] } else { before.other_ports(port) };
+        for to in asked.iter().filter(|to| !before.names[&(port, **to)].is_empty()) {
+            let (pair, names) = (&before.pairs[&(port, *to)], &before.names[&(port, *to)]);
+            let place = first_match(names, pgn, sender);
+            if answer.by_name.contains(to) {
+                self.add(&format!("matched NAME entry {}", place.unwrap_or(0)));
+                self.add_if(pair.mode() == 1, "listed by NAME in pass");
+                self.add_if(pair.mode() == 0, "listed by NAME in block");
+                self.add_if(!pair.entries().is_empty(), "listed by NAME behind a plain list");
+                self.add_if(before.queues[to].len() == LONGEST_QUEUE, "listed by NAME to a full port");
+            } else if pair.entries().contains(&pgn) {
+                self.add_if(place.is_some(), "list has the PGN, a NAME entry would match");
+            } else {
+                self.add_if(names.len() == MOST_NAMES, "compared with eight NAME entries, none matches");
+                self.count_no_match(before, names, pgn, sa);
+            }
+        }
+        if !answer.by_name.is_empty() {
+            let known = before.table.get(&sa).map(|holder| holder.port);
+            self.add_if(known == Some(port), "listed by NAME, known on the arrival port");
+            self.add_if(known != Some(port), "listed by NAME, known on another port");
+            let others = answer.by_name.len() < asked.len();
+            self.add_if(others, "listed by NAME at some ports, not at others");
+            let one = frame::pf(frame.id) < 240 && frame::ps(frame.id) != frame::GLOBAL;
+            self.add_if(one, "listed by NAME, sent to one address");
+        }
+    }
+
+    /// A sender that no NAME entry matches, though one has the PGN.
+    fn count_no_match(&mut self, before: &Unit, names: &[NameEntry], pgn: u32, sa: u32) {
+        let any = names.iter().any(|entry| entry.pgn == pgn && entry.mask == 0);
+        let (own, known) = (before.address() == Some(sa), before.table.contains_key(&sa));
+        self.add_if(any && own, "sender with the unit's own address, mask 0");
+        self.add_if(any && !own && !known, "sender unknown, mask 0");
+        if let Some((name, how)) = self.gone.get(&sa).copied() {
+            let would = first_match(names, pgn, Some(name)).is_some();
+            self.add_if(would, &format!("sender {how}, would have matched"));
+        }
+    }
+
+    /// Who withdrew or was displaced, after the frame.
+    fn note_gone(&mut self, before: &Unit, frame: &Frame, answer: &FrameAnswer) {
+        match answer.event {
+            Event::Withdrew => {
+                let name = name_of(&frame.bytes);
+                let held = before.table.iter().filter(|(_, holder)| holder.name == name);
+                self.gone.extend(held.map(|(&address, _)| (address, (name, "withdrawn"))));
+            }
+            Event::TookOver(old) => {
+                self.gone.insert(frame::sa(frame.id), (old, "displaced"));
+            }
+            Event::Recorded => {
+                self.gone.remove(&frame::sa(frame.id));
             }
             _ => {}
         }
@@ -335,8 +497,8 @@ impl Coverage {
                 });
             }
         } else if PERMANENT.contains(&(pgn & 0xFFFF)) {
-            let stopped = pairs.iter().any(|pair| !pair.ask(pgn).crosses());
-            let listed = pairs.iter().any(|pair| pair.ask(pgn) == Reason::ListedInPass);
+            let stopped = answer.reasons.iter().flatten().any(|reason| !reason.crosses());
+            let listed = answer.reasons.contains(&Some(Reason::ListedInPass));
             self.add_if(stopped, "permanent PGN with a page bit stopped");
             self.add_if(listed, "permanent PGN with a page bit let through by a list");
         }
@@ -416,7 +578,12 @@ impl Coverage {
         let function = payload[0];
         self.functions.insert(function);
         if BY_FUNCTION.iter().any(|(listed, _)| *listed == function) {
-            self.count_parameter(before, payload, answer.number, written);
+            self.add(&format!("function {function} number {}", answer.number));
+        }
+        match function {
+            7 => self.count_name_entry(before, port, payload, answer.number),
+            128..=133 => self.count_parameter(before, payload, answer.number, written),
+            _ => {}
         }
         if answer.number != 9 {
             self.pair_bytes.insert((port, payload[1]));
@@ -473,6 +640,8 @@ impl Coverage {
         let later: Vec<usize> = named.iter().filter(|pair| pair.1 > to).filter_map(lacks).collect();
         let place = named.iter().position(|pair| pair.1 == to).unwrap_or(0);
         let (earlier, pgn) = (&entries[..entry - 1], entries[entry - 1]);
+        let by_name = named.iter().filter(|pair| pair.1 == to).any(|pair| names_have(&before.names[pair], pgn));
+        self.add_if(by_name, "17 for a PGN that a NAME entry has");
         self.add(&format!("17 at entry {entry}"));
         self.add_if(named.len() > 1, &format!("17 at pair {} of To 15", place + 1));
         self.add_if(entry > 1 && place > 0, "17 at a later entry and a later pair of To 15");
@@ -501,7 +670,16 @@ impl Coverage {
         self.add_if(function == 64 && length == 255, "reply 65 of 255 bytes");
         let shown = before.pairs.get(&(u32::from(payload[1] >> 4), u32::from(payload[1] & 0x0F)));
         self.add_if(function == 0 && shown.is_some_and(lists_permanent), "permanent PGN in a reply");
+        let shown_names = before.names.get(&(u32::from(payload[1] >> 4), u32::from(payload[1] & 0x0F)));
+        let has_names = shown_names.is_some_and(|names| !names.is_empty());
+        self.add_if(function == 0 && has_names, "reply 1 of a pair with NAME entries");
         for (pair, list) in &after.pairs {
+            if !before.names[pair].is_empty() && after.names[pair].is_empty() {
+                self.add("Clear of a pair with NAME entries");
+                self.emptied.insert(*pair);
+            }
+            let created = before.pairs[pair].is_cleared() && !list.is_cleared();
+            self.add_if(created && self.emptied.contains(pair), "Create of a pair that had NAME entries");
             let gone = lists_permanent(&before.pairs[pair]) && !lists_permanent(list);
             self.add_if(function == 3 && gone, "permanent PGN deleted");
             let (old, new) = (before.pairs[pair].entries().len(), list.entries().len());
@@ -536,7 +714,7 @@ impl Coverage {
         lines.push(self.line_of("permanent PGNs of length", &LENGTHS, "permanent of "));
         lines.push(self.line_of(
             "done by function",
-            &["0", "2", "3", "4", "6", "64", "128", "130", "131", "133"],
+            &["0", "2", "3", "4", "6", "7", "64", "128", "130", "131", "133"],
             "done ",
         ));
         lines.push(self.places_of("22 at entry", WRONG_PLACES, ""));
@@ -551,7 +729,10 @@ impl Coverage {
             let counts = HELD.map(|held| format!("{held}: {}", self.reached(&format!("parameter {held} {of}"))));
             lines.push(format!("parameters told {of} {}", counts.join(", ")));
         }
-        for row in DEEP.iter().chain(&AT_THE_MOST) {
+        lines.push(self.places_of("function 7 of length", NAME_LENGTHS, ""));
+        lines.push(self.places_of("masks of bit", MASK_BITS, ""));
+        lines.push(self.places_of("matched NAME entry", NAME_PLACES, ""));
+        for row in DEEP.iter().chain(&NAMED).chain(&AT_THE_MOST) {
             lines.push(format!("{row}: {}", self.reached(row)));
         }
         lines.push(format!("function bytes answered: {} of 256", self.functions.len()));
@@ -633,6 +814,10 @@ fn destination_row(frame: &Frame, answer: &FrameAnswer) -> &'static str {
 
 fn lists_permanent(pair: &Pair) -> bool {
     pair.entries().iter().any(|pgn| PERMANENT.contains(pgn))
+}
+
+fn names_have(names: &[NameEntry], pgn: u32) -> bool {
+    names.iter().any(|entry| entry.pgn == pgn)
 }
 
 /// Where a command's entries begin.

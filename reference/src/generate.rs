@@ -2,6 +2,7 @@
 
 use crate::address::ClaimState;
 use crate::frame::{is_pgn, HIGHEST_ADDRESS, PERMANENT};
+use crate::names::NameEntry;
 use crate::parameters::MOST_LOSSES;
 use crate::script::{apply, Call};
 use crate::unit::Unit;
@@ -69,13 +70,14 @@ pub fn sweep() -> Vec<Call> {
 fn sweep_of(ports: u32, tools: &[u32]) -> Vec<Call> {
     let mut calls = vec![Call::PowerOn { name: 1 << 63, preferred: 200, ports }, Call::Start, Call::Quiet];
     calls.extend((1..=ports).map(|port| Call::Frame { port, id: 0x18EE_FF20 + port, bytes: vec![port as u8; 8] }));
-    for function in [6, 0, 2, 3, 4, 64, 128, 130, 131, 133] {
+    for function in [6, 0, 2, 7, 3, 4, 64, 128, 130, 131, 133] {
         for &port in tools {
             for byte in 0..=255 {
-                let payload = if function < 128 {
-                    payload(function, byte, byte % 2, &[65265 + u32::from(byte % 3)])
-                } else {
-                    vec![function, byte, [9, 3, 2, 1, 9, 0, 9][usize::from(byte % 7)], byte, 0, byte, 0, 0]
+                let pgn = 65265 + u32::from(byte % 3);
+                let payload = match function {
+                    7 => name_payload(byte, &NameEntry { pgn, name: port.into(), mask: 1 << (byte % 64) }, byte.into()),
+                    0..=127 => payload(function, byte, byte % 2, &[pgn]),
+                    _ => vec![function, byte, [9, 3, 2, 1, 9, 0, 9][usize::from(byte % 7)], byte, 0, byte, 0, 0],
                 };
                 calls.push(Call::Message { port, requester: 33, payload });
             }
@@ -101,6 +103,9 @@ struct Generator {
     pair_sweep: u32,
     /// Steps through the places of a command where an entry is wrong.
     place_sweep: usize,
+    /// Steps through the lengths of function 7's payload, and through the bits of its mask.
+    length_sweep: usize,
+    bit_sweep: u32,
 }
 
 /// Numbers that are a PGN, with those of the rules and the limits of the range among them.
@@ -110,7 +115,7 @@ const PGNS: [u32; 22] = [
 ];
 /// Numbers that are none.
 const NOT_PGNS: [u32; 8] = [0x40000, 0xFF_FFFF, 0xEF01, 0xEEFF, 1, 0x3EF80, 0x40F0, 0xFE_F100];
-const FUNCTIONS: [u8; 6] = [0, 2, 3, 4, 6, 64];
+const FUNCTIONS: [u8; 7] = [0, 2, 3, 4, 6, 7, 64];
 /// Parameters that are held, more often the losses, and some that are not.
 const PARAMETERS: [u8; 14] = [1, 2, 3, 3, 3, 9, 9, 9, 9, 9, 0, 4, 8, 255];
 
@@ -131,6 +136,8 @@ impl Generator {
             function_sweep,
             pair_sweep,
             place_sweep: 0,
+            length_sweep: 0,
+            bit_sweep: 0,
         }
     }
 
@@ -335,13 +342,14 @@ impl Generator {
 impl Generator {
     fn frame(&mut self) {
         let port = self.some_port();
-        match self.random.below(21) {
+        match self.random.below(23) {
             0..=8 => self.traffic(),
             9..=13 => self.claim(),
             14..=16 => self.request(),
             17 => self.near_claim(),
             18 => self.frame_to_the_unit(),
             19 => self.permanent(port),
+            20..=21 => self.named_traffic(port),
             _ => self.bad_frame(),
         }
     }
@@ -376,6 +384,22 @@ impl Generator {
         let length = self.random.below(9);
         let bytes = self.some_bytes(length);
         self.send(port, priority, pgn, ps, sa, bytes);
+    }
+
+    /// A frame of a PGN that a NAME entry of a pair from the port has: its sender known or not, or the unit's own address.
+    fn named_traffic(&mut self, port: u32) {
+        let named = self.unit.names.iter().filter(|((from, _), _)| *from == port);
+        let pgns: Vec<u32> = named.flat_map(|(_, names)| names).map(|entry| entry.pgn).collect();
+        if pgns.is_empty() {
+            return self.traffic();
+        }
+        let (any, own) = (self.some_sa(), self.unit.address().unwrap_or(0));
+        let table: Vec<u32> = self.unit.table.keys().copied().chain([any]).collect();
+        let known = self.random.pick(&table);
+        let sa = self.random.pick(&[known, known, known, known, any, own]);
+        let (pgn, ps) = (self.random.pick(&pgns), self.some_ps());
+        let priority = self.random.below(8);
+        self.send(port, priority, pgn, ps, sa, vec![]);
     }
 
     /// Many frames into one port with no take.
@@ -611,7 +635,7 @@ impl Generator {
 // Messages.
 impl Generator {
     fn message(&mut self) {
-        match self.random.below(34) {
+        match self.random.below(38) {
             0..=9 => self.command(),
             10..=11 => self.fill_list(),
             12 => self.all_pairs(),
@@ -625,6 +649,8 @@ impl Generator {
             26 => self.silent_refusal(),
             27..=28 => self.wrong_entries(),
             29..=32 => self.parameters(),
+            33..=35 => self.names_of_a_pair(),
+            36 => self.wrong_names(),
             _ => self.absent_entries(),
         }
     }
@@ -935,6 +961,120 @@ impl Generator {
         }
     }
 
+    /// A port and a pair that its tool may name, with a list: one is made where it is cleared, and now and then anew.
+    fn listed_pair(&mut self) -> (u32, (u32, u32)) {
+        let from = self.some_port();
+        let to = self.some_other_port(from);
+        let port = self.random.pick(&[1, from, to]);
+        let byte = pair_byte(from, to);
+        if self.random.once_in(4) {
+            self.hand_in(port, payload(4, byte, 0, &[]));
+        }
+        if self.unit.pairs[&(from, to)].is_cleared() {
+            let (count, mode) = (self.random.pick(&[1, 1, 2, 5]), self.random.pick(&[0, 1, 1]));
+            let entries = self.different_pgns(count);
+            self.hand_in(port, payload(6, byte, mode, &entries));
+        }
+        if self.random.once_in(2) {
+            let listed = self.unit.pairs[&(from, to)].entries().to_vec();
+            self.hand_in(port, payload(3, byte, 0, &listed));
+        }
+        (port, (from, to))
+    }
+
+    /// A NAME entry of few PGNs and NAMEs, with no bit in its mask, all, one after the other or any; now and then of a PGN that the pair lists, or a permanent one.
+    fn some_name_entry(&mut self, (from, to): (u32, u32)) -> NameEntry {
+        self.bit_sweep += 1;
+        let (any, permanent) = (self.random.number(), self.some_permanent());
+        let mask = self.random.pick(&[0, u64::MAX, 1 << (self.bit_sweep % 64), 1 << (self.bit_sweep % 64), any]);
+        let held: Vec<u64> = self.unit.table.values().map(|holder| holder.name).collect();
+        let name = if held.is_empty() || self.random.once_in(4) { self.names[0] } else { self.random.pick(&held) };
+        let flipped = name ^ (1 << (self.bit_sweep % 64));
+        let few = [self.pgns[4], self.pgns[7], self.pgns[8]];
+        let listed = self.unit.pairs[&(from, to)].entries().first().copied().unwrap_or(few[0]);
+        let pgn = self.random.pick(&[few[0], few[0], few[0], few[1], few[2], listed, permanent]);
+        NameEntry { pgn, name: self.random.pick(&[name, name, name, flipped]), mask }
+    }
+
+    /// NAME entries for a pair up to the eighth and the ninth, some of them again, with another rate, mask or NAME; frames of senders that they name, before and
+    /// after these withdraw or are displaced; what is told of the pair; now and then a Clear and a Create, and the frames again.
+    fn names_of_a_pair(&mut self) {
+        let (port, pair) = self.listed_pair();
+        let byte = pair_byte(pair.0, pair.1);
+        for _ in 0..self.random.pick(&[1, 2, 4, 12]) {
+            let entry = self.some_name_entry(pair);
+            self.add_name(port, byte, entry);
+            let there = self.unit.names[&pair].clone();
+            let again = if there.is_empty() { entry } else { self.random.pick(&there) };
+            match self.random.below(6) {
+                0 => self.add_name(port, byte, again),
+                1 => self.add_name(port, byte, NameEntry { mask: !again.mask, ..again }),
+                2 => self.add_name(port, byte, NameEntry { name: !again.name, ..again }),
+                _ => {}
+            }
+            self.named_traffic(pair.0);
+        }
+        self.senders_go(pair.0);
+        let (pgn, none) = (self.unit.names[&pair].first().map_or(0, |entry| entry.pgn), vec![]);
+        let function = self.random.pick(&[0, 131, 3, 4]);
+        let entries = if function == 3 { vec![pgn] } else { none };
+        self.hand_in(port, payload(function, byte, 3, &entries));
+        if function == 4 {
+            let mode = self.random.pick(&[0, 1]);
+            self.hand_in(port, payload(6, byte, mode, &[self.pgns[1]]));
+            (0..3).for_each(|_| self.named_traffic(pair.0));
+        }
+    }
+
+    /// Function 7 with any two bytes of rate.
+    fn add_name(&mut self, port: u32, byte: u8, entry: NameEntry) {
+        let rate = self.random.number() as u16;
+        self.hand_in(port, name_payload(byte, &entry, rate));
+    }
+
+    /// Frames that NAME entries of the pairs from a port list, before and after their sender withdraws or a lower NAME takes its address.
+    fn senders_go(&mut self, port: u32) {
+        for _ in 0..3 {
+            let (address, own) = (self.random.pick(&self.addresses), self.unit.address());
+            if own == Some(address) {
+                continue;
+            }
+            let (claimant, at) = (self.random.pick(&self.names).max(2), self.some_port());
+            self.send(at, 6, 60928, 255, address, claimant.to_le_bytes().to_vec());
+            let Some(name) = self.unit.table.get(&address).map(|holder| holder.name) else { continue };
+            let named = self.unit.names.iter().filter(|((from, _), _)| *from == port).flat_map(|(_, names)| names);
+            let pgns: Vec<u32> =
+                named.filter(|entry| entry.matches(entry.pgn, Some(name))).map(|entry| entry.pgn).collect();
+            let pgn = if pgns.is_empty() { self.pgns[4] } else { self.random.pick(&pgns) };
+            self.send(port, 6, pgn, 255, address, vec![]);
+            let (next, claimant) = if self.random.once_in(2) { (254, name) } else { (address, name.saturating_sub(1)) };
+            self.send(at, 6, 60928, 255, next, claimant.to_le_bytes().to_vec());
+            self.send(port, 6, pgn, 255, address, vec![]);
+        }
+    }
+
+    /// Function 7 of every length from 8 to 30, with one fault or several: three bytes that are no PGN, To 15 and other pair bytes, a pair that is cleared or full.
+    fn wrong_names(&mut self) {
+        for _ in 0..6 {
+            let (port, good) = self.port_and_pair();
+            let (any_port, any) = (self.some_port(), self.random.number() as u8);
+            let pair = self.pairs_of(good)[0];
+            let mut entry = self.some_name_entry(pair);
+            if self.random.once_in(4) {
+                entry.pgn = self.random.pick(&NOT_PGNS);
+            }
+            let one = pair_byte(pair.0, pair.1);
+            let byte = self.random.pick(&[one, one, one, one, good, any]);
+            let mut bytes = name_payload(byte, &entry, any.into());
+            if self.random.once_in(2) {
+                self.length_sweep += 1;
+                bytes.resize(8 + self.length_sweep % 23, 0xFF);
+            }
+            let tool = self.random.pick(&[port, port, port, any_port]);
+            self.hand_in(tool, bytes);
+        }
+    }
+
     /// A place below the count, step by step.
     fn some_place(&mut self, count: usize) -> usize {
         self.place_sweep += 1 + self.random.below(2) as usize;
@@ -949,7 +1089,7 @@ impl Generator {
             let past = self.unit.ports + 1;
             let byte =
                 self.random.pick(&[allowed, allowed, allowed, 0x11, pair_byte(past, 1), pair_byte(1, past), 0xF1]);
-            let function = self.random.pick(&[0, 2, 3, 4, 6, 64, 5, 128, 131, 133]);
+            let function = self.random.pick(&[0, 2, 3, 4, 6, 64, 5, 7, 128, 131, 133]);
             let mode = self.random.pick(&[0, 1, 2]);
             let count = self.random.pick(&[1, 2, 33]);
             let mut entries = self.different_pgns(count);
@@ -982,6 +1122,16 @@ fn pair_byte(from: u32, to: u32) -> u8 {
 /// The PGNs over and over, up to so many entries.
 fn repeated(pgns: &[u32], times: usize) -> Vec<u32> {
     pgns.iter().copied().cycle().take(times.max(pgns.len())).collect()
+}
+
+/// A payload of function 7.
+fn name_payload(byte: u8, entry: &NameEntry, rate: u16) -> Vec<u8> {
+    let mut bytes = vec![7, byte];
+    bytes.extend(&entry.pgn.to_le_bytes()[..3]);
+    bytes.extend(entry.name.to_le_bytes());
+    bytes.extend(entry.mask.to_le_bytes());
+    bytes.extend(rate.to_le_bytes());
+    bytes
 }
 
 /// A payload in good form: filling only in eight bytes.

@@ -5,6 +5,7 @@ pub const FEWEST_PORTS: usize = 2;
 pub const USUAL_PORTS: usize = 4;
 pub const MOST_PORTS: usize = 8;
 pub const LIST: usize = 32;
+pub const NAMES: usize = 8;
 pub const QUEUE: usize = 32;
 pub const RANKS: usize = 8;
 /// The addresses that the table has a place for.
@@ -31,8 +32,16 @@ pub const QUEUES_AT: usize = TABLE_AT + PLACE_WORDS * PLACES;
 pub const COUNTS_AT: usize = 1;
 pub const FRAMES_AT: usize = COUNTS_AT + COUNTS_ANSWER;
 pub const QUEUE_WORDS: usize = FRAMES_AT + 2 * QUEUE;
-/// A pair: its mode, its count, its list.
-pub const PAIR_WORDS: usize = 2 + LIST;
+/// A pair: its mode, its count, its list; behind that how many NAME entries it has, and for each its PGN, NAME and mask.
+pub const NAMES_AT: usize = 2 + LIST;
+pub const NAME_WORDS: usize = 3;
+pub const PAIR_WORDS: usize = NAMES_AT + 1 + NAME_WORDS * NAMES;
+
+/// The mode word of a pair: 0 cleared, 1 block, 2 pass; from 3 on with NAME entries, 3 block and all above it pass. Below 3 the words behind the list mean nothing.
+pub const BLOCK: u64 = 1;
+pub const PASS: u64 = 2;
+pub const BLOCK_NAMED: u64 = 3;
+pub const PASS_NAMED: u64 = 4;
 
 /// The pairs lie elsewhere with another number of ports, in order of From, then To.
 pub const fn pairs_at(ports: usize) -> usize {
@@ -58,12 +67,13 @@ pub fn ports_of(words: &[u64]) -> usize {
     }
 }
 
-/// A plan: for each of its units eight ports, a word each, and 56 lists.
+/// A plan: for each of its units eight ports, a word each, and 56 pairs, which have a list alone and modes 0 to 2.
 pub const MOST_SEGMENTS: usize = 16;
 pub const MOST_UNITS: usize = 16;
 pub const PLAN_PAIRS: usize = MOST_PORTS * (MOST_PORTS - 1);
 pub const PLAN_PORTS: usize = MOST_UNITS * MOST_PORTS;
-pub const PLAN_LISTS: usize = MOST_UNITS * PLAN_PAIRS * PAIR_WORDS;
+pub const PLAN_PAIR_WORDS: usize = 2 + LIST;
+pub const PLAN_LISTS: usize = MOST_UNITS * PLAN_PAIRS * PLAN_PAIR_WORDS;
 
 /// A port of a unit and the segment on it, all three counted from 1.
 #[derive(Clone, Copy, Debug, PartialEq, Eq)]

@@ -11,6 +11,7 @@ use std::ops::Range;
 
 use crate::frame::{Frame, NULL};
 use crate::layout::*;
+use crate::names::NameEntry;
 use crate::pair::Pair;
 use crate::parameters::{Losses, MOST_LOSSES};
 use crate::plan::Question;
@@ -229,22 +230,30 @@ fn own_difference(words: &[u64], unit: &Unit) -> Option<String> {
     (words != expected).then(|| format!("own words {words:X?}, expected {expected:X?}"))
 }
 
-/// For each pair in order of From, then To: mode, count, PGNs.
+/// A pair's words as the list and NAME entries that they mean; a count or number above its size is the size.
+fn read_pair(block: &[u64]) -> (Pair, Vec<NameEntry>) {
+    let count = block[1].min(LIST as u64) as usize;
+    let entries = block[2..2 + count].iter().map(|&pgn| pgn as u32).collect();
+    let pair = match block[0] {
+        0 => Pair::Cleared,
+        BLOCK | BLOCK_NAMED => Pair::Block(entries),
+        _ => Pair::Pass(entries),
+    };
+    let named = if block[0] < BLOCK_NAMED { 0 } else { block[NAMES_AT].min(NAMES as u64) as usize };
+    let names = block[NAMES_AT + 1..].chunks(NAME_WORDS).take(named);
+    (pair, names.map(|words| NameEntry { pgn: words[0] as u32, name: words[1], mask: words[2] }).collect())
+}
+
+/// The pairs in order of From, then To.
 fn pairs_difference(words: &[u64], unit: &Unit) -> Option<String> {
     let mut blocks = words.chunks(PAIR_WORDS);
     for from in unit.all_ports() {
         for to in unit.other_ports(from) {
-            let block = blocks.next()?;
-            let count = (block[1] as usize).min(LIST);
-            let entries = || block[2..2 + count].iter().map(|&pgn| pgn as u32).collect();
-            let found = match block[0] {
-                0 => Pair::Cleared,
-                1 => Pair::Block(entries()),
-                _ => Pair::Pass(entries()),
-            };
-            let expected = &unit.pairs[&(from, to)];
-            if found != *expected {
-                return Some(format!("pair {from} to {to}: {found:?}, expected {expected:?}"));
+            let (pair, names) = read_pair(blocks.next()?);
+            let (expected, expected_names) = (&unit.pairs[&(from, to)], &unit.names[&(from, to)]);
+            if (&pair, &names) != (expected, expected_names) {
+                let found = format!("{pair:?} {names:X?}");
+                return Some(format!("pair {from} to {to}: {found}, expected {expected:?} {expected_names:X?}"));
             }
         }
     }

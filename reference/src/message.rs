@@ -1,7 +1,8 @@
-//! "Network messages": functions 0, 2, 3, 4, 6 and 64, and their refusals; `parameters` has those of 128 on.
+//! "Network messages": functions 0, 2, 3, 4, 6, 7 and 64, and their refusals; `parameters` has those of 128 on.
 
-use crate::address::ClaimState;
+use crate::address::{name_of, ClaimState};
 use crate::frame::{self, is_pgn};
+use crate::names::{NameEntry, MOST_NAMES};
 use crate::pair::{added, deleted, Pair, LONGEST_LIST};
 use crate::unit::{Number, Unit};
 
@@ -13,6 +14,9 @@ pub const ACKNOWLEDGMENT: u32 = 59392;
 pub const LONGEST_MESSAGE: usize = 1785;
 /// The shortest payload; replies under it are filled with FF.
 pub const SHORTEST_MESSAGE: usize = 8;
+
+/// The length of function 7's payload: its last two bytes, the rate, are not looked at.
+pub const NAME_PAYLOAD: usize = 23;
 
 const ALL_PORTS: u32 = 15;
 pub(crate) const FILLING: u8 = 0xFF;
@@ -104,6 +108,7 @@ impl Unit {
                 Ok(None)
             }
             6 => self.create(port, payload).map(|()| None),
+            7 => self.add_by_name(port, payload).map(|()| None),
             64 => Ok(Some(self.addresses(port, payload)?)),
             128 | 131 => Ok(Some(self.parameter(port, payload)?)),
             130 | 133 => {
@@ -167,13 +172,14 @@ impl Unit {
         Ok(())
     }
 
-    /// 4 Clear.
+    /// 4 Clear: the lists and the NAME entries.
     fn clear(&mut self, port: u32, payload: &[u8]) -> Result<(), Number> {
         let named = self.pairs_named(payload[1])?;
         check_right(port, &named)?;
         check_eight_bytes(payload)?;
         for pair in named {
             self.pairs.insert(pair, Pair::Cleared);
+            self.names.insert(pair, Vec::new());
         }
         Ok(())
     }
@@ -197,6 +203,23 @@ impl Unit {
         for pair in named {
             self.pairs.insert(pair, Pair::create(mode, list.clone()));
         }
+        Ok(())
+    }
+
+    /// 7 Add by NAME: one entry to one pair; one that is there already changes nothing, be there eight.
+    fn add_by_name(&mut self, port: u32, payload: &[u8]) -> Result<(), Refusal> {
+        let named = self.one_pair(payload[1])?;
+        check_right(port, &[named])?;
+        let entry = name_entry(payload)?;
+        self.check_none_cleared(&[named])?;
+        let names = self.names.get_mut(&named).expect("a pair of the unit");
+        if names.contains(&entry) {
+            return Ok(());
+        }
+        if names.len() == MOST_NAMES {
+            return Err(16.into());
+        }
+        names.push(entry);
         Ok(())
     }
 
@@ -280,6 +303,16 @@ pub(crate) fn entries(payload: &[u8], first: usize) -> Result<Vec<u32>, Refusal>
         named.push(pgn);
     }
     Ok(named)
+}
+
+/// The NAME entry of a payload of function 7: PGN, NAME, mask; or number 12, or 22 at entry 1.
+pub(crate) fn name_entry(payload: &[u8]) -> Result<NameEntry, Refusal> {
+    if payload.len() != NAME_PAYLOAD {
+        return Err(12.into());
+    }
+    let pgn = entry([payload[2], payload[3], payload[4]]);
+    let pgn = pgn.ok_or(Refusal { number: 22, wrong: Some(WrongEntry::NoPgn { entry: 1 }) })?;
+    Ok(NameEntry { pgn, name: name_of(&payload[5..13]), mask: name_of(&payload[13..21]) })
 }
 
 /// The bytes of each entry, or number 12. Eight bytes have one entry and filling, FF to the last byte, and Add's and

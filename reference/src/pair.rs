@@ -1,6 +1,7 @@
-//! A directed pair of ports and its filter list ("Forwarding", rules 2 and 5).
+//! A directed pair of ports and its filter list ("Forwarding", rules 2 and 5); `names` has what is beside the list.
 
 use crate::frame::PERMANENT;
+use crate::names::{first_match, NameEntry};
 
 /// The longest filter list.
 pub const LONGEST_LIST: usize = 32;
@@ -33,6 +34,16 @@ impl Reason {
             Reason::StoppedAsNotListed => 6,
         }
     }
+}
+
+/// What a pair answers for a frame.
+#[derive(Clone, Copy, Debug, PartialEq, Eq)]
+pub struct Asked {
+    pub reason: Reason,
+    /// How many entries were compared.
+    pub compared: usize,
+    /// Whether it counts as listed by a NAME entry.
+    pub by_name: bool,
 }
 
 /// Cleared is not the same as a block pair with no entries (numbers 14 and 15).
@@ -75,27 +86,32 @@ impl Pair {
         }
     }
 
-    /// Forwarding rule 2: a permanent PGN crosses, the others by mode and list.
-    pub fn ask(&self, pgn: u32) -> Reason {
-        match self {
-            _ if PERMANENT.contains(&pgn) => Reason::Permanent,
-            Pair::Cleared => Reason::Cleared,
-            Pair::Pass(entries) if entries.contains(&pgn) => Reason::ListedInPass,
-            Pair::Pass(_) => Reason::StoppedAsNotListed,
-            Pair::Block(entries) if entries.contains(&pgn) => Reason::StoppedAsListed,
-            Pair::Block(_) => Reason::NotListedInBlock,
+    /// Forwarding rules 2 and 5 with these NAME entries, for a sender whose NAME is known or not: they count where the list has not the PGN.
+    pub fn ask(&self, names: &[NameEntry], pgn: u32, sender: Option<u64>) -> Asked {
+        if PERMANENT.contains(&pgn) {
+            return Asked { reason: Reason::Permanent, compared: 0, by_name: false };
         }
+        if let Some(index) = self.entries().iter().position(|&listed| listed == pgn) {
+            return Asked { reason: self.reason(true), compared: index + 1, by_name: false };
+        }
+        let place = first_match(names, pgn, sender);
+        let compared = self.entries().len() + place.unwrap_or(names.len());
+        Asked { reason: self.reason(place.is_some()), compared, by_name: place.is_some() }
     }
 
-    /// Forwarding rule 5: 0 for a permanent PGN, else its place counted from 1, or the length if absent.
-    pub fn compared(&self, pgn: u32) -> usize {
-        if PERMANENT.contains(&pgn) {
-            return 0;
-        }
-        let entries = self.entries();
-        match entries.iter().position(|&listed| listed == pgn) {
-            Some(index) => index + 1,
-            None => entries.len(),
+    /// The same where there are no NAME entries: the reason.
+    pub fn ask_list(&self, pgn: u32) -> Reason {
+        self.ask(&[], pgn, None).reason
+    }
+
+    /// By the mode, for a PGN that is not permanent and counts as listed or not.
+    fn reason(&self, listed: bool) -> Reason {
+        match (self, listed) {
+            (Pair::Cleared, _) => Reason::Cleared,
+            (Pair::Pass(_), true) => Reason::ListedInPass,
+            (Pair::Pass(_), false) => Reason::StoppedAsNotListed,
+            (Pair::Block(_), true) => Reason::StoppedAsListed,
+            (Pair::Block(_), false) => Reason::NotListedInBlock,
         }
     }
 

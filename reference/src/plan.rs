@@ -13,7 +13,7 @@ pub const PORTS: u32 = 8;
 /// Lengths in words: the segment on each port; a pair's block, which is mode, count and 32 PGNs; the lists, in order of
 /// unit, From and To; the answer.
 pub use crate::layout::{
-    Link, PAIR_WORDS, PLAN_ANSWER as ANSWER_WORDS, PLAN_LISTS as LIST_WORDS, PLAN_PAIRS as PAIRS,
+    Link, PLAN_ANSWER as ANSWER_WORDS, PLAN_LISTS as LIST_WORDS, PLAN_PAIRS as PAIRS, PLAN_PAIR_WORDS as PAIR_WORDS,
     PLAN_PORTS as PORT_WORDS,
 };
 
@@ -225,7 +225,7 @@ impl Plan {
 
     /// What the pair says that a step asks.
     pub fn ask(&self, step: &Step, pgn: u32) -> Reason {
-        self.units[step.unit as usize - 1].pair(step.from, step.to).ask(pgn)
+        self.units[step.unit as usize - 1].pair(step.from, step.to).ask_list(pgn)
     }
 
     /// What comes of a PGN at each segment, from 1 on. For a plan that is not refused.

@@ -214,7 +214,7 @@ impl Coverage {
     fn count_asked(&mut self, case: &Case, plan: &Plan, step: &Step) {
         let pgn = case.question.pgn;
         let pair = plan.units[step.unit as usize - 1].pair(step.from, step.to);
-        let reason = pair.ask(pgn);
+        let reason = pair.ask_list(pgn);
         self.add(match reason {
             Reason::Permanent => "asked: permanent",
             Reason::Cleared => "asked: cleared",

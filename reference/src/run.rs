@@ -42,7 +42,7 @@ impl Run {
         match made(unit, line) {
             Ok((call, answer)) => {
                 self.summary.add(&call, &answer);
-                (print_answer(&answer), answer.number())
+                (print_answer(&call, &answer), answer.number())
             }
             Err(wrong) => {
                 self.summary.add_no_call();

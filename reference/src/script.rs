@@ -5,7 +5,8 @@ use std::fmt;
 use crate::address::{Event, StartAnswer, UnitAnswer};
 use crate::counts::Counts;
 use crate::frame::Frame;
-use crate::message::{MessageAnswer, WrongEntry, LONGEST_MESSAGE};
+use crate::message::{name_entry, MessageAnswer, WrongEntry, LONGEST_MESSAGE};
+use crate::names::NameEntry;
 use crate::unit::{FrameAnswer, Number, Unit, USUAL_PORTS};
 use crate::words::REASONS;
 
@@ -250,8 +251,8 @@ pub fn write_call(call: &Call) -> String {
     }
 }
 
-/// The printed line of an answer.
-pub fn print_answer(answer: &Answer) -> String {
+/// The printed line of a call's answer.
+pub fn print_answer(call: &Call, answer: &Answer) -> String {
     match answer {
         Answer::PowerOn(Ok(())) => "P".to_string(),
         Answer::PowerOn(Err(number)) => format!("P R {number}"),
@@ -266,7 +267,7 @@ pub fn print_answer(answer: &Answer) -> String {
         }
         Answer::Take(Ok(None)) => "T -".to_string(),
         Answer::Take(Err(number)) => format!("T R {number}"),
-        Answer::Message(answer, written) => print_message_answer(answer, written),
+        Answer::Message(answer, written) => print_message_answer(answer, written) + &print_name_entry(call, answer),
         Answer::Unit(answer) => print_unit_answer(answer),
         Answer::Counts(Ok(counts)) => print_counts(counts),
         Answer::Counts(Err(number)) => format!("C R {number}"),
@@ -276,14 +277,15 @@ pub fn print_answer(answer: &Answer) -> String {
 /// Consumed, accepted ports, lost ports, event, ports where the unit's own frame was lost, compared; then the reasons.
 fn print_frame_answer(answer: &FrameAnswer) -> String {
     format!(
-        "F {} {} {} {} {} {}  {}",
+        "F {} {} {} {} {} {}  {}{}",
         if answer.consumed { "c" } else { "-" },
         print_ports(&answer.accepted),
         print_ports(&answer.lost),
         print_event(&answer.event),
         print_ports(&answer.own_lost),
         answer.compared,
-        print_reasons(answer)
+        print_reasons(answer),
+        print_by_name(&answer.by_name)
     )
 }
 
@@ -293,6 +295,26 @@ fn print_reasons(answer: &FrameAnswer) -> String {
     let with = |number| ports.clone().filter(|&port| answer.reason_number(port) == number).collect::<Vec<u32>>();
     let named = REASONS.iter().map(|(number, words)| (with(*number), words)).filter(|(ports, _)| !ports.is_empty());
     named.map(|(ports, words)| format!("{}: {words}", print_ports(&ports))).collect::<Vec<_>>().join(", ")
+}
+
+/// The ports to which the frame counts as listed by a NAME entry, if there are some.
+fn print_by_name(ports: &[u32]) -> String {
+    if ports.is_empty() {
+        return String::new();
+    }
+    format!("  by NAME: {}", print_ports(ports))
+}
+
+/// The entry of a function 7 that was done.
+fn print_name_entry(call: &Call, answer: &MessageAnswer) -> String {
+    let Call::Message { payload, .. } = call else { return String::new() };
+    match name_entry(payload) {
+        Ok(NameEntry { pgn, name, mask }) if payload[0] == 7 && answer.number == 0 => {
+            let (from, to) = (payload[1] >> 4, payload[1] & 0x0F);
+            format!("  pair {from} to {to}: PGN {pgn}, NAME {name:016X}, mask {mask:016X}")
+        }
+        _ => String::new(),
+    }
 }
 
 /// Number, PGN, length and bytes of what was written; then with 17 and 22 which entry was wrong.

@@ -6,6 +6,7 @@ use std::ops::RangeInclusive;
 use crate::address::{ClaimState, Event, Holder};
 use crate::counts::Counts;
 use crate::frame::{self, Frame};
+use crate::names::NameEntry;
 use crate::pair::{Pair, Reason};
 use crate::parameters::{Counter, Losses};
 
@@ -29,6 +30,8 @@ pub struct Unit {
     pub ports: u32,
     /// The directed pairs, by (From, To).
     pub pairs: BTreeMap<(u32, u32), Pair>,
+    /// The NAME entries beside each pair's list, in order of addition; a cleared pair has none.
+    pub names: BTreeMap<(u32, u32), Vec<NameEntry>>,
     /// One queue for each port, in order of joining.
     pub queues: BTreeMap<u32, VecDeque<Frame>>,
     /// What each port counts.
@@ -50,6 +53,8 @@ pub struct FrameAnswer {
     pub compared: usize,
     /// For each port from 1 on, what its pair said; nothing where none was asked.
     pub reasons: Vec<Option<Reason>>,
+    /// The ports whose pair lists the frame by a NAME entry.
+    pub by_name: Vec<u32>,
 }
 
 impl FrameAnswer {
@@ -82,6 +87,7 @@ impl Unit {
     /// Pairs cleared, queues and table empty, every count 0, nothing lost, the unit Unstarted.
     fn fresh(name: u64, preferred: u32, ports: u32) -> Unit {
         let mut pairs = BTreeMap::new();
+        let mut names = BTreeMap::new();
         let mut queues = BTreeMap::new();
         let mut counts = BTreeMap::new();
         let mut losses = Losses::default();
@@ -90,11 +96,12 @@ impl Unit {
             counts.insert(from, Counts::default());
             for to in (1..=ports).filter(|&to| to != from) {
                 pairs.insert((from, to), Pair::Cleared);
+                names.insert((from, to), Vec::new());
                 losses.pairs.insert((from, to), Counter::default());
             }
         }
         let (state, table) = (ClaimState::Unstarted, BTreeMap::new());
-        Unit { name, preferred, state, ports, pairs, queues, counts, losses, table }
+        Unit { name, preferred, state, ports, pairs, names, queues, counts, losses, table }
     }
 
     /// The ports, in rising order.
@@ -129,6 +136,7 @@ impl Unit {
             own_lost: Vec::new(),
             compared: 0,
             reasons: vec![None; self.ports as usize],
+            by_name: Vec::new(),
         };
         if !answer.consumed {
             self.forward(port, &frame, &mut answer);
@@ -142,15 +150,18 @@ impl Unit {
         frame::pf(id) < 240 && self.address() == Some(frame::ps(id))
     }
 
-    /// Forwarding rules 2 and 3, and the count and reasons of rule 5.
+    /// Forwarding rules 2 and 3, and the count and reasons of rule 5. The sender's NAME is the table's before the frame is acted on.
     fn forward(&mut self, port: u32, frame: &Frame, answer: &mut FrameAnswer) {
         let pgn = frame::pgn(frame.id);
+        let sender = self.table.get(&frame::sa(frame.id)).map(|holder| holder.name);
         for to in self.other_ports(port) {
-            let pair = &self.pairs[&(port, to)];
-            let reason = pair.ask(pgn);
-            answer.compared += pair.compared(pgn);
-            answer.reasons[to as usize - 1] = Some(reason);
-            if reason.crosses() {
+            let asked = self.pairs[&(port, to)].ask(&self.names[&(port, to)], pgn, sender);
+            answer.compared += asked.compared;
+            answer.reasons[to as usize - 1] = Some(asked.reason);
+            if asked.by_name {
+                answer.by_name.push(to);
+            }
+            if asked.reason.crosses() {
                 if self.join(to, frame) {
                     answer.accepted.push(to);
                 } else {

@@ -19,7 +19,7 @@ pub const WORDS: [(Number, &str); 21] = [
     (13, "Create mode not 0 or 1"),
     (14, "Create: a named pair not cleared"),
     (15, "Add, Delete: a named pair cleared"),
-    (16, "a named pair would pass 32 PGNs"),
+    (16, "a named pair would pass 32 PGNs or 8 NAME entries"),
     (17, "Delete: a PGN absent from a named pair"),
     (18, "Start not in Unstarted, Quiet not in Claiming"),
     (22, "an entry is no PGN"),

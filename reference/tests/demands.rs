@@ -7,11 +7,12 @@ use std::collections::BTreeMap;
 use common::*;
 use reference::address::{ClaimState, Holder};
 use reference::coverage::{
-    Coverage, ABSENT_PAIRS, ABSENT_PLACES, BY_FUNCTION, DEEP, DESTINATIONS, EVENTS, LENGTHS, LETTERS, MODES,
-    PRIORITIES, STATES, WAITING, WRONG_PLACES,
+    Coverage, ABSENT_PAIRS, ABSENT_PLACES, BY_FUNCTION, DEEP, DESTINATIONS, EVENTS, LENGTHS, LETTERS, MASK_BITS, MODES,
+    NAMED, NAME_LENGTHS, NAME_PLACES, PRIORITIES, STATES, WAITING, WRONG_PLACES,
 };
 use reference::frame::{pgn, priority, Frame, PERMANENT};
 use reference::generate::{generate, Random};
+use reference::names::NameEntry;
 use reference::pair::Pair;
 use reference::parameters::{Counter, HELD};
 use reference::script::{apply, write_call, Answer, Call};
@@ -70,7 +71,7 @@ fn demand_2_no_frame_back_and_no_other_pair() {
     each_call(102, |before, call, answer, after| match (call, answer) {
         (Call::Frame { port, .. }, Answer::Frame(Ok(given))) => {
             assert!(!given.accepted.contains(port) && !given.lost.contains(port));
-            assert_eq!(before.pairs, after.pairs);
+            assert_eq!((&before.pairs, &before.names), (&after.pairs, &after.names));
             for (pair, counter) in &after.losses.pairs {
                 let lost = pair.0 == *port && given.lost.contains(&pair.1);
                 assert!(lost || *counter == before.losses.pairs[pair]);
@@ -81,6 +82,7 @@ fn demand_2_no_frame_back_and_no_other_pair() {
             for (pair, filter) in &after.pairs {
                 let named = pair.0 == from && (pair.1 == to || to == 15);
                 assert!(named && payload[0] < 64 || *filter == before.pairs[pair]);
+                assert!(named && [4, 7].contains(&payload[0]) || after.names[pair] == before.names[pair]);
                 assert!(named && payload[0] == 133 || after.losses.pairs[pair] == before.losses.pairs[pair]);
             }
             assert_eq!((&before.queues, &before.table), (&after.queues, &after.table));
@@ -88,8 +90,14 @@ fn demand_2_no_frame_back_and_no_other_pair() {
             assert!(payload[0] == 130 || before.losses.general == after.losses.general);
         }
         (Call::PowerOn { .. }, _) => {}
-        (Call::Start, _) => assert_eq!((&before.pairs, &before.losses.pairs), (&after.pairs, &after.losses.pairs)),
-        _ => assert_eq!((&before.pairs, &before.losses), (&after.pairs, &after.losses)),
+        (Call::Start, _) => {
+            assert_eq!((&before.pairs, &before.names), (&after.pairs, &after.names));
+            assert_eq!(before.losses.pairs, after.losses.pairs);
+        }
+        _ => {
+            assert_eq!((&before.pairs, &before.names), (&after.pairs, &after.names));
+            assert_eq!(before.losses, after.losses);
+        }
     });
 }
 
@@ -109,7 +117,7 @@ fn demand_2_permanent_pgns_cross_every_pair() {
     assert!(tried > 300, "{tried}");
 }
 
-/// Other lists, addresses and counters beyond those of port p.
+/// Other lists, NAME entries, addresses and counters beyond those of port p.
 fn scrambled(unit: &Unit, port: u32, random: &mut Random) -> Unit {
     let mut other = unit.clone();
     for (pair, filter) in other.pairs.iter_mut() {
@@ -120,6 +128,13 @@ fn scrambled(unit: &Unit, port: u32, random: &mut Random) -> Unit {
                 1 => Pair::Block(entries),
                 _ => Pair::Pass(entries),
             };
+        }
+    }
+    for (pair, names) in other.names.iter_mut() {
+        if pair.0 != port && pair.1 != port {
+            let count = random.below(9);
+            let entry = |_| NameEntry { pgn: 61440 + random.below(3), name: random.number(), mask: random.number() };
+            *names = (0..count).map(entry).collect();
         }
     }
     for (pair, counter) in other.losses.pairs.iter_mut() {
@@ -138,7 +153,7 @@ fn scrambled(unit: &Unit, port: u32, random: &mut Random) -> Unit {
     other
 }
 
-/// For a tool on a port other than 1 the answer does not depend on a neighbour's lists, addresses and counters.
+/// For a tool on a port other than 1 the answer does not depend on a neighbour's lists, NAME entries, addresses and counters.
 #[test]
 fn demand_2_privacy() {
     let mut random = Random::new(1);
@@ -324,7 +339,12 @@ fn generator_reaches_deep_states() {
         assert!(coverage.reached(&format!("parameter {held} in general")) > 0, "parameter {held}");
         assert!(coverage.reached(&format!("parameter {held} of a pair")) > 0, "parameter {held}");
     }
-    for row in DEEP {
+    for length in NAME_LENGTHS {
+        assert!(coverage.reached(&format!("function 7 of length {length}")) > 0, "function 7 of {length}");
+    }
+    assert!(MASK_BITS.clone().all(|bit| coverage.reached(&format!("masks of bit {bit}")) > 0));
+    assert!(NAME_PLACES.clone().all(|place| coverage.reached(&format!("matched NAME entry {place}")) > 0));
+    for row in DEEP.iter().chain(&NAMED) {
         assert!(coverage.reached(row) > 0, "{row}");
     }
 }

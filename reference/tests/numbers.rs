@@ -115,7 +115,7 @@ fn number_8_at_start() {
 
 #[test]
 fn number_9_function() {
-    let listed = [0, 2, 3, 4, 6, 64, 128, 130, 131, 133];
+    let listed = [0, 2, 3, 4, 6, 7, 64, 128, 130, 131, 133];
     for function in 0..=255 {
         let mut unit = claimed();
         set(&mut unit, 1, 2, Pair::Block(vec![61440]));

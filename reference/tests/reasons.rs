@@ -5,9 +5,10 @@ mod common;
 use common::*;
 use reference::frame::pgn;
 use reference::generate::generate;
+use reference::names::NameEntry;
 use reference::pair::{Pair, Reason};
 use reference::script::{apply, Answer, Call};
-use reference::unit::FrameAnswer;
+use reference::unit::{FrameAnswer, Unit};
 use Reason::*;
 
 const REASONS: [Reason; 6] = [Permanent, Cleared, ListedInPass, NotListedInBlock, StoppedAsListed, StoppedAsNotListed];
@@ -17,10 +18,14 @@ fn numbers(answer: &FrameAnswer) -> Vec<u32> {
     (1..=answer.reasons.len() as u32).map(|port| answer.reason_number(port)).collect()
 }
 
-/// Rule 2 as it was before there were reasons, with the permanent PGNs.
-fn permitted(pair: &Pair, pgn: u32) -> bool {
-    let listed = pair.entries().contains(&pgn);
-    pgn == 60928 || pgn == 59904 || pair.is_cleared() || listed == (pair.mode() == 1)
+/// Rule 2 without reasons: what the list has, or a NAME entry that is equal to the sender's NAME under its mask.
+fn permitted(unit: &Unit, pair: (u32, u32), id: u32) -> bool {
+    let (filter, pgn) = (&unit.pairs[&pair], pgn(id));
+    let sender = unit.table.get(&(id & 0xFF)).map(|holder| holder.name);
+    let matches = |entry: &NameEntry| sender.is_some_and(|name| (name ^ entry.name) & entry.mask == 0);
+    let by_name = unit.names[&pair].iter().any(|entry| entry.pgn == pgn && matches(entry));
+    let listed = filter.entries().contains(&pgn) || by_name;
+    pgn == 60928 || pgn == 59904 || filter.is_cleared() || listed == (filter.mode() == 1)
 }
 
 #[test]
@@ -42,15 +47,15 @@ fn a_pairs_reason() {
         (Pair::Block(vec![65265, 61444]), StoppedAsListed),
     ];
     for (pair, reason) in cases {
-        assert_eq!(pair.ask(65265), reason, "{pair:?}");
+        assert_eq!(pair.ask_list(65265), reason, "{pair:?}");
         for permanent in [60928, 59904] {
-            assert_eq!(pair.ask(permanent), Permanent, "{pair:?}");
+            assert_eq!(pair.ask_list(permanent), Permanent, "{pair:?}");
             let mut named = pair.entries().to_vec();
             named.push(permanent);
-            assert_eq!(pair.with_entries(named).ask(permanent), Permanent, "{pair:?}");
+            assert_eq!(pair.with_entries(named).ask_list(permanent), Permanent, "{pair:?}");
         }
         // With a page bit it is another PGN.
-        assert_ne!(pair.ask(0x1EE00), Permanent);
+        assert_ne!(pair.ask_list(0x1EE00), Permanent);
     }
 }
 
@@ -73,7 +78,7 @@ fn what_crosses_stays_the_same() {
             met[number as usize] += 1;
             assert_eq!(number != 0, asked);
             assert_eq!((1..=4).contains(&number), named);
-            assert_eq!(named, asked && permitted(&before.pairs[&(*port, to)], pgn(*id)));
+            assert_eq!(named, asked && permitted(&before, (*port, to), *id));
         }
         assert!((before.ports + 1..=16).all(|port| given.reason_number(port) == 0));
     }

@@ -59,6 +59,12 @@ fn lists() {
     check(include_str!("../scripts/lists.txt"), include_str!("../scripts/lists.out"));
 }
 
+/// NAME entries: two controllers told apart, every way to be refused.
+#[test]
+fn names() {
+    check(include_str!("../scripts/names.txt"), include_str!("../scripts/names.out"));
+}
+
 /// Claims of every outcome, and the address list of a port after each.
 #[test]
 fn addresses() {
@@ -263,6 +269,27 @@ fn printed_entries() {
             "    12 body wrong: length or filling: 1",
         ]
     );
+}
+
+/// The NAME entry behind a function 7 that is done, and the ports that are listed by one, also without the calls.
+#[test]
+fn printed_names() {
+    let add = "0000000000008081828384858687";
+    let script = format!(
+        "P 20001C000AC00123 200\nS\nQ\nF 2 18EEFF05 0100000000000080\nM 1 33 061F01F1FE00FFFF\nM 1 33 071210FF000102030405060708000000000000000000FF\n\
+        M 1 33 071210FF000102030405060788FF0000000000008000FF\nM 1 33 0713{add}0000000000000000\nF 1 18FF1005 -\nM 1 33 071210FF00\n"
+    );
+    let printed = [
+        "M 0 59392 8 0007FFFF2100ED00  pair 1 to 2: PGN 65296, NAME 0807060504030201, mask 0000000000000000",
+        "M 0 59392 8 0007FFFF2100ED00  pair 1 to 2: PGN 65296, NAME 8807060504030201, mask 80000000000000FF",
+        "M 12 59392 8 0107FFFF2100ED00",
+        "F - 2 - - - 4  2: listed in pass, 34: stopped as not listed, 1: not asked  by NAME: 2",
+        "M 7 0 0 -",
+    ];
+    assert_eq!(run_script(&script)[5..], printed);
+    assert!(String::from_utf8(Run::of(&script).plain()).unwrap().contains("\nF - 2 - - - 4  2: listed in pass"));
+    // Function 7 alone has an entry to show, whatever another of 23 bytes says.
+    assert!(!run_script("P 1 2\nS\nQ\nM 1 33 061201F1FE0004F0000BF0000000000000000000000000\n")[3].contains("pair"));
 }
 
 /// The bundled morning shows both, not at the first place.

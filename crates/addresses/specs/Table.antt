@@ -4,6 +4,7 @@ use Prim.Native.Nat.{ℕ, zero, suc, _*_}
 use mathlib.Core.Bool.{Bool, true, false, not, _&&_, _||_, cond}
 use mathlib.Core.Path.{_≡_}
 use mathlib.Core.List.{List, [], _∷_, _++_}
+use mathlib.Core.Option.{Option, none, some}
 use lib.ListN.{getD}
 use lib.Dec.{eqb}
 use Rattle.storage.specs.Blocks.{blocksOf}
@@ -36,6 +37,14 @@ heldBy name (Held port holder) = eqb holder name
 unfoldable pub heldOn : ℕ → Place → Bool
 heldOn port Free = false
 heldOn port (Held from name) = eqb from port
+
+-- the NAME that "the table gives the SA", if it gives one
+unfoldable pub nameIn : Place → Option ℕ
+nameIn Free = none
+nameIn (Held port name) = some name
+
+unfoldable pub nameAt : List Place → ℕ → Option ℕ
+nameAt table address = nameIn (getD table address Free)
 
 -- whether a NAME holds an address
 unfoldable pub standsIn : ℕ → List Place → Bool

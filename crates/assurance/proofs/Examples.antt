@@ -12,6 +12,8 @@ use Rattle.storage.specs.Bytes.{packed, bytesOf}
 use Rattle.unit.specs.Count.{pairCount}
 use Rattle.unit.specs.Ports.{each, inTurn, mask, total, digits}
 use Rattle.unit.specs.Own.{consumes, isOwn}
+use Rattle.addresses.specs.Table.{nameIn, nameAt}
+use Rattle.name_entries.specs.NameEntries.{anyMatch, placeIn}
 use Rattle.forwarding.specs.Forwarding.{verdict}
 use Rattle.bridge.specs.Calls.{offered}
 use Rattle.list_commands.specs.Commands.{names, anyBelow, anyNamed, changeNamed, listRefusal, listChecks, commanded}
@@ -25,7 +27,7 @@ use Rattle.demand_3.specs.Demand3.{answer}
 use Rattle.assurance.specs.Examples.{Examples}
 
 pub examples : Examples
-unfolding pairCount countedIn countedOut frameAnswer frameRefusal takeAnswer takeRefusal isPort answer next refusal performed restAfter lossesAfter inTurn asks sends frameActed isClaim isRequest isRequestToUnit sentWithoutAddress pgnOf destinationOf wrongSource framePassed mask total digits offered consumes isOwn verdict asked isPermanent reasonOf listed place messaged messageRefusal decoded judged refusalOf isKnown isGeneral holdsParameter namesPorts isPair mayBeAll mayName hasGoodBody holdsEntries entriesEnd isFilling wrongIn wrongEntry firstWrong leading entriesOf every packed isPgn hasWrongMode commandOf performedBy absentTold listRefusal listChecks anyNamed anyBelow names holdsOf isCleared wouldPass addAll addOne commanded changeNamed each changeOf created mayCreate modeFor acknowledgment controlOf listReply filled listBody reportedMode reported bytesOf
+unfolding pairCount countedIn countedOut frameAnswer frameRefusal takeAnswer takeRefusal isPort answer next refusal performed restAfter lossesAfter inTurn asks sends frameActed isClaim isRequest isRequestToUnit sentWithoutAddress pgnOf destinationOf wrongSource framePassed mask total digits offered consumes isOwn verdict asked anyMatch placeIn nameAt nameIn isPermanent reasonOf listed place messaged messageRefusal decoded judged refusalOf isKnown isGeneral holdsParameter namesPorts isPair mayBeAll mayName hasGoodBody holdsEntries entriesEnd isFilling wrongIn wrongEntry firstWrong leading entriesOf every packed isPgn hasWrongMode commandOf performedBy absentTold listRefusal listChecks anyNamed anyBelow names holdsOf isCleared wouldPass addAll addOne commanded changeNamed each changeOf created mayCreate modeFor acknowledgment controlOf listReply filled listBody reportedMode reported bytesOf
 examples = record {
   p1 = (refl, refl);
   p2 = (refl, refl);

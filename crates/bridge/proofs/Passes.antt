@@ -6,7 +6,7 @@ use Prim.Native.Nat.{ℕ, _-_, _<_}
 use native.Mathlib.Omega.{arith}
 use borrow.Author.Tests.{eq-eqb, ne-eqb}
 use lib.ListN.{length}
-use Rattle.identifier.specs.Identifier.{pgnOf}
+use Rattle.identifier.specs.Identifier.{pgnOf, saOf}
 use Rattle.delivery.specs.Unit.{joinAll}
 use Rattle.queue.specs.declared.Frame.{Frame}
 use Rattle.queue.specs.Queue.{size, Queued, sentAll, idle}
@@ -53,14 +53,14 @@ module _ {ports : ℕ} {words after : List ℕ} (port : ℕ) (f : Frame) (r : Re
   }
 
   -- ---- a frame that is carried on
-  module _ {mid : List ℕ} {s : Share} (h : consumes (modelOf ports words .rest .own) (f .id) ≡ false) (F : Forwarding ports words mid (port - 1) (verdict ports (modelOf ports words .rest .pairs) (port - 1) (pgnOf (f .id))) f s) (R : Responding ports mid after (frameActed (modelOf ports mid .rest) port false f) r) where
+  module _ {mid : List ℕ} {s : Share} (h : consumes (modelOf ports words .rest .own) (f .id) ≡ false) (F : Forwarding ports words mid (port - 1) (verdict ports (modelOf ports words .rest) (port - 1) (pgnOf (f .id)) (saOf (f .id))) f s) (R : Responding ports mid after (frameActed (modelOf ports mid .rest) port false f) r) where
     -- what forwarding does at port q
     abbrev change : ℕ → Queued → Queued
-    change q x = sentAll x (sentIf (verdict ports (modelOf ports words .rest .pairs) (port - 1) (pgnOf (f .id)) q) f)
+    change q x = sentAll x (sentIf (verdict ports (modelOf ports words .rest) (port - 1) (pgnOf (f .id)) (saOf (f .id)) q) f)
 
     -- and whether the frame is lost there
     abbrev lostThere : ℕ → Bool
-    lostThere q = loses (verdict ports (modelOf ports words .rest .pairs) (port - 1) (pgnOf (f .id)) q) (rowAt (modelOf ports words) q)
+    lostThere q = loses (verdict ports (modelOf ports words .rest) (port - 1) (pgnOf (f .id)) (saOf (f .id)) q) (rowAt (modelOf ports words) q)
 
     forwarded : modelOf ports mid ≡ changedTo ports (modelOf ports words) change lostThere (lostFrom ports (port - 1))
     unfolding forwardedTo
@@ -77,12 +77,12 @@ module _ {ports : ℕ} {words after : List ℕ} (port : ℕ) (f : Frame) (r : Re
     event-is = rw rest-still at (R .event)
 
     abbrev joinedTo : ℕ → List Frame
-    joinedTo q = joinAll size (rowAt (modelOf ports words) q) (sentIf (verdict ports (modelOf ports words .rest .pairs) (port - 1) (pgnOf (f .id)) q) f)
+    joinedTo q = joinAll size (rowAt (modelOf ports words) q) (sentIf (verdict ports (modelOf ports words .rest) (port - 1) (pgnOf (f .id)) (saOf (f .id)) q) f)
 
     row-then : (q : ℕ) → q < ports → rowAt (modelOf ports mid) q ≡ joinedTo q
     row-then q l =
         rw forwarded (ap (λ (x : Queued). x .row) (each-at change ports (modelOf ports words .queues) q idle l (omega (arith, queues-long ports words))))
-        ∙ row-sent (queueOn (modelOf ports words) q) (sentIf (verdict ports (modelOf ports words .rest .pairs) (port - 1) (pgnOf (f .id)) q) f)
+        ∙ row-sent (queueOn (modelOf ports words) q) (sentIf (verdict ports (modelOf ports words .rest) (port - 1) (pgnOf (f .id)) (saOf (f .id)) q) f)
 
     unsent-is : r .unsent ≡ mask (λ q. losesOwn (done .sent) (joinedTo q)) ports
     unfolding unsentTo
@@ -92,12 +92,12 @@ module _ {ports : ℕ} {words after : List ℕ} (port : ℕ) (f : Frame) (r : Re
         (λ q l. ap (losesOwn (done .sent)) (row-then q l))
 
     queues-are : each (λ q x. sentAll x (framesSent (done .sent))) ports (each change ports (modelOf ports words .queues))
-        ≡ each (λ q x. sentAll x (sentIf (verdict ports (modelOf ports words .rest .pairs) (port - 1) (pgnOf (f .id)) q) f ++ framesSent (done .sent))) ports (modelOf ports words .queues)
+        ≡ each (λ q x. sentAll x (sentIf (verdict ports (modelOf ports words .rest) (port - 1) (pgnOf (f .id)) (saOf (f .id)) q) f ++ framesSent (done .sent))) ports (modelOf ports words .queues)
     queues-are =
         each-twice change (λ q x. sentAll x (framesSent (done .sent))) ports (modelOf ports words .queues)
         ∙ each-same (λ q x. sentAll (change q x) (framesSent (done .sent)))
-        (λ q x. sentAll x (sentIf (verdict ports (modelOf ports words .rest .pairs) (port - 1) (pgnOf (f .id)) q) f ++ framesSent (done .sent)))
-        (λ q x. sym (sent-append x (sentIf (verdict ports (modelOf ports words .rest .pairs) (port - 1) (pgnOf (f .id)) q) f) (framesSent (done .sent))))
+        (λ q x. sentAll x (sentIf (verdict ports (modelOf ports words .rest) (port - 1) (pgnOf (f .id)) (saOf (f .id)) q) f ++ framesSent (done .sent)))
+        (λ q x. sym (sent-append x (sentIf (verdict ports (modelOf ports words .rest) (port - 1) (pgnOf (f .id)) (saOf (f .id)) q) f) (framesSent (done .sent))))
         ports (modelOf ports words .queues)
 
     losses-are : inTurn (λ q. losesOwn (done .sent) (rowAt (modelOf ports mid) q)) (λ q. lostOwn ports) ports (modelOf ports mid .seen .losses)
@@ -126,7 +126,7 @@ module _ {ports : ℕ} {words after : List ℕ} (port : ℕ) (f : Frame) (r : Re
 pub kept-still : {ports : ℕ} {words : List ℕ} {port : ℕ} {b : Bool} {f : Frame} → b ≡ true → Sharing ports words words port b f (record { accepted = 0; lost = 0; reasons = 0; compared = 0 })
 kept-still h = record { kept = λ _. (refl, refl); sent = λ g. absurd (true≢false (sym h ∙ g)) }
 
-pub shared : {ports : ℕ} {words mid : List ℕ} {port pgn : ℕ} {b : Bool} {f : Frame} {s : Share} → b ≡ false → pgn ≡ pgnOf (f .id) → Forwarding ports words mid (port - 1) (verdict ports (modelOf ports words .rest .pairs) (port - 1) pgn) f s → Sharing ports words mid port b f s
+pub shared : {ports : ℕ} {words mid : List ℕ} {port pgn : ℕ} {b : Bool} {f : Frame} {s : Share} → b ≡ false → pgn ≡ pgnOf (f .id) → Forwarding ports words mid (port - 1) (verdict ports (modelOf ports words .rest) (port - 1) pgn (saOf (f .id))) f s → Sharing ports words mid port b f s
 shared h g F = record { kept = λ k. absurd (true≢false (sym k ∙ h)); sent = λ _. rw g at F }
 
 pub passed : {ports : ℕ} {words mid after : List ℕ} (port : ℕ) (f : Frame) (b : Bool) (s : Share) (r : Response) → b ≡ consumes (modelOf ports words .rest .own) (f .id) → Sharing ports words mid port b f s

@@ -8,7 +8,7 @@ use mathlib.Core.List.{List, [], _++_}
 use mathlib.Core.Option.{Option, none, some}
 use lib.ListN.{length, getD, take, drop}
 use lib.Dec.{eqb}
-use Rattle.identifier.specs.Identifier.{pgnOf}
+use Rattle.identifier.specs.Identifier.{pgnOf, saOf}
 use Rattle.delivery.specs.Row.{pull, given}
 use Rattle.delivery.specs.Unit.{joinAll}
 use Rattle.filter.specs.declared.Asked.{Asked}
@@ -48,7 +48,7 @@ pub data Call : Type 0 where
 -- ---- a frame
 -- what is answered for port q: the pair is asked (rule 2), but a consumed frame is not forwarded (rule 1)
 unfoldable pub offered : ℕ → Rest → ℕ → ℕ → ℕ → Asked
-offered ports rest p id q = cond (consumes (rest .own) id) silent (verdict ports (rest .pairs) p (pgnOf id) q)
+offered ports rest p id q = cond (consumes (rest .own) id) silent (verdict ports rest p (pgnOf id) (saOf id) q)
 
 -- ---- a message
 -- nothing is written for 1 to 8

@@ -4,7 +4,7 @@ use Prim.Native.Nat.{ℕ, _-_}
 use mathlib.Core.Bool.{Bool, true, false}
 use mathlib.Core.Path.{_≡_}
 use mathlib.Core.List.{List}
-use Rattle.identifier.specs.Identifier.{pgnOf}
+use Rattle.identifier.specs.Identifier.{pgnOf, saOf}
 use Rattle.queue.specs.declared.Frame.{Frame}
 use Rattle.queue.specs.Queue.{sentAll}
 use Rattle.unit.specs.Ports.{each}
@@ -20,7 +20,7 @@ use Rattle.bridge.specs.Calls.{frameDone, frameSends, frameLosses, frame
 -- a frame for others was forwarded, one for the unit was not
 pub record Sharing (ports : ℕ) (before after : List ℕ) (port : ℕ) (consumed : Bool) (f : Frame) (r : Share) : Type 0 where
   pub kept : consumed ≡ true → (after ≡ before) × (r ≡ record { accepted = 0; lost = 0; reasons = 0; compared = 0 })
-  pub sent : consumed ≡ false → Forwarding ports before after (port - 1) (verdict ports (modelOf ports before .rest .pairs) (port - 1) (pgnOf (f .id))) f r
+  pub sent : consumed ≡ false → Forwarding ports before after (port - 1) (verdict ports (modelOf ports before .rest) (port - 1) (pgnOf (f .id)) (saOf (f .id))) f r
 
 -- the event, and the ports where the unit's own frame was lost
 pub record Responding (ports : ℕ) (before after : List ℕ) (a : Acted) (r : Response) : Type 0 where

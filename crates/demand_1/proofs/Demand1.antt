@@ -47,7 +47,7 @@ use Rattle.network_message.specs.Commands.{Good}
 use Rattle.network_message.proofs.Decoding.{decoded-good}
 use Rattle.filter_commands.specs.declared.pairs.Question.the-variants.{IsCleared, IsNotCleared, WouldPass, Lacks}
 use Rattle.filter_commands.specs.declared.pairs.Change.{Change}
-use Rattle.filter_commands.specs.declared.pairs.Change.the-variants.{Adds, Deletes, Creates}
+use Rattle.filter_commands.specs.declared.pairs.Change.the-variants.{Adds, Deletes, Creates, Names}
 use Rattle.checks.specs.Ports.{noPort}
 use Rattle.unit.specs.Own.{isClaimed}
 use Rattle.list_commands.specs.declared.Absent.{Absent}
@@ -198,6 +198,7 @@ unfolding listRefusal listChecks
 list-number ports Adds xs from to pairs n = first-in acknowledges (listChecks ports Adds xs from to pairs) refl n
 list-number ports Deletes xs from to pairs n = first-in acknowledges (listChecks ports Deletes xs from to pairs) refl n
 list-number ports (Creates passing) xs from to pairs n = first-in acknowledges (listChecks ports (Creates passing) xs from to pairs) refl n
+list-number ports (Names name mask) xs from to pairs n = first-in acknowledges (listChecks ports (Names name mask) xs from to pairs) refl n
 
 module _ (ports : ℕ) (rest : Rest) (requester : ℕ) (payload : List ℕ) (seen : Seen) where
   silent-fits : (n : ℕ) → ((n ≡ 0 → ⊥) → not (acknowledges n) ≡ true) → (n ≡ 0 → ⊥) → Fits payload requester (silentReply n (rest .pairs)) seen

@@ -13,7 +13,7 @@ use Rattle.checks.specs.Checks.{Check, check, first}
 use Rattle.checks.proofs.FirstNumber.{allNumbers}
 use Rattle.filter.specs.Filter.{Filter, isCleared}
 use Rattle.entries.specs.Entries.{listed}
-use Rattle.filter_commands.specs.Changes.{wouldPass, lacks}
+use Rattle.filter_commands.specs.Changes.{wouldPass, lacks, passesNames}
 use Rattle.network_message.specs.declared.Command.{Command}
 use Rattle.network_message.specs.declared.Command.the-variants.{Refused}
 use Rattle.network_message.specs.Decoding.{isKnown, namesPorts, mayName, holdsParameter, hasGoodBody, wrongEntry, hasWrongMode, entriesStart, refusalOf, judged, commandOf, decoded, longest}
@@ -28,7 +28,7 @@ use Rattle.message_answers.specs.Messages.{Replied, performedBy}
 use Rattle.bridge.specs.Calls.{silentReply, messaged}
 use Rattle.refusals.specs.Refusals.{messageRefusal}
 use Rattle.demand_1.proofs.Told.{wrong-is}
-use Rattle.demand_1.specs.Demand1.{function, from, to, parameter, asksParameter, resets, entries, aNamedPair, messageNumbers, noneApplies, Given, Exact}
+use Rattle.demand_1.specs.Demand1.{function, from, to, parameter, asksParameter, resets, entries, nameEntry, aNamedPair, messageNumbers, noneApplies, Given, Exact}
 
 -- ---- the first check that applies
 -- no number is 0
@@ -145,8 +145,9 @@ module _ (ports : ℕ) (rest : Rest) (requester : ℕ) (payload : List ℕ) wher
   lists =
       first
       (check (eqb (function payload) 6 && aNamedPair ports rest payload (λ f. not (isCleared (f .mode)))) 14
-      ∷ check (listed (function payload) (2 ∷ 3 ∷ []) && aNamedPair ports rest payload (λ f. isCleared (f .mode))) 15
+      ∷ check (listed (function payload) (2 ∷ 3 ∷ 7 ∷ []) && aNamedPair ports rest payload (λ f. isCleared (f .mode))) 15
       ∷ check (listed (function payload) (2 ∷ 6 ∷ []) && aNamedPair ports rest payload (λ f. wouldPass f (entries payload))) 16
+      ∷ check (eqb (function payload) 7 && aNamedPair ports rest payload (λ f. passesNames f (nameEntry payload))) 16
       ∷ check (eqb (function payload) 3 && aNamedPair ports rest payload (λ f. lacks f (entries payload))) 17
       ∷ [])
 
@@ -159,6 +160,7 @@ module _ (ports : ℕ) (rest : Rest) (requester : ℕ) (payload : List ℕ) wher
       (λ e. rw e)
       (λ e. rw e)
       (λ _ e. rw e)
+      (λ e. rw e)
       (λ e. rw e)
       (λ e. rw e)
       (λ e. rw e)

@@ -144,7 +144,7 @@ unfolding blocksOf
 few-entries words start zero h = omega arith
 few-entries words start (suc n) h =
     let l : length (take filterLength (drop start words)) ≡ filterLength = omega (arith, length-take filterLength (drop start words), length-drop start words) in
-    omega (arith, counting (take filterLength (drop start words)) l .small, few-entries words (start + filterLength) n (omega arith))
+    omega (arith, counting (take filterLength (drop start words)) (omega (arith, l)) .small, few-entries words (start + filterLength) n (omega arith))
 
 module _ (ports : ℕ) (words : List ℕ) (small : ports ≤ 8) (full : length words ≡ recordLength ports) where
   abbrev rest : Rest
@@ -165,7 +165,7 @@ module _ (ports : ℕ) (words : List ℕ) (small : ports ≤ 8) (full : length w
   pair-few i h =
       let block = take filterLength (drop (pairsFrom ports + filterLength * i) words) in
       let l : length block ≡ filterLength = omega (arith, length-take filterLength (drop (pairsFrom ports + filterLength * i) words), length-drop (pairsFrom ports + filterLength * i) words) in
-      rw (pair-of ports words i full h) (omega (arith, counting block l .small))
+      rw (pair-of ports words i full h) (omega (arith, counting block (omega (arith, l)) .small))
 
   few-losses : (i : ℕ) → i ≤ pairCount ports → getD (modelOf ports words .seen .losses) i 0 < 65536
   unfolding lossesOf

@@ -20,11 +20,11 @@ use Rattle.entries.proofs.Leading.{leading-short, leading-holds, leading-fails,
 use Rattle.filter_commands.specs.Changes.{lacks}
 use Rattle.filter_commands.specs.declared.pairs.Question.the-variants.{Lacks}
 use Rattle.filter_commands.specs.declared.pairs.Change.{Change}
-use Rattle.filter_commands.specs.declared.pairs.Change.the-variants.{Adds, Deletes, Creates}
+use Rattle.filter_commands.specs.declared.pairs.Change.the-variants.{Adds, Deletes, Creates, Names}
 use Rattle.filter_commands.specs.Pairs.{holdsOf}
 use Rattle.network_message.specs.declared.Command.{Command}
 use Rattle.network_message.specs.declared.Command.the-variants.{Refused, Request, WithEntries, Clear, AddressList}
-use Rattle.network_message.specs.Decoding.{isKnown, namesPorts, mayName, holdsParameter, parameterOf, hasGoodBody, hasWrongMode, entriesStart, entriesEnd, between, wrongIn, wrongEntry, payloadChecks, refusalOf, judged, commandOf, decoded}
+use Rattle.network_message.specs.Decoding.{isKnown, namesPorts, mayName, holdsParameter, parameterOf, hasGoodBody, hasWrongMode, entriesStart, entriesEnd, between, nameOf, maskOf, wrongIn, wrongEntry, payloadChecks, refusalOf, judged, commandOf, decoded}
 use Rattle.network_message.specs.Commands.{Ports, Good}
 use Rattle.network_message.proofs.Passing.{by-function}
 use Rattle.network_message.proofs.Decoding.{decoded-good}
@@ -53,10 +53,38 @@ module _ (payload : List ℕ) where
   abbrev xs : List ℕ
   xs = entries payload
 
+  -- the number of the first entry that is no PGN, of a command with entries
+  wrong-entry : wrongEntry (function payload) payload ≡ cond (listed (function payload) (2 ∷ 3 ∷ 6 ∷ 7 ∷ [])) (cond (every isPgn xs) 0 (suc (leading isPgn xs))) 0
+  unfolding wrongEntry wrongIn firstWrong listed
+  wrong-entry = go (eqb 2 f) (eqb 3 f) (eqb 6 f) (eqb f 7) (eqb 7 f) refl refl refl refl refl
+    where
+      f : ℕ
+      f = function payload
+
+      -- of the entries that begin and end somewhere
+      first-wrong : List ℕ → ℕ
+      first-wrong ys = cond (every isPgn ys) 0 (suc (leading isPgn ys))
+
+      listedOnes : List ℕ
+      listedOnes = entriesOf (between (entriesStart f) (entriesEnd (entriesStart f) payload) payload)
+
+      go : (a b c d g : Bool) → eqb 2 f ≡ a → eqb 3 f ≡ b → eqb 6 f ≡ c → eqb f 7 ≡ d → eqb 7 f ≡ g
+          → cond (a || (b || (c || false))) (first-wrong listedOnes) (cond d (first-wrong (entriesOf (between 2 5 payload))) 0)
+          ≡ cond (a || (b || (c || (g || false)))) (first-wrong (entriesOf (cond d (between 2 5 payload) (between (entriesStart f) (entriesEnd (entriesStart f) payload) payload)))) 0
+      go a b c true false x y z w v = absurd (eqb-false 7 f v (sym (eqb-true f 7 w)))
+      go a b c false true x y z w v = absurd (eqb-false f 7 w (sym (eqb-true 7 f v)))
+      go true b c true true x y z w v = absurd (omega (arith, eqb-true 2 f x, eqb-true f 7 w))
+      go false true c true true x y z w v = absurd (omega (arith, eqb-true 3 f y, eqb-true f 7 w))
+      go false false true true true x y z w v = absurd (omega (arith, eqb-true 6 f z, eqb-true f 7 w))
+      go false false false true true x y z w v = refl
+      go true b c false false x y z w v = refl
+      go false true c false false x y z w v = refl
+      go false false true false false x y z w v = refl
+      go false false false false false x y z w v = refl
+
   -- there is a wrong entry exactly if one of a command with entries is no PGN
-  pub wrong-is : not (eqb (wrongEntry (function payload) payload) 0) ≡ listed (function payload) (2 ∷ 3 ∷ 6 ∷ []) && not (every isPgn xs)
-  unfolding wrongEntry wrongIn firstWrong
-  wrong-is = go (listed (function payload) (2 ∷ 3 ∷ 6 ∷ [])) (every isPgn xs)
+  pub wrong-is : not (eqb (wrongEntry (function payload) payload) 0) ≡ listed (function payload) (2 ∷ 3 ∷ 6 ∷ 7 ∷ []) && not (every isPgn xs)
+  wrong-is = rw wrong-entry (go (listed (function payload) (2 ∷ 3 ∷ 6 ∷ 7 ∷ [])) (every isPgn xs))
     where
       go : (a b : Bool) → not (eqb (cond a (cond b 0 (suc (leading isPgn xs))) 0) 0) ≡ a && not b
       go true true = refl
@@ -64,8 +92,7 @@ module _ (payload : List ℕ) where
       go false b = refl
 
   wrong-first : not (eqb (wrongEntry (function payload) payload) 0) ≡ true → FirstWrong payload (record { entry = wrongEntry (function payload) payload; to = 0; pgn = 0 })
-  unfolding wrongEntry wrongIn firstWrong
-  wrong-first e = go (listed (function payload) (2 ∷ 3 ∷ 6 ∷ [])) (every isPgn xs) refl e
+  wrong-first e = rw wrong-entry (go (listed (function payload) (2 ∷ 3 ∷ 6 ∷ 7 ∷ [])) (every isPgn xs) refl (rw wrong-entry at e))
     where
       go : (a b : Bool) → every isPgn xs ≡ b → not (eqb (cond a (cond b 0 (suc (leading isPgn xs))) 0) 0) ≡ true → FirstWrong payload (record { entry = cond a (cond b 0 (suc (leading isPgn xs))) 0; to = 0; pgn = 0 })
       go false b h e = absurd (true≢false (sym e))
@@ -204,6 +231,7 @@ module _ (words payload : List ℕ) where
   not-22 Adds es e = not-of (λ n. not (eqb n 22)) (first-in (λ n. not (eqb n 22)) (listChecks ports Adds es (from payload) (to payload) (rest .pairs)) refl (λ z. omega arith)) refl e
   not-22 Deletes es e = not-of (λ n. not (eqb n 22)) (first-in (λ n. not (eqb n 22)) (listChecks ports Deletes es (from payload) (to payload) (rest .pairs)) refl (λ z. omega arith)) refl e
   not-22 (Creates passing) es e = not-of (λ n. not (eqb n 22)) (first-in (λ n. not (eqb n 22)) (listChecks ports (Creates passing) es (from payload) (to payload) (rest .pairs)) refl (λ z. omega arith)) refl e
+  not-22 (Names name mask) es e = not-of (λ n. not (eqb n 22)) (first-in (λ n. not (eqb n 22)) (listChecks ports (Names name mask) es (from payload) (to payload) (rest .pairs)) refl (λ z. omega arith)) refl e
 
   changed-telling : (change : Change) → Ports ports (from payload) (to payload) → Telling (listRefusal ports change (entries payload) (from payload) (to payload) (rest .pairs)) (absentTold ports (listRefusal ports change (entries payload) (from payload) (to payload) (rest .pairs)) (entries payload) (from payload) (to payload) (rest .pairs))
   unfolding absentTold
@@ -214,8 +242,11 @@ module _ (words payload : List ℕ) where
         (λ _ b. rw (ne-eqb n 17 b)),
       )
 
-  entries-by : (start : ℕ) → entriesStart (function payload) ≡ start → entriesOf (between start (entriesEnd start payload) payload) ≡ entries payload
-  entries-by start e = rw e
+  entries-by : (start : ℕ) → entriesStart (function payload) ≡ start → eqb (function payload) 7 ≡ false → entriesOf (between start (entriesEnd start payload) payload) ≡ entries payload
+  entries-by start e other = rw (other, e)
+
+  entries-named : eqb (function payload) 7 ≡ true → entriesOf (between 2 5 payload) ≡ entries payload
+  entries-named e = rw e
 
   module _ (requester : ℕ) where
     abbrev Told-by : Command → Type 0
@@ -226,10 +257,11 @@ module _ (words payload : List ℕ) where
     command-telling known =
         by-function (λ c. Good ports payload c → Told-by c) (function payload) (from payload) (to payload) payload known
         (λ e g. told-nothing)
-        (λ e g. rw (entries-by 2 (rw e)) (changed-telling Adds (g .0)))
-        (λ e g. rw (entries-by 2 (rw e)) (changed-telling Deletes (g .0)))
+        (λ e g. rw (entries-by 2 (rw e) (rw e)) (changed-telling Adds (g .0)))
+        (λ e g. rw (entries-by 2 (rw e) (rw e)) (changed-telling Deletes (g .0)))
         (λ e g. told-nothing)
-        (λ pass e g. rw (entries-by 3 (rw e)) (changed-telling (Creates pass) (g .0)))
+        (λ pass e g. rw (entries-by 3 (rw e) (rw e)) (changed-telling (Creates pass) (g .0)))
+        (λ e g. rw (entries-named (rw e)) (changed-telling (Names (nameOf payload) (maskOf payload)) (g .0)))
         (λ e g. told-nothing)
         (λ e g. told-nothing)
         (λ e g. told-nothing)

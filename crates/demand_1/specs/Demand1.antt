@@ -2,7 +2,7 @@
 -- number" of docs/RULES.md; "a refusal changes no list, queue or table, and writes the acknowledgment or nothing." Proved in proofs/Demand1.antt.
 use mathlib.Core.Path.{_≡_}
 use mathlib.Core.Logic.{_↔_}
-use mathlib.Core.Bool.{Bool, true, false, not, _&&_, _||_}
+use mathlib.Core.Bool.{Bool, true, false, cond, not, _&&_, _||_}
 use mathlib.Core.List.{List, [], _∷_, _++_}
 use Prim.Native.Nat.{ℕ, _-_, _≤_, _<_}
 use contract.Lifetimes.{Lfts}
@@ -12,9 +12,10 @@ use lib.Dec.{ltb, leb, eqb}
 use Rattle.identifier.specs.Identifier.{isPgn, tooWide, wrongSource}
 use Rattle.filter.specs.Filter.{Filter, clear, isCleared}
 use Rattle.entries.specs.Entries.{listed, every, entriesOf}
-use Rattle.filter_commands.specs.Changes.{wouldPass, lacks}
+use Rattle.name_entries.specs.NameEntries.{NameEntry}
+use Rattle.filter_commands.specs.Changes.{wouldPass, lacks, passesNames}
 use Rattle.checks.specs.Checks.{Check, check, acknowledges}
-use Rattle.network_message.specs.Decoding.{functionOf, pairOf, fromOf, toOf, isKnown, namesPorts, mayName, hasGoodBody, hasWrongMode, entriesStart, entriesEnd, between, longest}
+use Rattle.network_message.specs.Decoding.{functionOf, pairOf, fromOf, toOf, isKnown, namesPorts, mayName, hasGoodBody, hasWrongMode, entriesStart, entriesEnd, between, nameOf, maskOf, longest}
 use Rattle.replies.specs.Replies.{controlOf, acknowledgment}
 use Rattle.bridge.specs.declared.FrameAnswer.{FrameAnswer}
 use Rattle.bridge.specs.declared.TakeAnswer.{TakeAnswer}
@@ -83,8 +84,17 @@ from payload = fromOf (pairOf payload)
 abbrev pub to : List ℕ → ℕ
 to payload = toOf (pairOf payload)
 
+-- ticket 4: function 7 has one, in bytes 3 to 5
 abbrev pub entries : List ℕ → List ℕ
-entries payload = entriesOf (between (entriesStart (function payload)) (entriesEnd (entriesStart (function payload)) payload) payload)
+entries payload =
+    entriesOf
+    (cond (eqb (function payload) 7)
+    (between 2 5 payload)
+    (between (entriesStart (function payload)) (entriesEnd (entriesStart (function payload)) payload) payload))
+
+-- and with it a NAME and a mask
+abbrev pub nameEntry : List ℕ → NameEntry
+nameEntry payload = record { pgn = getD (entries payload) 0 0; name = nameOf payload; mask = maskOf payload }
 
 -- ticket 8: "128 .. and 130 are the general request .. and reset", 131 and 133 a pair's; the parameter stands in byte 3
 abbrev pub asksParameter : List ℕ → Bool
@@ -112,11 +122,12 @@ messageNumbers ports lent lentReply rest port requester payload =
     ∷ check (not (mayName ports port (function payload) (from payload) (to payload))) 11
     ∷ check (asksParameter payload && (not (listed (parameter payload) (1 ∷ 2 ∷ 3 ∷ 9 ∷ [])) || (resets payload && not (eqb (parameter payload) 9)))) 23
     ∷ check (not (hasGoodBody (function payload) payload)) 12
-    ∷ check (listed (function payload) (2 ∷ 3 ∷ 6 ∷ []) && not (every isPgn (entries payload))) 22
+    ∷ check (listed (function payload) (2 ∷ 3 ∷ 6 ∷ 7 ∷ []) && not (every isPgn (entries payload))) 22
     ∷ check (hasWrongMode (function payload) payload) 13
     ∷ check (eqb (function payload) 6 && aNamedPair ports rest payload (λ f. not (isCleared (f .mode)))) 14
-    ∷ check (listed (function payload) (2 ∷ 3 ∷ []) && aNamedPair ports rest payload (λ f. isCleared (f .mode))) 15
+    ∷ check (listed (function payload) (2 ∷ 3 ∷ 7 ∷ []) && aNamedPair ports rest payload (λ f. isCleared (f .mode))) 15
     ∷ check (listed (function payload) (2 ∷ 6 ∷ []) && aNamedPair ports rest payload (λ f. wouldPass f (entries payload))) 16
+    ∷ check (eqb (function payload) 7 && aNamedPair ports rest payload (λ f. passesNames f (nameEntry payload))) 16
     ∷ check (eqb (function payload) 3 && aNamedPair ports rest payload (λ f. lacks f (entries payload))) 17
     ∷ []
 
@@ -143,7 +154,7 @@ Unchanged r words after = (r ≡ 0 → ⊥) → after ≡ words
 -- refusal changes nothing is not about it": 2 changes not a word, 27 leaves a fresh unit of four ports
 pub record ByPowerOn (words after : List ℕ) (name preferred r : ℕ) : Type 0 where
   pub kept : r ≡ 2 → after ≡ words
-  pub four : r ≡ 27 → (length after ≡ 1234) × (portsOf after ≡ 4) × (modelOf 4 after ≡ fresh 4 name preferred)
+  pub four : r ≡ 27 → (length after ≡ 1534) × (portsOf after ≡ 4) × (modelOf 4 after ≡ fresh 4 name preferred)
 
 -- "and writes the acknowledgment or nothing": eight bytes for the numbers that write one, nothing for the others, and the answer says which
 pub record Writes (lent back payload : List ℕ) (requester : ℕ) (r : MessageAnswer) : Type 0 where

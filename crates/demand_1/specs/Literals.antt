@@ -21,7 +21,9 @@ use Rattle.address_claims.specs.declared.Event.{Event}
 use Rattle.address_claims.specs.Events.{eventNumber}
 use Rattle.checks.specs.Checks.{acknowledges}
 use Rattle.checks.specs.Ports.{isPort}
-use Rattle.network_message.specs.Decoding.{functionOf, pairOf, fromOf, toOf, isKnown, hasWrongMode, longest}
+use Rattle.name_entries.specs.NameEntries.{NameEntry, isThere}
+use Rattle.filter_commands.specs.Changes.{passesNames}
+use Rattle.network_message.specs.Decoding.{functionOf, pairOf, fromOf, toOf, isKnown, hasGoodBody, hasWrongMode, longest}
 use Rattle.replies.specs.Replies.{controlOf, acknowledgment, listReply, addressReply}
 use Rattle.unit.specs.declared.Claim.the-variants.{Unstarted, Claiming, Claimed, Lost}
 use Rattle.unit.specs.declared.Unit.{Unit}
@@ -30,10 +32,13 @@ use Rattle.unit.specs.Model.{Rest, recordLength}
 use Rattle.unit.specs.PowerOn.{notLong}
 use Rattle.unit.specs.Own.{claimFrame, cannotClaimFrame, claimWord}
 use Rattle.claims.specs.Claims.{isClaim, isRequest, heldUnder, started}
-use Rattle.demand_1.specs.Demand1.{entries}
+use Rattle.demand_1.specs.Demand1.{entries, nameEntry}
 
 abbrev pub threeBytes : ℕ → ℕ → ℕ → ℕ
 threeBytes a b c = a + 256 * (b + 256 * c)
+
+abbrev pub eightBytes : ℕ → ℕ → ℕ → ℕ → ℕ → ℕ → ℕ → ℕ → ℕ
+eightBytes a b c d e f g h = a + 256 * (b + 256 * (c + 256 * (d + 256 * (e + 256 * (f + 256 * (g + 256 * h))))))
 
 -- the entries of six bytes, of which the last three may be filling
 abbrev pub oneOrTwo : ℕ → ℕ → ℕ → ℕ → ℕ → ℕ → List ℕ
@@ -48,9 +53,9 @@ pub record Literals : Type 0 where
   -- "a list of at most 32 PGNs", "one queue of at most 32 frames"; the published length of the record, with four ports and with 2 to 8
   pub list : listSize ≡ 32
   pub queue : size ≡ 32
-  pub record-words : (lent : ℕ) → notLong 4 lent ≡ not (eqb lent 1234)
+  pub record-words : (lent : ℕ) → notLong 4 lent ≡ not (eqb lent 1534)
   pub lengths : recordLength 2 ∷ recordLength 3 ∷ recordLength 4 ∷ recordLength 5 ∷ recordLength 6 ∷ recordLength 7 ∷ recordLength 8 ∷ []
-      ≡ 734 ∷ 949 ∷ 1234 ∷ 1589 ∷ 2014 ∷ 2509 ∷ 3074 ∷ []
+      ≡ 784 ∷ 1099 ∷ 1534 ∷ 2089 ∷ 2764 ∷ 3559 ∷ 4474 ∷ []
   -- "Bits 28 to 26 are the priority, 25 the extended data page, 24 the data page, 23 to 16 PF, 15 to 8 PS, 7 to 0 the source address"
   pub priority : (id : ℕ) → priorityOf id ≡ id / 2 ^ 26 % 8
   pub extended : (id : ℕ) → extendedDataPageOf id ≡ id / 2 ^ 25 % 2
@@ -70,7 +75,7 @@ pub record Literals : Type 0 where
       ≡ eqb (id % 256) 255 || (eqb (id % 256) 254 && not (eqb (pgnOf id) 59904 || (eqb (pgnOf id) 60928 && eqb (id / 2 ^ 8 % 256) 255)))
   -- "payload not 8 to 1,785 bytes", "function not listed", "Create mode not 0 or 1"
   pub long : longest ≡ 1785
-  pub known : (function : ℕ) → isKnown function ≡ listed function (0 ∷ 2 ∷ 3 ∷ 4 ∷ 6 ∷ 64 ∷ 128 ∷ 130 ∷ 131 ∷ 133 ∷ [])
+  pub known : (function : ℕ) → isKnown function ≡ listed function (0 ∷ 2 ∷ 3 ∷ 4 ∷ 6 ∷ 7 ∷ 64 ∷ 128 ∷ 130 ∷ 131 ∷ 133 ∷ [])
   pub mode : (function : ℕ) (payload : List ℕ) → hasWrongMode function payload ≡ eqb function 6 && ltb 1 (getD payload 2 0)
   pub function : (payload : List ℕ) → functionOf payload ≡ getD payload 0 0
   pub pair : (payload : List ℕ) → pairOf payload ≡ getD payload 1 0
@@ -81,9 +86,19 @@ pub record Literals : Type 0 where
   pub added : (pair a b c d e f : ℕ) → entries (2 ∷ pair ∷ a ∷ b ∷ c ∷ d ∷ e ∷ f ∷ []) ≡ oneOrTwo a b c d e f
   pub deleted : (pair a b c d e f : ℕ) → entries (3 ∷ pair ∷ a ∷ b ∷ c ∷ d ∷ e ∷ f ∷ []) ≡ oneOrTwo a b c d e f
   pub created : (pair mode a b c : ℕ) → entries (6 ∷ pair ∷ mode ∷ a ∷ b ∷ c ∷ 0xFF ∷ 0xFF ∷ []) ≡ threeBytes a b c ∷ []
-  pub longer : (function pair : ℕ) (bytes : List ℕ) → eqb function 6 ≡ false → 6 < length bytes → entries (function ∷ pair ∷ bytes) ≡ entriesOf bytes
+  pub longer : (function pair : ℕ) (bytes : List ℕ) → eqb function 6 ≡ false → eqb function 7 ≡ false → 6 < length bytes → entries (function ∷ pair ∷ bytes) ≡ entriesOf bytes
   pub longer-create : (pair mode : ℕ) (bytes : List ℕ) → 5 < length bytes → entries (6 ∷ pair ∷ mode ∷ bytes) ≡ entriesOf bytes
   pub next-entry : (a b c : ℕ) (bytes : List ℕ) → entriesOf (a ∷ b ∷ c ∷ bytes) ≡ threeBytes a b c ∷ entriesOf bytes
+  -- ticket 4: "function 7 in 23 bytes: 7, pair byte, PGN, NAME, mask, and two of rate reduction, ignored; least significant byte first"
+  pub named : (pair a b c n0 n1 n2 n3 n4 n5 n6 n7 m0 m1 m2 m3 m4 m5 m6 m7 : ℕ) (rate : List ℕ)
+      → nameEntry (7 ∷ pair ∷ a ∷ b ∷ c ∷ n0 ∷ n1 ∷ n2 ∷ n3 ∷ n4 ∷ n5 ∷ n6 ∷ n7 ∷ m0 ∷ m1 ∷ m2 ∷ m3 ∷ m4 ∷ m5 ∷ m6 ∷ m7 ∷ rate)
+      ≡ record { pgn = threeBytes a b c; name = eightBytes n0 n1 n2 n3 n4 n5 n6 n7; mask = eightBytes m0 m1 m2 m3 m4 m5 m6 m7 }
+  pub named-long : (payload : List ℕ) → hasGoodBody 7 payload ≡ eqb (length payload) 23
+  -- "16 at the ninth", "one already there": PGN, NAME and mask equal
+  pub ninth : (f : Filter) (e : NameEntry) → passesNames f e ≡ not (isThere e (f .named)) && leb 8 (length (f .named))
+  pub there : (e d : NameEntry) (ds : List NameEntry)
+      → isThere e (d ∷ ds) ≡ (eqb (d .pgn) (e .pgn) && (eqb (d .name) (e .name) && eqb (d .mask) (e .mask))) || isThere e ds
+  pub not-there : (e : NameEntry) → isThere e [] ≡ false
   -- "9 to 17 write eight bytes, the acknowledgment with first byte 1 (2 for number 11)", 22 and 23 too; "0, the function, FF, FF, the requester's address, 00, ED, 00"
   pub told : (n : ℕ) → acknowledges n ≡ (leb 9 n && leb n 17) || (eqb n 22 || eqb n 23)
   pub control : (n : ℕ) → controlOf n ≡ cond (eqb n 0) 0 (cond (eqb n 11) 2 1)

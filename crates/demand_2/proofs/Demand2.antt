@@ -10,7 +10,7 @@ use borrow.Author.Tests.{eqb-true, eqb-false}
 use lib.ListN.{length, take, drop, getD}
 use lib.Seq.{take-at}
 use lib.Dec.{eqb}
-use Rattle.filter.specs.Filter.{clear}
+use Rattle.filter.specs.Filter.{Filter, clear}
 use Rattle.delivery.specs.Unit.{joinAll}
 use Rattle.queue.specs.Queue.{size, priority, Queued, queueNext, idle}
 use Rattle.queue.proofs.Rows.{row-sent}
@@ -36,13 +36,14 @@ use Rattle.record.proofs.Regions.{queues-long}
 use Rattle.list_commands.proofs.PairLoop.{pairs-long}
 use Rattle.bridge.proofs.Laws.{not-offered-back, not-sent-back, not-accepted-back, lost-at}
 use Rattle.list_commands.specs.Commands.{IsPair}
-use Rattle.demand_2.specs.Demand2.{unitIn, restOf, pairOn, counterOn, generalCounter, NotBack, Unnamed, OnlyNamed, SameTo, listOf, MayCreate, Demand2}
+use Rattle.demand_2.specs.Demand2.{unitIn, restOf, pairOn, counterOn, generalCounter, namesPair, NotBack, Unnamed, OnlyNamed, Emptied, SameTo, listOf, plain, MayCreate, Demand2}
 use Rattle.made.proofs.Made.{framing, messaging}
 use Rattle.demand_2.proofs.Permanent.{crossing}
 use Rattle.demand_2.proofs.Reasons.{reasons}
+use Rattle.demand_2.proofs.Counts.{counts}
 use Rattle.demand_2.proofs.Pairs.{unit-in, pair-in}
 use Rattle.demand_2.proofs.Counters.{counter-unnamed, general-unnamed}
-use Rattle.demand_2.proofs.Commands.{untouched, messaged-other}
+use Rattle.demand_2.proofs.Commands.{untouched, messaged-other, messaged-emptied}
 use Rattle.demand_2.proofs.Privacy.{messaged-told}
 use Rattle.demand_2.proofs.RoundTrip.{request-reported, tool-port, sent-back}
 use Rattle.demand_2.proofs.Kept.{Standing, stands}
@@ -127,7 +128,7 @@ module _ {words payload lent after back : List ℕ} {port requester : ℕ} {r : 
         pairs = λ a b P e.
             pair-in after (M .call .count) a b
             ∙ ap (λ (w : Model). getD (w .rest .pairs) (pairAt (portsOf words) (a - 1) (b - 1)) clear) s
-            ∙ messaged-other (portsOf words) (restOf words) (pairs-long (portsOf words) words) a b P (length words) (length lent) port requester payload e;
+            ∙ messaged-other (portsOf words) (restOf words) (pairs-long (portsOf words) words) a b P (ports-bounds words .1) (length words) (length lent) port requester payload e;
         losses = λ a b P e. message-words (counterOn (portsOf words) a b) (counter-unnamed (portsOf words) payload a b P e);
         general = λ e. message-words (generalCounter (portsOf words)) (general-unnamed (portsOf words) payload e);
         others = message-words;
@@ -140,6 +141,26 @@ module _ {words payload lent after back : List ℕ} {port requester : ℕ} {r : 
       go : (t : Bool) → eqb (outcome .number) 0 ≡ t → OnlyNamed words port payload after
       go true e = changed (rw e at (M .call .state))
       go false e = still (rw e at (M .call .state))
+
+  message-emptied : r .refusal ≡ 0 → Emptied words payload after
+  unfolding refusal next performed restAfter
+  message-emptied done = record {
+    cleared = λ f a b P e. reads a b ∙ empties a b P e .0 f;
+    created = λ f a b P e. ap (λ (f : Filter). f .named) (reads a b) ∙ empties a b P e .1 f;
+  }
+    where
+      z : outcome .number ≡ 0
+      z = sym (ap (λ (a : MessageAnswer). a .refusal) (M .answer)) ∙ done
+
+      reads : (a b : ℕ) → pairOn after a b ≡ getD (outcome .pairs) (pairAt (portsOf words) (a - 1) (b - 1)) clear
+      reads a b =
+          pair-in after (M .call .count) a b
+          ∙ ap (λ (w : Model). getD (w .rest .pairs) (pairAt (portsOf words) (a - 1) (b - 1)) clear) (rw z at (M .call .state))
+
+      empties : (a b : ℕ) → IsPair (portsOf words) a b → namesPair payload a b ≡ true
+          → (functionOf payload ≡ 4 → getD (outcome .pairs) (pairAt (portsOf words) (a - 1) (b - 1)) clear ≡ clear)
+          × (functionOf payload ≡ 6 → getD (outcome .pairs) (pairAt (portsOf words) (a - 1) (b - 1)) clear .named ≡ [])
+      empties a b P e = messaged-emptied (portsOf words) (restOf words) (pairs-long (portsOf words) words) a b P (length words) (length lent) port requester payload e z
 
 -- ---- what a tool is told
 module _ {words other payload lent after back after₂ back₂ : List ℕ} {p requester : ℕ} {r r₂ : MessageAnswer}
@@ -162,7 +183,7 @@ module _ {words payload lent after back other lent₂ after₂ back₂ : List �
   answered-by : (o : Replied) (seen : Seen) → r ≡ messageAnswer o seen → back ≡ o .written seen ++ drop (length (o .written seen)) lent → take (r .length) back ≡ o .written seen
   answered-by o seen a b = rw (a, b) (take-at (o .written seen) (drop (length (o .written seen)) lent) (length (o .written seen)) refl)
 
-  restored-pair : (r₂ .refusal ≡ 0) × (pairOn after₂ a b ≡ listOf words payload)
+  restored-pair : (r₂ .refusal ≡ 0) × (pairOn after₂ a b ≡ plain (listOf words payload))
   unfolding refusal next performed restAfter
   restored-pair =
       let z : first-outcome .number ≡ 0 = sym (ap (λ (a : MessageAnswer). a .refusal) (M .answer)) ∙ answered in
@@ -175,8 +196,8 @@ module _ {words payload lent after back other lent₂ after₂ back₂ : List �
     where
       finish : (payload₂ : List ℕ) → Messaging (portsOf other) other after₂ port₂ requester₂ payload₂ lent₂ back₂ r₂
           → messaged (portsOf other) (length other) (length lent₂) (restOf other) port₂ requester₂ payload₂ .number ≡ 0
-          → getD (messaged (portsOf other) (length other) (length lent₂) (restOf other) port₂ requester₂ payload₂ .pairs) (pairAt (portsOf other) (a - 1) (b - 1)) clear ≡ listOf words payload
-          → (r₂ .refusal ≡ 0) × (pairOn after₂ a b ≡ listOf words payload)
+          → getD (messaged (portsOf other) (length other) (length lent₂) (restOf other) port₂ requester₂ payload₂ .pairs) (pairAt (portsOf other) (a - 1) (b - 1)) clear ≡ plain (listOf words payload)
+          → (r₂ .refusal ≡ 0) × (pairOn after₂ a b ≡ plain (listOf words payload))
       finish payload₂ N′ z p = (
         ap (λ (a : MessageAnswer). a .refusal) (N′ .answer) ∙ z,
         pair-in after₂ (N′ .call .count) a b ∙ ap (λ (w : Model). getD (w .rest .pairs) (pairAt (portsOf other) (a - 1) (b - 1)) clear) (rw z at (N′ .call .state)) ∙ p,
@@ -188,7 +209,9 @@ demand-2 = record {
   not-back = λ h. frame-back (framing h);
   always = λ h done free which. crossing (framing h) done free which;
   why = λ h. reasons (framing h);
+  told = λ h. counts (framing h);
   only-named = λ h. message-named (messaging h);
+  emptied = λ h done. message-emptied (messaging h) done;
   private = λ least most same long S h g. same-told least most same long S (messaging h) (rw (← same) at (messaging g));
   again = λ R h request answered some T P empty may g.
       restored-pair (stands R) (messaging h) request answered some (stands T) P empty may (messaging g);

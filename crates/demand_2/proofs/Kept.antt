@@ -13,9 +13,9 @@ use Rattle.identifier.specs.Identifier.{isPgn, saOf}
 use Rattle.delivery.specs.Calls.{afterCalls}
 use Rattle.filter.specs.Filter.{Filter, clear}
 use Rattle.entries.specs.Entries.{entriesOf, every, wellFormed}
-use Rattle.filter_commands.specs.Changes.{Sound}
+use Rattle.filter_commands.specs.Changes.{entryOf, Sound}
 use Rattle.checks.proofs.Tests.{both}
-use Rattle.filter_commands.proofs.Laws.{clear-sound, added-sound, deleted-sound, created-sound, added-pgns, deleted-pgns, created-pgns}
+use Rattle.filter_commands.proofs.Laws.{clear-sound, added-sound, deleted-sound, created-sound, named-sound, added-pgns, deleted-pgns, created-pgns, named-pgns}
 use Rattle.queue.specs.declared.Frame.{Frame}
 use Rattle.addresses.specs.declared.Place.the-variants.{Free}
 use Rattle.network_message.specs.declared.Command.{Command}
@@ -24,7 +24,7 @@ use Rattle.network_message.specs.Decoding.{between, decoded}
 use Rattle.network_message.specs.Commands.{Ports, Holding, Good}
 use Rattle.network_message.proofs.Decoding.{decoded-good}
 use Rattle.filter_commands.specs.declared.pairs.Change.{Change}
-use Rattle.filter_commands.specs.declared.pairs.Change.the-variants.{Adds, Deletes, Creates}
+use Rattle.filter_commands.specs.declared.pairs.Change.the-variants.{Adds, Deletes, Creates, Names}
 use Rattle.unit.specs.Ports.{each}
 use Rattle.unit.specs.Count.{countOf, portsOf, pairCount}
 use Rattle.unit.specs.Model.{Rest, Model, modelOf, recordLength}
@@ -64,6 +64,7 @@ unfolding changeOf
 changed-good Adds xs h f G = record { sound = added-sound (G .sound) xs; pgns = added-pgns f xs (G .pgns) h }
 changed-good Deletes xs h f G = record { sound = deleted-sound (G .sound) xs; pgns = deleted-pgns f xs (G .pgns) }
 changed-good (Creates passing) xs h f G = record { sound = created-sound (G .sound) passing xs; pgns = created-pgns f xs (G .pgns) passing h }
+changed-good (Names name mask) xs h f G = record { sound = named-sound (G .sound) (entryOf xs name mask); pgns = named-pgns f xs (G .pgns) (entryOf xs name mask) }
 
 -- ---- of all pairs, and that there is one for each two ports
 record All (ports : ℕ) (pairs : List Filter) : Type 0 where

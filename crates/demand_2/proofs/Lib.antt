@@ -1,5 +1,8 @@
+pub mod Searches
+pub mod Matching
 pub mod Permanent
 pub mod Reasons
+pub mod Counts
 pub mod Pairs
 pub mod Counters
 pub mod Commands

@@ -24,6 +24,7 @@ use Rattle.bridge.specs.Calls.{frameOf, offered, framePassed, frameRefused, fra
 use Rattle.checks.proofs.Ports.{port-bounds}
 use Rattle.refusals.proofs.Checks.{frame-goes}
 use Rattle.bridge.proofs.Laws.{accepted-at, lost-at}
+use Rattle.demand_2.specs.Matching.{Permanent}
 use Rattle.demand_2.specs.Demand2.{unitIn, Crossing}
 
 permanent : {pgn : ℕ} → (pgn ≡ 60928) ⊎ (pgn ≡ 59904) → isPermanent pgn ≡ true
@@ -48,7 +49,7 @@ module _ (ports : ℕ) (rest : Rest) (p id : ℕ) (always : isPermanent (pgnOf i
       either true = refl
       either false = refl
 
-module _ {words bytes after : List ℕ} {port id : ℕ} {r : FrameAnswer} (F : Framing (portsOf words) words after port id bytes r) (done : r .refusal ≡ 0) (free : r .consumed ≡ false) (which : (pgnOf id ≡ 60928) ⊎ (pgnOf id ≡ 59904)) where
+module _ {words bytes after : List ℕ} {port id : ℕ} {r : FrameAnswer} (F : Framing (portsOf words) words after port id bytes r) (done : r .refusal ≡ 0) (free : r .consumed ≡ false) (which : Permanent id) where
   pub crossing : Crossing words port r
   unfolding frameAnswer framePassed
   crossing = go (eqb (frameRefusal (portsOf words) (length words) port id (length bytes)) 0) refl

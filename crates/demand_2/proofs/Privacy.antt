@@ -23,7 +23,7 @@ use Rattle.network_message.specs.Commands.{Named, named, reaches, Own, Ports, G
 use Rattle.replies.specs.Replies.{addressReply}
 use Rattle.network_message.proofs.Decoding.{decoded-good, decoded-own}
 use Rattle.filter_commands.specs.declared.pairs.Change.{Change}
-use Rattle.filter_commands.specs.declared.pairs.Change.the-variants.{Adds, Deletes, Creates}
+use Rattle.filter_commands.specs.declared.pairs.Change.the-variants.{Adds, Deletes, Creates, Names}
 use Rattle.unit.specs.Count.{portsOf}
 use Rattle.unit.specs.Model.{Model, Rest, Seen, pairAt, modelOf}
 use Rattle.filter_commands.specs.declared.pairs.Question.the-variants.{Lacks}
@@ -92,6 +92,7 @@ module _ (ports : ℕ) (ps qs : List Filter) (from to : ℕ) (same : Agree ports
   refused-same Adds xs = rw (asked-same _, asked-same _)
   refused-same Deletes xs = rw (asked-same _, asked-same _)
   refused-same (Creates passing) xs = rw (asked-same _, asked-same _)
+  refused-same (Names name mask) xs = rw (asked-same _, asked-same _)
 
   -- the first pair that lacks a PGN is named, so it is the same, and its list too
   absent-same : (xs : List ℕ) → anyNamed ports (ports - 1) (holdsOf Lacks xs) from to ps ≡ true → absentAt ports xs from to ps ≡ absentAt ports xs from to qs

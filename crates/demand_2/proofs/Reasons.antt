@@ -1,7 +1,8 @@
--- The reason that an answer tells for each port is the pair's, by its mode and list. Assumes nothing.
+-- The reason that an answer tells for each port is the pair's, by its mode, its list and its NAME entries. Assumes nothing.
 use mathlib.Core.Path.{_≡_, refl, sym, ap, _∙_}
 use mathlib.Core.Bool.{Bool, true, false, cond, _||_, true≢false}
 use mathlib.Core.List.{List}
+use mathlib.Core.Option.{Option}
 use Prim.Native.Nat.{ℕ, _+_, _-_, _^_, _<_, _≤_}
 use native.Mathlib.Nat.{zero-div}
 use native.Mathlib.Omega.{arith}
@@ -13,6 +14,7 @@ use Rattle.identifier.specs.Identifier.{pgnOf}
 use Rattle.entries.specs.Entries.{listed}
 use Rattle.filter.specs.declared.Reason.{Reason}
 use Rattle.filter.specs.declared.Asked.{Asked}
+use Rattle.name_entries.specs.NameEntries.{matchedBy, placeOf}
 use Rattle.filter.specs.Filter.{Mode, cleared, block, pass, Filter, isPermanent, place, reasonOf, reasonNumber, asked}
 use Rattle.filter.proofs.Reasons.{reason-below}
 use Rattle.bridge.specs.declared.FrameAnswer.{FrameAnswer}
@@ -26,7 +28,8 @@ use Rattle.bridge.specs.Calls.{frameOf, offered, framePassed, frameRefused, fra
 use Rattle.refusals.proofs.Checks.{frame-goes}
 use Rattle.unit.proofs.Ports.{digit-at, digit-past, digits-none}
 use Rattle.bridge.proofs.Laws.{not-offered-back}
-use Rattle.demand_2.specs.Demand2.{unitIn, pairOn, listReason, pairReason, reasonAt, Reasons}
+use Rattle.demand_2.specs.Demand2.{unitIn, pairOn, listReason, pairReason, Tells, as-listed, as-not-listed, reasonAt, Reasons}
+use Rattle.demand_2.proofs.Matching.{name, here, listed-here, not-listed-here}
 
 by-mode : (m : Mode) (here : Bool) → reasonNumber (reasonOf m here) ≡ listReason m here
 unfolding reasonOf
@@ -36,13 +39,24 @@ by-mode block false = refl
 by-mode pass true = refl
 by-mode pass false = refl
 
-of-pair : (f : Filter) (pgn : ℕ) → reasonNumber (asked f pgn .reason) ≡ pairReason f pgn
+of-pair : (f : Filter) (pgn : ℕ) (sender : Option ℕ) → reasonNumber (asked f pgn sender .reason) ≡ pairReason f pgn (listed pgn (f .entries) || matchedBy pgn sender (f .named))
 unfolding asked isPermanent
-of-pair f pgn = go (eqb pgn 60928 || eqb pgn 59904)
+of-pair f pgn sender = go (eqb pgn 60928 || eqb pgn 59904)
   where
-    go : (b : Bool) → reasonNumber (cond {A = Asked} b (record { reason = Reason.Permanent; compared = 0 }) (record { reason = reasonOf (f .mode) (listed pgn (f .entries)); compared = place pgn (f .entries) }) .reason) ≡ cond b 1 (listReason (f .mode) (listed pgn (f .entries)))
+    found : Bool
+    found = listed pgn (f .entries) || matchedBy pgn sender (f .named)
+
+    go : (b : Bool) → reasonNumber (cond {A = Asked} b (record { reason = Reason.Permanent; compared = 0 }) (record { reason = reasonOf (f .mode) found; compared = place pgn (f .entries) + cond (listed pgn (f .entries)) 0 (placeOf pgn sender (f .named)) }) .reason) ≡ cond b 1 (listReason (f .mode) found)
     go true = refl
-    go false = by-mode (f .mode) (listed pgn (f .entries))
+    go false = by-mode (f .mode) found
+
+-- what a pair tells, on the data
+tells : (ports : ℕ) (words : List ℕ) (id : ℕ) (f : Filter) → Tells words id f (reasonNumber (asked f (pgnOf id) (name ports words id f) .reason))
+tells ports words id f = rw (of-pair f (pgnOf id) (name ports words id f)) (go (here ports words id f) refl)
+  where
+    go : (b : Bool) → here ports words id f ≡ b → Tells words id f (pairReason f (pgnOf id) b)
+    go true e = as-listed (listed-here ports words id f e)
+    go false e = as-not-listed (not-listed-here ports words id f e)
 
 no-digit : (q : ℕ) → digitAt 0 q ≡ 0
 unfolding digitAt
@@ -90,9 +104,9 @@ module _ {words bytes after : List ℕ} {port id : ℕ} {r : FrameAnswer} (F : F
     refusal-is = ap (λ (x : FrameAnswer). x .refusal) a
 
     -- at another port, a frame that is not for the unit
-    told-pair : (q : ℕ) → consumes (m .rest .own) id ≡ false → (port - 1 ≡ q - 1 → ⊥) → told (q - 1) ≡ pairReason (pairOn words port q) (pgnOf id)
+    told-pair : (q : ℕ) → consumes (m .rest .own) id ≡ false → (port - 1 ≡ q - 1 → ⊥) → Tells words id (pairOn words port q) (told (q - 1))
     unfolding offered verdict
-    told-pair q free ne = rw (free, ne-eqb (port - 1) (q - 1) ne) (of-pair (pairOn words port q) (pgnOf id))
+    told-pair q free ne = rw (free, ne-eqb (port - 1) (q - 1) ne) (tells (portsOf words) words id (pairOn words port q))
 
     told-back : told (port - 1) ≡ 0
     told-back = rw (not-offered-back (portsOf words) (m .rest) (port - 1) id)
@@ -102,7 +116,7 @@ module _ {words bytes after : List ℕ} {port id : ℕ} {r : FrameAnswer} (F : F
     went = record {
       asked = λ done free q is ne.
           let b = port-bounds (portsOf words) q is in
-          rw reasons-are (digit-at told told-small (portsOf words) (q - 1) (omega (arith, b .0, b .1)) ∙ told-pair q (sym consumed-is ∙ free) (λ same. ne (apart q (b .0) same)));
+          rw (reasons-are, digit-at told told-small (portsOf words) (q - 1) (omega (arith, b .0, b .1))) (told-pair q (sym consumed-is ∙ free) (λ same. ne (apart q (b .0) same)));
       back = λ least. rw reasons-are (digit-at told told-small (portsOf words) (port - 1) here ∙ told-back);
       past = λ q beyond. rw reasons-are (digit-past told told-small (portsOf words) (q - 1) (omega arith));
       refused = λ some. absurd (some refusal-is);

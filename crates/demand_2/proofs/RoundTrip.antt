@@ -37,6 +37,7 @@ use Rattle.message_answers.specs.Messages.{Replied, performedBy}
 use Rattle.bridge.specs.Calls.{silentReply, messaged}
 use Rattle.refusals.specs.Refusals.{messageRefusal}
 use Rattle.list_commands.proofs.Ranks.{names-is, target, target-pair, target-rank, target-at}
+use Rattle.demand_2.specs.Demand2.{plain}
 use Rattle.demand_2.proofs.Commands.{commanded-named}
 
 abbrev pairIn : ℕ → Rest → ℕ → ℕ → Filter
@@ -123,7 +124,7 @@ module _ (ports : ℕ) (few : ports ≤ 8) (from to : ℕ) (P : IsPair ports fro
         go k l true e = rw (e, it-is k l e) no
         go k l false e = rw e
 
--- the Create is done, and the pair is the one that was reported
+-- the Create is done, and the pair is the one that was reported, without its NAME entries
 module _ (ports : ℕ) (few : ports ≤ 8) (other : Rest) (long : length (other .pairs) ≡ pairCount ports) (f : Filter) (S : Sound f) (pgns : every isPgn (f .entries) ≡ true) (some : 1 ≤ length (f .entries)) (from to : ℕ) (P : IsPair ports from to) (empty : pairIn ports other from to ≡ clear) where
   abbrev passing : Bool
   passing = eqb (reportedMode (f .mode)) 1
@@ -139,7 +140,7 @@ module _ (ports : ℕ) (few : ports ≤ 8) (other : Rest) (long : length (other 
       fitting : holdsOf WouldPass (f .entries) clear ≡ false
       fitting = fits f S
 
-  pub create-done : getD (commanded ports (Creates passing) (f .entries) from to (other .pairs)) (pairAt ports (from - 1) (to - 1)) clear ≡ f
+  pub create-done : getD (commanded ports (Creates passing) (f .entries) from to (other .pairs)) (pairAt ports (from - 1) (to - 1)) clear ≡ plain f
   unfolding changeOf
   create-done =
       let low = port-bounds ports from (P .from) in
@@ -187,7 +188,7 @@ module _ (ports : ℕ) (few : ports ≤ 8) (other : Rest) (long : length (other 
 
   create-sent : (lent lentReply port requester : ℕ) → lent ≡ recordLength ports → longest ≤ lentReply → isPort ports port ≡ true → other .own .claim ≡ Claimed → requester < 254 → (port ≡ 1) ⊎ ((a ≡ port) ⊎ (b ≡ port))
       → (messaged ports lent lentReply other port requester (asCreate (listReply pair f)) .number ≡ 0)
-      × (getD (messaged ports lent lentReply other port requester (asCreate (listReply pair f)) .pairs) (pairAt ports (a - 1) (b - 1)) clear ≡ f)
+      × (getD (messaged ports lent lentReply other port requester (asCreate (listReply pair f)) .pairs) (pairAt ports (a - 1) (b - 1)) clear ≡ plain f)
   unfolding messaged performedBy
   create-sent lent lentReply port requester l t p c q may =
       let to = port-bounds ports b (P .to) in
@@ -201,5 +202,5 @@ module _ (ports : ℕ) (few : ports ≤ 8) (other : Rest) (long : length (other 
 
   pub sent-back : (lent lentReply port requester : ℕ) → lent ≡ recordLength ports → longest ≤ lentReply → isPort ports port ≡ true → other .own .claim ≡ Claimed → requester < 254 → (port ≡ 1) ⊎ ((a ≡ port) ⊎ (b ≡ port))
       → (messaged ports lent lentReply other port requester (6 ∷ pair ∷ drop 2 (listReply asked f)) .number ≡ 0)
-      × (getD (messaged ports lent lentReply other port requester (6 ∷ pair ∷ drop 2 (listReply asked f)) .pairs) (pairAt ports (a - 1) (b - 1)) clear ≡ f)
+      × (getD (messaged ports lent lentReply other port requester (6 ∷ pair ∷ drop 2 (listReply asked f)) .pairs) (pairAt ports (a - 1) (b - 1)) clear ≡ plain f)
   sent-back lent lentReply port requester l t p c q may = rw sent-is (create-sent lent lentReply port requester l t p c q may)

@@ -1,11 +1,12 @@
 -- Demand 2, by the contracts of the functions alone. Proved in proofs/Demand2.antt. The quoted words are the customer's.
--- About any records: no frame goes back, claims and requests cross, what crosses is told with its reason, a command changes the pairs and the counter that it
--- names, a tool sees its own. About records that calls from power-on led to: a list that is reported and sent back is that list.
+-- About any records: no frame goes back, claims and requests cross, what crosses is told with its reason and with what was compared, a command changes the
+-- pairs and the counter that it names, Clear and Create leave no NAME entry, a tool sees its own. About records that calls from power-on led to: a list that is
+-- reported and sent back is that list.
 use mathlib.Core.Path.{_≡_}
 use mathlib.Core.Logic.{_⊎_, _↔_}
 use mathlib.Core.Bool.{Bool, true, false, not, _&&_, _||_, cond}
 use mathlib.Core.List.{List, [], _∷_}
-use Prim.Native.Nat.{ℕ, _+_, _-_, _*_, _/_, _%_, _≤_, _<_, min}
+use Prim.Native.Nat.{ℕ, zero, suc, _+_, _-_, _*_, _/_, _%_, _≤_, _<_, min}
 use lib.ListN.{length, take, drop, getD}
 use lib.Dec.{eqb, ltb}
 use Rattle.identifier.specs.Identifier.{pgnOf}
@@ -26,6 +27,7 @@ use Rattle.bridge.specs.Calls.{frameOf}
 use Rattle.unit.specs.Own.{framesSent}
 use Rattle.list_commands.specs.Commands.{IsPair}
 use Rattle.bridge.specs.Calls.{Call, frameDone}
+use Rattle.demand_2.specs.Matching.{Listed, Permanent, Compares}
 use Rattle.made.specs.Made.{Powered, Arrived, Handed}
 use Rattle.demand_3.specs.Demand3.{Made, Answer}
 
@@ -68,7 +70,7 @@ pub record Crossing (words : List ℕ) (port : ℕ) (r : FrameAnswer) : Type 0 w
   pub compared : r .compared ≡ 0
 
 -- ---- ticket 11: "a reason: permanent, else cleared, listed in pass, not listed in block, stopped as listed, stopped as not listed", 1 to 6 in
--- this order, by the pair's mode and list; "or ‘not asked’ where rule 2 asks no pair", 0
+-- this order, by the pair's mode and by what its list and its NAME entries hold; "or ‘not asked’ where rule 2 asks no pair", 0
 abbrev pub listReason : Mode → Bool → ℕ
 listReason cleared here = 2
 listReason pass true = 3
@@ -76,27 +78,50 @@ listReason block false = 4
 listReason block true = 5
 listReason pass false = 6
 
-abbrev pub pairReason : Filter → ℕ → ℕ
-pairReason f pgn = cond (eqb pgn 60928 || eqb pgn 59904) 1 (listReason (f .mode) (listed pgn (f .entries)))
+abbrev pub pairReason : Filter → ℕ → Bool → ℕ
+pairReason f pgn here = cond (eqb pgn 60928 || eqb pgn 59904) 1 (listReason (f .mode) here)
+
+pub data Tells (words : List ℕ) (id : ℕ) (f : Filter) : ℕ → Type 0 where
+  as-listed : Listed words id f → Tells words id f (pairReason f (pgnOf id) true)
+  as-not-listed : (Listed words id f → ⊥) → Tells words id f (pairReason f (pgnOf id) false)
 
 -- what the answer tells for port q: four bits a port
 abbrev pub reasonAt : FrameAnswer → ℕ → ℕ
 reasonAt r q = digitAt (r .reasons) (q - 1)
 
 pub record Reasons (words : List ℕ) (port id : ℕ) (r : FrameAnswer) : Type 0 where
-  pub asked : r .refusal ≡ 0 → r .consumed ≡ false → (q : ℕ) → isPort (portsOf words) q ≡ true → (port ≡ q → ⊥) → reasonAt r q ≡ pairReason (pairOn words port q) (pgnOf id)
+  pub asked : r .refusal ≡ 0 → r .consumed ≡ false → (q : ℕ) → isPort (portsOf words) q ≡ true → (port ≡ q → ⊥) → Tells words id (pairOn words port q) (reasonAt r q)
   -- not asked: the arrival port, a port that the unit has not, a refused frame, a consumed one
   pub back : 1 ≤ port → reasonAt r port ≡ 0
   pub past : (q : ℕ) → portsOf words < q → reasonAt r q ≡ 0
   pub refused : (r .refusal ≡ 0 → ⊥) → r .reasons ≡ 0
   pub consumed : r .consumed ≡ true → r .reasons ≡ 0
 
+-- ---- rule 5, the number of entries compared: "The three pairs are added. A consumed or refused frame has 0."
+-- the sum over the ports 1 to n
+unfoldable pub sumTo : (ℕ → ℕ) → ℕ → ℕ
+sumTo count zero = 0
+sumTo count (suc n) = sumTo count n + count (suc n)
+
+-- what is counted for each port by itself: what its pair compared, 0 at the arrival port, which has none
+pub record Counted (words : List ℕ) (port id compared : ℕ) : Type 0 where
+  pub count : ℕ → ℕ
+  pub pair : (q : ℕ) → isPort (portsOf words) q ≡ true → (port ≡ q → ⊥) → Compares words id (pairOn words port q) (count q)
+  pub back : count port ≡ 0
+  pub sum : compared ≡ sumTo count (portsOf words)
+
+pub record Counts (words : List ℕ) (port id : ℕ) (r : FrameAnswer) : Type 0 where
+  pub asked : r .refusal ≡ 0 → r .consumed ≡ false → Counted words port id (r .compared)
+  pub refused : (r .refusal ≡ 0 → ⊥) → r .compared ≡ 0
+  pub consumed : r .consumed ≡ true → r .compared ≡ 0
+
 -- ---- "A command changes the pairs it names and no other."
--- The pairs that a payload names, by its own bytes: in functions 2, 3, 4 and 6, "byte 2 holds From in the upper four bits, To in the lower. To may be 15,
--- all pairs from that port". No other function changes a pair.
+-- The pairs that a payload names, by its own bytes: in functions 2, 3, 4, 6 and 7, "byte 2 holds From in the upper four bits, To in the lower. To may be 15,
+-- all pairs from that port", but in 7 (ticket 4), "To 15 not allowed". No other function changes a pair.
 abbrev pub namesPair : List ℕ → ℕ → ℕ → Bool
 namesPair payload a b =
-    listed (getD payload 0 0) (2 ∷ 3 ∷ 4 ∷ 6 ∷ []) && (eqb a (getD payload 1 0 / 16) && (eqb (getD payload 1 0 % 16) 15 || eqb b (getD payload 1 0 % 16)))
+    listed (getD payload 0 0) (2 ∷ 3 ∷ 4 ∷ 6 ∷ 7 ∷ [])
+    && (eqb a (getD payload 1 0 / 16) && ((not (eqb (getD payload 0 0) 7) && eqb (getD payload 1 0 % 16) 15) || eqb b (getD payload 1 0 % 16)))
 
 -- "A reset touches the named counter only": 133 names the pair's, 130 the general one. No other function changes a counter.
 abbrev pub resetsPair : List ℕ → ℕ → ℕ → Bool
@@ -128,6 +153,11 @@ pub record OnlyNamed (words : List ℕ) (port : ℕ) (payload after : List ℕ) 
   pub table : restOf after .table ≡ restOf words .table
   pub queues : unitIn after .queues ≡ unitIn words .queues
 
+-- ---- ticket 4: "Clear empties both." A Create that is done leaves no NAME entry either, whatever the words behind the list held.
+pub record Emptied (words payload after : List ℕ) : Type 0 where
+  pub cleared : getD payload 0 0 ≡ 4 → (a b : ℕ) → IsPair (portsOf words) a b → namesPair payload a b ≡ true → pairOn after a b ≡ clear
+  pub created : getD payload 0 0 ≡ 6 → (a b : ℕ) → IsPair (portsOf words) a b → namesPair payload a b ≡ true → pairOn after a b .named ≡ []
+
 -- ---- "For a tool on port p of 2 to 4, with the unit's claim state and address given, reply and refusal are the same whatever the lists and address tables
 -- hold beyond p's own pairs and the addresses recorded on p." With another number of ports p is of 2 to that number.
 pub record SameTo (p : ℕ) (x y : List ℕ) : Type 0 where
@@ -148,6 +178,10 @@ pub data Reached : List ℕ → Type 0 where
 abbrev pub listOf : List ℕ → List ℕ → Filter
 listOf words payload = pairOn words (getD payload 1 0 / 16) (getD payload 1 0 % 16)
 
+-- a pair's mode and list without its NAME entries
+abbrev pub plain : Filter → Filter
+plain f = record { mode = f .mode; entries = f .entries; named = [] }
+
 -- A tool that may send a Create for the pair from a to b to this unit: 1, 2, 6, 8 and 11 don't apply. (Its port is 1, a or b, so the unit has it.)
 pub record MayCreate (words : List ℕ) (port requester a b : ℕ) (lent : List ℕ) : Type 0 where
   pub room : 1785 ≤ length lent
@@ -160,10 +194,14 @@ pub record Demand2 : Type 0 where
   pub not-back : {words bytes after : List ℕ} {port id : ℕ} {r : FrameAnswer} → Arrived words port id bytes r after → NotBack words port id bytes r after
   -- a frame of such a PGN that is neither refused nor consumed
   pub always : {words bytes after : List ℕ} {port id : ℕ} {r : FrameAnswer} → Arrived words port id bytes r after
-      → r .refusal ≡ 0 → r .consumed ≡ false → (pgnOf id ≡ 60928) ⊎ (pgnOf id ≡ 59904) → Crossing words port r
+      → r .refusal ≡ 0 → r .consumed ≡ false → Permanent id → Crossing words port r
   pub why : {words bytes after : List ℕ} {port id : ℕ} {r : FrameAnswer} → Arrived words port id bytes r after → Reasons words port id r
+  pub told : {words bytes after : List ℕ} {port id : ℕ} {r : FrameAnswer} → Arrived words port id bytes r after → Counts words port id r
   pub only-named : {words payload lent after back : List ℕ} {port requester : ℕ} {r : MessageAnswer} → Handed words port requester payload lent r after back
       → OnlyNamed words port payload after
+  -- a command that is done
+  pub emptied : {words payload lent after back : List ℕ} {port requester : ℕ} {r : MessageAnswer} → Handed words port requester payload lent r after back
+      → r .refusal ≡ 0 → Emptied words payload after
   -- two records that a tool on port p cannot tell apart, the same message, the same buffer
   pub private : {words other payload lent after back after₂ back₂ : List ℕ} {p requester : ℕ} {r r₂ : MessageAnswer}
       → 2 ≤ p → p ≤ portsOf words → portsOf words ≡ portsOf other → length words ≡ length other → SameTo p words other
@@ -171,9 +209,9 @@ pub record Demand2 : Type 0 where
       → (r ≡ r₂) × (back ≡ back₂)
   -- A unit, after any list of calls, answered a Request with a list that has entries. What it wrote is sent back to a unit, this or another, of as many ports
   -- or not, after any list of calls, as Create for a pair, that one or another, which is cleared there: 6, the pair byte, and the mode and the PGNs as they
-  -- were reported. It is done, and the pair has that list and that mode.
+  -- were reported. It is done, and the pair has that list and that mode, and no NAME entry: "List replies leave these out."
   pub again : {words payload lent after back other lent₂ after₂ back₂ : List ℕ} {port requester port₂ requester₂ a b : ℕ} {r r₂ : MessageAnswer}
       → Reached words → Handed words port requester payload lent r after back → getD payload 0 0 ≡ 0 → r .refusal ≡ 0 → 1 ≤ length (listOf words payload .entries)
       → Reached other → IsPair (portsOf other) a b → pairOn other a b ≡ clear → MayCreate other port₂ requester₂ a b lent₂
       → Handed other port₂ requester₂ (6 ∷ (16 * a + b) ∷ drop 2 (take (r .length) back)) lent₂ r₂ after₂ back₂
-      → (r₂ .refusal ≡ 0) × (pairOn after₂ a b ≡ listOf words payload)
+      → (r₂ .refusal ≡ 0) × (pairOn after₂ a b ≡ plain (listOf words payload))

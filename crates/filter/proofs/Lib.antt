@@ -1,3 +1,3 @@
 pub mod Meaning
-mod Asking
+pub mod Asking
 pub mod Reasons

@@ -6,7 +6,7 @@ use native.Mathlib.Omega.{arith}
 use Rattle.entries.specs.Entries.{listed}
 use Rattle.filter.specs.declared.Reason.{Reason}
 use Rattle.filter.specs.declared.Asked.{Asked}
-use Rattle.filter.specs.Filter.{Mode, cleared, block, pass, Filter, permits, place, isPermanent, permitted, reasonOf, crosses, reasonNumber, asked}
+use Rattle.filter.specs.Filter.{Mode, cleared, block, pass, Filter, permits, place, isPermanent, permitted, reasonOf, crosses, reasonNumber, askedByList}
 
 by-mode : (m : Mode) (here : Bool) → crosses (reasonOf m here) ≡ permits m here
 unfolding reasonOf permits
@@ -16,9 +16,9 @@ by-mode block false = refl
 by-mode pass true = refl
 by-mode pass false = refl
 
--- for every pair and every PGN
-pub crosses-same : (f : Filter) (pgn : ℕ) → crosses (asked f pgn .reason) ≡ permitted f pgn
-unfolding asked permitted
+-- for every list and every PGN
+pub crosses-same : (f : Filter) (pgn : ℕ) → crosses (askedByList f pgn .reason) ≡ permitted f pgn
+unfolding askedByList permitted
 crosses-same f pgn = go (isPermanent pgn)
   where
     go : (b : Bool) → crosses (cond {A = Asked} b (record { reason = Reason.Permanent; compared = 0 }) (record { reason = reasonOf (f .mode) (listed pgn (f .entries)); compared = place pgn (f .entries) }) .reason) ≡ b || permits (f .mode) (listed pgn (f .entries))

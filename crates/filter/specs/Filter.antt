@@ -4,11 +4,13 @@ use Prim.Native.Nat.{ℕ, zero, suc, _+_, _≤_}
 use mathlib.Core.Bool.{Bool, true, false, cond, not, _||_}
 use mathlib.Core.Path.{_≡_}
 use mathlib.Core.List.{List, [], _∷_}
+use mathlib.Core.Option.{Option}
 use lib.ListN.{length, take, drop, getD}
 use lib.Dec.{eqb}
 use Rattle.identifier.specs.Identifier.{request, addressClaimed}
 use Rattle.entries.specs.Entries.{listed}
 use Rattle.pgn_list.specs.PgnList.{listSize}
+use Rattle.name_entries.specs.NameEntries.{NameEntry, namesLength, namesOf, matchedBy, placeOf, mostNames}
 use Rattle.filter.specs.declared.Reason.{Reason}
 use Rattle.filter.specs.declared.Asked.{Asked}
 
@@ -25,9 +27,16 @@ listPlace = 2
 abbrev pub listOf : List ℕ → List ℕ
 listOf words = take listSize (drop listPlace words)
 
+-- where it has its NAME entries, behind the list. A plan's block ends there
+abbrev pub namesPlace : ℕ
+namesPlace = listPlace + listSize
+
+abbrev pub namesIn : List ℕ → List ℕ
+namesIn words = take namesLength (drop namesPlace words)
+
 -- the words of a block
 abbrev pub blockSize : ℕ
-blockSize = listPlace + listSize
+blockSize = namesPlace + namesLength
 
 -- cleared, block (mode 0) or pass (mode 1)
 pub data Mode : Type 0 where
@@ -35,13 +44,14 @@ pub data Mode : Type 0 where
   block : Mode
   pass : Mode
 
--- a pair's filter, its PGNs in order of addition
+-- a pair's filter: its PGNs and its NAME entries, each in order of addition
 pub record Filter : Type 0 where
   pub mode : Mode
   pub entries : List ℕ
+  pub named : List NameEntry
 
 abbrev pub clear : Filter
-clear = record { mode = cleared; entries = [] }
+clear = record { mode = cleared; entries = []; named = [] }
 
 -- 15, Add and Delete: the pair is cleared. 14, Create: it is not.
 unfoldable pub isCleared : Mode → Bool
@@ -49,15 +59,21 @@ isCleared cleared = true
 isCleared block = false
 isCleared pass = false
 
--- by the mode word: 0 is cleared and has no entries, whatever the count says; 1 blocks; any other passes
-unfoldable pub meant : ℕ → List ℕ → Filter
-meant zero es = clear
-meant (suc zero) es = record { mode = block; entries = es }
-meant (suc (suc m)) es = record { mode = pass; entries = es }
+-- by the mode word: 0 is cleared and has no entries, whatever the count says; 1 and 3 block, any other passes. Below 3 there are no NAME entries, whatever stands behind the list
+unfoldable pub meant : ℕ → List ℕ → List NameEntry → Filter
+meant zero es ns = clear
+meant (suc zero) es ns = record { mode = block; entries = es; named = [] }
+meant (suc (suc zero)) es ns = record { mode = pass; entries = es; named = [] }
+meant (suc (suc (suc zero))) es ns = record { mode = block; entries = es; named = ns }
+meant (suc (suc (suc (suc m)))) es ns = record { mode = pass; entries = es; named = ns }
+
+-- whether a mode word blocks
+unfoldable pub isBlock : ℕ → Bool
+isBlock m = eqb m 1 || eqb m 3
 
 -- what a block means: its PGNs are the first `count` of its list. Those past the count are the block's free part.
 unfoldable pub filterOf : List ℕ → Filter
-filterOf words = meant (getD words modePlace 0) (take (getD words countPlace 0) (listOf words))
+filterOf words = meant (getD words modePlace 0) (take (getD words countPlace 0) (listOf words)) (namesOf (namesIn words))
 
 -- forwarding rule 2: what a pair of that mode permits, by whether the PGN is listed
 unfoldable pub permits : Mode → Bool → Bool
@@ -74,7 +90,7 @@ place x (y ∷ ys) = cond (eqb y x) 1 (suc (place x ys))
 unfoldable pub isPermanent : ℕ → Bool
 isPermanent pgn = eqb pgn addressClaimed || eqb pgn request
 
--- whether a pair permits a PGN
+-- whether a pair permits a PGN by its list alone, as a plan asks it
 unfoldable pub permitted : Filter → ℕ → Bool
 permitted f pgn = isPermanent pgn || permits (f .mode) (listed pgn (f .entries))
 
@@ -106,12 +122,23 @@ reasonNumber Reason.NotListedInBlock = 4
 reasonNumber Reason.StoppedAsListed = 5
 reasonNumber Reason.StoppedAsNotListed = 6
 
--- what asking a pair answers: a permanent PGN is looked up in no list; a cleared pair has no entries, so it compares 0
-unfoldable pub asked : Filter → ℕ → Asked
-asked f pgn =
+-- what asking a pair's list answers: a permanent PGN is looked up in no list; a cleared pair has no entries, so it compares 0
+unfoldable pub askedByList : Filter → ℕ → Asked
+askedByList f pgn =
     cond (isPermanent pgn)
     (record { reason = Reason.Permanent; compared = 0 })
     (record { reason = reasonOf (f .mode) (listed pgn (f .entries)); compared = place pgn (f .entries) })
+
+-- what asking a pair answers, by the PGN and the sender's NAME: "A match counts as listed. The compared count runs over the plain list and then, if the PGN
+-- wasn't found, these entries up to the first match."
+unfoldable pub asked : Filter → ℕ → Option ℕ → Asked
+asked f pgn sender =
+    cond (isPermanent pgn)
+    (record { reason = Reason.Permanent; compared = 0 })
+    (record {
+      reason = reasonOf (f .mode) (listed pgn (f .entries) || matchedBy pgn sender (f .named));
+      compared = place pgn (f .entries) + cond (listed pgn (f .entries)) 0 (placeOf pgn sender (f .named));
+    })
 
 -- function 0: the mode as it is reported; a cleared pair shows mode 0
 unfoldable pub reportedMode : Mode → ℕ
@@ -119,10 +146,14 @@ reportedMode cleared = 0
 reportedMode block = 0
 reportedMode pass = 1
 
--- the contract of asking a block
-pub record Asking (words : List ℕ) (pgn : ℕ) (r : Asked) : Type 0 where
-  pub answer : r ≡ asked (filterOf words) pgn
+-- the contracts of asking a block, and its list alone
+pub record ListAsking (words : List ℕ) (pgn : ℕ) (r : Asked) : Type 0 where
+  pub answer : r ≡ askedByList (filterOf words) pgn
   pub small : r .compared ≤ listSize
+
+pub record Asking (words : List ℕ) (pgn : ℕ) (sender : Option ℕ) (r : Asked) : Type 0 where
+  pub answer : r ≡ asked (filterOf words) pgn sender
+  pub small : r .compared ≤ listSize + mostNames
 
 -- the contract of counting a block's entries
 pub record Counting (words : List ℕ) (r : ℕ) : Type 0 where

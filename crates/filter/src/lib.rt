@@ -1,16 +1,20 @@
-// One directed pair's filter, in a lent block of words: mode, count, and the PGNs in order of addition; and what is asked of it.
+// One directed pair's filter, in a lent block of words: mode, count, the PGNs in order of addition, and behind them the NAME entries; and what is asked of it.
+use name_entries::Sender;
 use pgn_list::LIST_SIZE;
 ghost use mathlib.Core.Path.{_≡_};
 ghost use mathlib.Core.List.{List};
-ghost use Prim.Native.Nat.{ℕ, _<_};
+ghost use Prim.Native.Nat.{ℕ, _<_, _≤_};
 ghost use lib.ListN.{length, getD};
+ghost use lib.Dec.{leb};
 ghost use Rattle.entries.specs.Entries.{listed};
-ghost use Rattle.filter.specs.Filter.{blockSize, meant, filterOf, isCleared, reportedMode, isPermanent, reasonOf, crosses, reasonNumber, Asking, Counting};
+ghost use Rattle.name_entries.specs.NameEntries.{NameEntry, senderOf};
+ghost use Rattle.filter.specs.Filter.{modePlace, namesPlace, blockSize, meant, filterOf, isCleared, reportedMode, isPermanent, isBlock, reasonOf, crosses, reasonNumber, ListAsking, Asking, Counting};
 
 // The words of a block.
-pub const BLOCK_SIZE: usize = 34;
+pub const BLOCK_SIZE: usize = 59;
 
-// Where a block has its mode, its count and its list, up to LIST_END. What stands past the list is no part of it.
+// Where a block has its mode, its count and its list, up to LIST_END. The NAME entries stand behind it; what asks or changes the list alone is lent a block
+// without them too, as a plan has it.
 pub const MODE: usize = 0;
 
 pub const COUNT: usize = 1;
@@ -19,12 +23,15 @@ pub const LIST: usize = 2;
 
 pub const LIST_END: usize = LIST + LIST_SIZE;
 
-// The mode word. Any other number passes too.
+// The mode word.
 pub const CLEARED: u64 = 0;
 
 pub const BLOCK: u64 = 1;
 
 pub const PASS: u64 = 2;
+
+// Block with NAME entries; any number above it is pass with them. Below it the words behind the list mean nothing, so Clear and Create leave no NAME entry.
+pub const BLOCK_NAMED: u64 = 3;
 
 // Why a frame crosses a pair or not. NotAsked is of a port whose pair is not asked.
 pub enum Reason {
@@ -77,7 +84,7 @@ impl Reason {
 
 // Whether the pair is cleared: refusal 15 of Add and Delete, and where it is not, 14 of Create.
 pub fn is_cleared(block: &[u64]) -> bool
-    requires { ⌜ length (now block) ≡ blockSize ⌝ }
+    requires { ⌜ namesPlace ≤ length (now block) ⌝ }
     ensures { λ r. ⌜ r ≡ isCleared (filterOf (now (block .entry)) .mode) ⌝ }
 {
     block[MODE] == CLEARED
@@ -85,15 +92,19 @@ pub fn is_cleared(block: &[u64]) -> bool
 
 // The mode as a reply reports it.
 pub fn reported_mode(block: &[u64]) -> u8
-    requires { ⌜ length (now block) ≡ blockSize ⌝ }
+    requires { ⌜ namesPlace ≤ length (now block) ⌝ }
     ensures { λ r. ⌜ r ≡ reportedMode (filterOf (now (block .entry)) .mode) ⌝ }
 {
-    if BLOCK < block[MODE] { 1 } else { 0 }
+    let mode = block[MODE];
+    if mode == PASS {
+        return 1;
+    }
+    if BLOCK_NAMED < mode { 1 } else { 0 }
 }
 
 // How many PGNs the list holds: none where the pair is cleared, and never more than LIST_SIZE.
 pub fn count(block: &[u64]) -> usize
-    requires { ⌜ length (now block) ≡ blockSize ⌝ }
+    requires { ⌜ namesPlace ≤ length (now block) ⌝ }
     ensures { λ r. ⌜ Counting (now (block .entry)) r ⌝ }
 {
     if block[MODE] == CLEARED {
@@ -109,7 +120,7 @@ pub fn count(block: &[u64]) -> usize
 
 // The PGN at index i of the list.
 pub fn pgn_at(block: &[u64], i: usize) -> u64
-    requires { ⌜ (length (now block) ≡ blockSize) × (i < length (filterOf (now block) .entries)) ⌝ }
+    requires { ⌜ (namesPlace ≤ length (now block)) × (i < length (filterOf (now block) .entries)) ⌝ }
     ensures { λ r. ⌜ r ≡ getD (filterOf (now (block .entry)) .entries) i 0 ⌝ }
 {
     let at = LIST + i;
@@ -118,7 +129,7 @@ pub fn pgn_at(block: &[u64], i: usize) -> u64
 
 // Whether the list holds a PGN.
 pub fn lists(block: &[u64], pgn: u64) -> bool
-    requires { ⌜ length (now block) ≡ blockSize ⌝ }
+    requires { ⌜ namesPlace ≤ length (now block) ⌝ }
     ensures { λ r. ⌜ r ≡ listed pgn (filterOf (now (block .entry)) .entries) ⌝ }
 {
     let n = count(block);
@@ -135,14 +146,24 @@ pub fn is_permanent(pgn: u32) -> bool
     pgn == identifier::REQUEST
 }
 
+// Whether a mode word blocks.
+fn is_block(mode: u64) -> bool
+    ensures { λ r. ⌜ r ≡ isBlock mode ⌝ }
+{
+    if mode == BLOCK {
+        return true;
+    }
+    mode == BLOCK_NAMED
+}
+
 // Why a PGN that is not permanent crosses a pair or not, by the mode word and whether the PGN is listed.
 fn by_list(mode: u64, here: bool) -> Reason
-    ensures { λ r. ⌜ ((es : List ℕ) → r ≡ reasonOf (meant mode es .mode) here) ⌝ }
+    ensures { λ r. ⌜ ((es : List ℕ) (ns : List NameEntry) → r ≡ reasonOf (meant mode es ns .mode) here) ⌝ }
 {
     if mode == CLEARED {
         return Reason::Cleared;
     }
-    if mode == BLOCK {
+    if is_block(mode) {
         if here {
             return Reason::StoppedAsListed;
         }
@@ -154,10 +175,10 @@ fn by_list(mode: u64, here: bool) -> Reason
     Reason::StoppedAsNotListed
 }
 
-// Why a PGN crosses the pair or not, and how many entries were compared: forwarding rules 2 and 5.
-pub fn ask(block: &[u64], pgn: u32) -> Asked
-    requires { ⌜ length (now block) ≡ blockSize ⌝ }
-    ensures { λ r. ⌜ Asking (now (block .entry)) pgn r ⌝ }
+// Why a PGN crosses the pair or not by its list alone, and how many entries were compared: forwarding rules 2 and 5.
+pub fn ask_list(block: &[u64], pgn: u32) -> Asked
+    requires { ⌜ namesPlace ≤ length (now block) ⌝ }
+    ensures { λ r. ⌜ ListAsking (now (block .entry)) pgn r ⌝ }
 {
     if is_permanent(pgn) {
         return Asked {
@@ -183,5 +204,40 @@ pub fn ask(block: &[u64], pgn: u32) -> Asked
     Asked {
         reason: by_list(mode, false),
         compared: n as u32,
+    }
+}
+
+// Whether the pair may have NAME entries.
+pub fn has_names(block: &[u64]) -> bool
+    requires { ⌜ namesPlace ≤ length (now block) ⌝ }
+    ensures { λ r. ⌜ r ≡ leb 3 (getD (now (block .entry)) modePlace 0) ⌝ }
+{
+    BLOCK_NAMED <= block[MODE]
+}
+
+// Why a PGN from a sender crosses a pair with NAME entries or not: they are looked at where its list has not the PGN.
+pub fn ask_named(block: &[u64], pgn: u32, sender: Sender) -> Asked
+    requires { ⌜ (length (now block) ≡ blockSize) × (3 ≤ getD (now block) modePlace 0) ⌝ }
+    ensures { λ r. ⌜ Asking (now (block .entry)) pgn (senderOf sender) r ⌝ }
+{
+    if is_permanent(pgn) {
+        return Asked {
+            reason: Reason::Permanent,
+            compared: 0,
+        };
+    }
+    let mode = block[MODE];
+    let n = count(block);
+    let at = pgn_list::find(&block[LIST..LIST_END], n, pgn as u64);
+    if at < n {
+        return Asked {
+            reason: by_list(mode, true),
+            compared: at as u32 + 1,
+        };
+    }
+    let names = name_entries::search(&block[LIST_END..BLOCK_SIZE], pgn as u64, sender);
+    Asked {
+        reason: by_list(mode, names.found),
+        compared: n as u32 + names.compared,
     }
 }

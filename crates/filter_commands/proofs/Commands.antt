@@ -8,23 +8,24 @@ use native.Mathlib.Omega.{arith}
 use borrow.Author.Tests.{eqb-false, ltb-false, lt-ltb, le-ltb}
 use lib.Dec.{ltb}
 use lib.ListN.{length, getD, set, take, drop, length-set, take-append-drop}
-use lib.Seq.{length-take-le, take-at}
+use lib.Seq.{length-take-le, take-at, drop-at}
 use Rattle.storage.proofs.Parts.{back, length-back}
-use Rattle.filter.specs.Filter.{modePlace, countPlace, listPlace, listOf, blockSize, Filter, meant, filterOf, Counting, isCleared}
+use Rattle.filter.specs.Filter.{modePlace, countPlace, listPlace, listOf, namesIn, blockSize, Filter, meant, filterOf, Counting, isCleared}
+use Rattle.name_entries.specs.NameEntries.{NameEntry, namesLength, namesOf}
 use Rattle.pgn_list.specs.PgnList.{listSize, addAll, deleteAll}
 use Rattle.filter_commands.specs.Changes.{wouldPass, lacks, mayAdd, mayDelete, mayCreate, added, deleted, modeFor, created, Changing, Adding, Deleting, Creating}
 use Rattle.entries.specs.Entries.{every}
 use Rattle.pgn_list.specs.Steps.{Finding, Extending, Keeping}
 use Rattle.filter_commands.specs.Steps.{Relisted, Growing}
-use Rattle.filter.proofs.Meaning.{list-long, cleared-test, cleared-none, front}
+use Rattle.filter.proofs.Meaning.{list-whole, cleared-test, cleared-none, front}
 use Rattle.pgn_list.proofs.Changes.{not-longer}
 use Rattle.pgn_list.proofs.Search.{absent, present}
 
 -- ---- a command refused, or done
-stays : {words : List ℕ} {may : Bool} (after : Filter) → may ≡ false → Changing words words may (cond may after (filterOf words)) false
+pub stays : {words : List ℕ} {may : Bool} (after : Filter) → may ≡ false → Changing words words may (cond may after (filterOf words)) false
 stays after e = record { done = sym e; state = rw e; long = refl; refused = λ _. refl }
 
-changed : {words exit : List ℕ} {may : Bool} {after : Filter} → may ≡ true → length exit ≡ length words → filterOf exit ≡ after → Changing words exit may (cond may after (filterOf words)) true
+pub changed : {words exit : List ℕ} {may : Bool} {after : Filter} → may ≡ true → length exit ≡ length words → filterOf exit ≡ after → Changing words exit may (cond may after (filterOf words)) true
 changed e long state = record { done = sym e; state = rw e state; long = long; refused = λ f. absurd (true≢false (sym e ∙ f)) }
 
 -- ---- how many different PGNs
@@ -43,7 +44,7 @@ counted {entry} {exit} {n} {xs} {r} E =
 module _ {words : List ℕ} (xs : List ℕ) {n : ℕ} (long : length words ≡ blockSize) (C : Counting words n) where
   pub pass-few : length xs ≤ listSize - n → wouldPass (filterOf words) xs ≡ false
   unfolding wouldPass
-  pass-few h = rw (← (front C)) (few-entries (listOf words) xs n (omega (arith, C .small, list-long words long)) h (C .small))
+  pass-few h = rw (← (front C)) (few-entries (listOf words) xs n (omega (arith, C .small, list-whole words long)) h (C .small))
 
   pub pass-tried : {list exit : List ℕ} {r : ℕ} → list ≡ listOf words → Extending list exit n xs r → wouldPass (filterOf words) xs ≡ ltb listSize r
   unfolding wouldPass
@@ -55,6 +56,7 @@ part-relisted : {words : List ℕ} (ys : List ℕ) (r : ℕ) {es : List ℕ} →
 part-relisted {words} ys r {es} long h e = record {
   mode = head words (omega arith);
   list = list words (omega arith) ∙ e;
+  names = names words (omega arith);
   long = length-set (back listPlace listSize words ys) countPlace r ∙ length-back listPlace listSize words ys h (omega arith);
 }
   where
@@ -68,24 +70,33 @@ part-relisted {words} ys r {es} long h e = record {
     list (m ∷ []) l = absurd (omega arith)
     list (m ∷ n ∷ ws) l = ap (take r) (take-at ys (drop listSize ws) listSize h)
 
--- the same mode with another list
-meant-again : (m : ℕ) (es es′ : List ℕ) → (m ≡ 0 → ⊥) → meant m es ≡ record { mode = meant m es′ .mode; entries = es }
-unfolding meant
-meant-again zero es es′ h = absurd (h refl)
-meant-again (suc zero) es es′ h = refl
-meant-again (suc (suc m)) es es′ h = refl
+    names : (ws : List ℕ) → 2 ≤ length ws → namesIn (set (back listPlace listSize ws ys) countPlace r) ≡ namesIn ws
+    names [] l = absurd (omega arith)
+    names (m ∷ []) l = absurd (omega arith)
+    names (m ∷ n ∷ ws) l = ap (take namesLength) (drop-at ys (drop listSize ws) listSize h)
 
-relisted : {words exit es : List ℕ} → isCleared (filterOf words .mode) ≡ false → Relisted words exit es → filterOf exit ≡ record { mode = filterOf words .mode; entries = es }
+-- the same mode with another list
+meant-again : (m : ℕ) (es es′ : List ℕ) (ns : List NameEntry) → (m ≡ 0 → ⊥) → meant m es ns ≡ record { mode = meant m es′ ns .mode; entries = es; named = meant m es′ ns .named }
+unfolding meant
+meant-again zero es es′ ns h = absurd (h refl)
+meant-again (suc zero) es es′ ns h = refl
+meant-again (suc (suc zero)) es es′ ns h = refl
+meant-again (suc (suc (suc zero))) es es′ ns h = refl
+meant-again (suc (suc (suc (suc m)))) es es′ ns h = refl
+
+relisted : {words exit es : List ℕ} → isCleared (filterOf words .mode) ≡ false → Relisted words exit es
+    → filterOf exit ≡ record { mode = filterOf words .mode; entries = es; named = filterOf words .named }
 unfolding filterOf
 relisted {words} {exit} {es} e R =
     let old = take (getD words countPlace 0) (listOf words) in
-    rw (R .mode, R .list) (meant-again (getD words modePlace 0) es old (eqb-false (getD words modePlace 0) 0 (sym (cleared-test (getD words modePlace 0) old) ∙ e)))
+    rw (R .mode, R .list, R .names)
+    (meant-again (getD words modePlace 0) es old (namesOf (namesIn words)) (eqb-false (getD words modePlace 0) 0 (sym (cleared-test (getD words modePlace 0) old (namesOf (namesIn words))) ∙ e)))
 
 -- ---- growing
 module _ {words xs : List ℕ} {n held : ℕ} (long : length words ≡ blockSize) (small : n ≤ listSize) where
   pub grow-part : {ys : List ℕ} → length xs ≤ listSize - n → length ys ≡ listSize → Extending (listOf words) ys n xs held → Growing words (set (back listPlace listSize words ys) countPlace held) n xs true
   grow-part {ys} l h E =
-      let few = few-entries (listOf words) xs n (omega (arith, list-long words long)) l small in
+      let few = few-entries (listOf words) xs n (omega (arith, list-whole words long)) l small in
       let s : held ≤ listSize = omega (arith, E .number, ltb-false listSize (length (addAll (take n (listOf words)) xs)) few) in
       record { done = rw few; grown = λ _. part-relisted ys held long h (E .entries s); refused = λ f. absurd (true≢false f) }
 
@@ -114,7 +125,7 @@ module _ {words xs : List ℕ} {n held : ℕ} (long : length words ≡ blockSize
 module _ (words xs : List ℕ) where
   pub add-cleared : isCleared (filterOf words .mode) ≡ true → Adding words words xs false
   unfolding added mayAdd
-  add-cleared e = stays (record { mode = filterOf words .mode; entries = addAll (filterOf words .entries) xs }) (rw e)
+  add-cleared e = stays (record { mode = filterOf words .mode; entries = addAll (filterOf words .entries) xs; named = filterOf words .named }) (rw e)
 
   module _ {n : ℕ} (e : isCleared (filterOf words .mode) ≡ false) (C : Counting words n) where
     may-add : {exit : List ℕ} {r : Bool} → Growing words exit n xs r → mayAdd (filterOf words) xs ≡ r
@@ -125,7 +136,7 @@ module _ (words xs : List ℕ) where
     unfolding added
     add-grown true G = let R = G .grown refl in changed (may-add G) (R .long) (relisted e (rw (front C) at R))
     add-grown false G =
-        rw (G .refused refl) (stays (record { mode = filterOf words .mode; entries = addAll (filterOf words .entries) xs }) (may-add G))
+        rw (G .refused refl) (stays (record { mode = filterOf words .mode; entries = addAll (filterOf words .entries) xs; named = filterOf words .named }) (may-add G))
 
 -- ---- Delete
 -- one entry
@@ -136,7 +147,7 @@ only-one (y ∷ z ∷ xs) h e = absurd (omega arith)
 
 module _ {words : List ℕ} {n x i : ℕ} (long : length words ≡ blockSize) (C : Counting words n) (F : Finding (listOf words) n x i) where
   fits : n ≤ length (listOf words)
-  fits = omega (arith, C .small, list-long words long)
+  fits = omega (arith, C .small, list-whole words long)
 
   pub one-absent : i ≡ n → lacks (filterOf words) (x ∷ []) ≡ true
   unfolding lacks every
@@ -149,12 +160,12 @@ module _ {words : List ℕ} {n x i : ℕ} (long : length words ≡ blockSize) (C
 module _ (words xs : List ℕ) where
   pub delete-cleared : isCleared (filterOf words .mode) ≡ true → Deleting words words xs false
   unfolding deleted mayDelete
-  delete-cleared e = stays (record { mode = filterOf words .mode; entries = deleteAll (filterOf words .entries) xs }) (rw e)
+  delete-cleared e = stays (record { mode = filterOf words .mode; entries = deleteAll (filterOf words .entries) xs; named = filterOf words .named }) (rw e)
 
   pub delete-lacking : lacks (filterOf words) xs ≡ true → Deleting words words xs false
   unfolding deleted mayDelete
   delete-lacking e =
-      stays (record { mode = filterOf words .mode; entries = deleteAll (filterOf words .entries) xs })
+      stays (record { mode = filterOf words .mode; entries = deleteAll (filterOf words .entries) xs; named = filterOf words .named })
       (rw e (and-false (not (isCleared (filterOf words .mode)))))
 
   pub delete-done : {ys : List ℕ} {n kept : ℕ} → length words ≡ blockSize → isCleared (filterOf words .mode) ≡ false → lacks (filterOf words) xs ≡ false → Counting words n → length ys ≡ listSize → Keeping (listOf words) ys n xs kept → Deleting words (set (back listPlace listSize words ys) countPlace kept) xs true
@@ -165,7 +176,7 @@ module _ (words xs : List ℕ) where
 
 -- ---- Create
 -- a stored mode word: the list is as it was
-made : (words : List ℕ) (m : ℕ) → 1 ≤ length words → filterOf (set words modePlace m) ≡ meant m (take (getD words countPlace 0) (listOf words))
+pub made : (words : List ℕ) (m : ℕ) → 1 ≤ length words → filterOf (set words modePlace m) ≡ meant m (take (getD words countPlace 0) (listOf words)) (namesOf (namesIn words))
 unfolding filterOf
 made [] m h = absurd (omega arith)
 made (a ∷ words) m h = refl
@@ -173,7 +184,7 @@ made (a ∷ words) m h = refl
 module _ (passing : Bool) (words xs : List ℕ) where
   pub create-listing : isCleared (filterOf words .mode) ≡ false → Creating passing words words xs false
   unfolding created mayCreate
-  create-listing e = stays (record { mode = modeFor passing; entries = addAll [] xs }) (rw e)
+  create-listing e = stays (record { mode = modeFor passing; entries = addAll [] xs; named = [] }) (rw e)
 
   module _ (e : isCleared (filterOf words .mode) ≡ true) where
     may-create : {exit : List ℕ} {r : Bool} → Growing words exit 0 xs r → mayCreate (filterOf words) xs ≡ r
@@ -182,10 +193,10 @@ module _ (passing : Bool) (words xs : List ℕ) where
 
     pub create-over : {exit : List ℕ} {r : Bool} → r ≡ false → Growing words exit 0 xs r → Creating passing words exit xs false
     unfolding created
-    create-over f G = rw (G .refused f) (stays (record { mode = modeFor passing; entries = addAll [] xs }) (may-create G ∙ f))
+    create-over f G = rw (G .refused f) (stays (record { mode = modeFor passing; entries = addAll [] xs; named = [] }) (may-create G ∙ f))
 
     module _ {grown : List ℕ} {r : Bool} (long : length words ≡ blockSize) (t : r ≡ true) (G : Growing words grown 0 xs r) where
-      create-done : (m : ℕ) → meant m (addAll [] xs) ≡ record { mode = modeFor passing; entries = addAll [] xs } → Creating passing words (set grown 0 m) xs true
+      create-done : (m : ℕ) → meant m (addAll [] xs) (namesOf (namesIn grown)) ≡ record { mode = modeFor passing; entries = addAll [] xs; named = [] } → Creating passing words (set grown 0 m) xs true
       unfolding created
       create-done m q =
           let R = G .grown t in

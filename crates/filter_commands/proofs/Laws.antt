@@ -3,18 +3,20 @@
 use mathlib.Core.Path.{_≡_, refl, sym, ap, _∙_}
 use mathlib.Core.Bool.{Bool, true, false, cond, not, _&&_, _||_, true≢false, and-false}
 use mathlib.Core.List.{List, [], _∷_, _++_}
-use Prim.Native.Nat.{ℕ, _^_, _≤_, zero-le}
+use Prim.Native.Nat.{ℕ, zero, suc, _^_, _≤_, _<_, zero-le}
 use native.Mathlib.Nat.{le-trans}
 use native.Mathlib.Omega.{arith}
-use borrow.Author.Tests.{eq-eqb, ltb-false, le-ltb, not-true}
-use lib.Dec.{ltb, eqb}
-use lib.ListN.{length, replicate, length-append}
+use borrow.Author.Tests.{eq-eqb, ltb-false, le-ltb, leb-false, not-true}
+use lib.Dec.{ltb, leb, eqb}
+use lib.ListN.{length, getD, take, replicate, length-append}
 use Rattle.identifier.specs.Identifier.{isPgn}
 use Rattle.entries.proofs.Reported.{pgns-small, reported-back}
-use Rattle.filter.specs.Filter.{blockSize, Mode, cleared, block, pass, Filter, clear, meant, filterOf, permits, place, isPermanent, permitted, reportedMode, isCleared}
+use Rattle.filter.specs.Filter.{modePlace, countPlace, listOf, namesIn, blockSize, Mode, cleared, block, pass, Filter, clear, meant, filterOf, permits, place, isPermanent, permitted, reportedMode, isCleared}
 use Rattle.pgn_list.specs.PgnList.{listSize, addOne, addAll, deleteAll, once}
 use Rattle.entries.specs.Entries.{listed, entriesOf, every, reported}
-use Rattle.filter_commands.specs.Changes.{wouldPass, lacks, mayAdd, mayDelete, mayCreate, added, deleted, modeFor, created, Sound}
+use Rattle.name_entries.specs.NameEntries.{NameEntry, mostNames, namesOf, isThere}
+use Rattle.name_entries.proofs.Matching.{as-many}
+use Rattle.filter_commands.specs.Changes.{wouldPass, lacks, passesNames, mayAdd, mayDelete, mayCreate, mayName, added, deleted, modeFor, created, named, Sound}
 use Rattle.filter.proofs.Meaning.{counting, cleared-none}
 use Rattle.pgn_list.proofs.Changes.{one-listed, one-new}
 use Rattle.checks.proofs.Tests.{both}
@@ -34,14 +36,14 @@ cleared-permits pgn = go (isPermanent pgn)
     go false = refl
 
 -- "cleared" is not "block with no entries"
-pub cleared-not-block : (es : List ℕ) → clear ≡ record { mode = block; entries = es } → ⊥
+pub cleared-not-block : (es : List ℕ) → clear ≡ record { mode = block; entries = es; named = [] } → ⊥
 cleared-not-block es e =
     let m : cleared ≡ block = ap {B = Mode} (λ (f : Filter). f .mode) e in
     let z : _≡_ {A = ℕ} 0 1 = cc in
     omega arith
 
 -- a pass pair with no entries permits nothing but the permanent PGNs
-pub emptied-pass : (pgn : ℕ) → permitted (record { mode = pass; entries = [] }) pgn ≡ isPermanent pgn
+pub emptied-pass : (pgn : ℕ) → permitted (record { mode = pass; entries = []; named = [] }) pgn ≡ isPermanent pgn
 unfolding permitted permits listed
 emptied-pass pgn = go (isPermanent pgn)
   where
@@ -49,7 +51,7 @@ emptied-pass pgn = go (isPermanent pgn)
     go true = refl
     go false = refl
 
--- ---- sound: a cleared pair has no entries, no PGN twice, no more than a list holds
+-- ---- sound: a cleared pair has no entries, no PGN twice, no more than a list holds; no more NAME entries than eight
 -- what holds of a filter, and of what a command makes of it if it may be done, holds after the command
 either : (P : Filter → Type 0) {f g : Filter} (b : Bool) → P f → (b ≡ true → P g) → P (cond b g f)
 either P true old new = new refl
@@ -63,13 +65,46 @@ few-enough : (f : Filter) (xs : List ℕ) → not (wouldPass f xs) ≡ true → 
 unfolding wouldPass
 few-enough f xs e = let n = length (addAll (f .entries) xs) in ltb-false listSize n (not-true (ltb listSize n) e)
 
+unnamed-of : (m : ℕ) (es : List ℕ) (ns : List NameEntry) → isCleared (meant m es ns .mode) ≡ true → meant m es ns .named ≡ []
+unfolding meant isCleared
+unnamed-of zero es ns e = refl
+unnamed-of (suc zero) es ns e = refl
+unnamed-of (suc (suc zero)) es ns e = refl
+unnamed-of (suc (suc (suc zero))) es ns e = absurd (true≢false (sym e))
+unnamed-of (suc (suc (suc (suc m)))) es ns e = absurd (true≢false (sym e))
+
+few-named-of : (m : ℕ) (es : List ℕ) (ns : List NameEntry) → length ns ≤ mostNames → length (meant m es ns .named) ≤ mostNames
+unfolding meant
+few-named-of zero es ns h = zero-le
+few-named-of (suc zero) es ns h = zero-le
+few-named-of (suc (suc zero)) es ns h = zero-le
+few-named-of (suc (suc (suc zero))) es ns h = h
+few-named-of (suc (suc (suc (suc m)))) es ns h = h
+
+module _ (words : List ℕ) where
+  cleared-unnamed : isCleared (filterOf words .mode) ≡ true → filterOf words .named ≡ []
+  unfolding filterOf
+  cleared-unnamed e = unnamed-of (getD words modePlace 0) (take (getD words countPlace 0) (listOf words)) (namesOf (namesIn words)) e
+
+  few-named : length (filterOf words .named) ≤ mostNames
+  unfolding filterOf
+  few-named =
+      few-named-of (getD words modePlace 0) (take (getD words countPlace 0) (listOf words)) (namesOf (namesIn words))
+      (omega (arith, as-many (namesIn words) refl))
+
 -- of a block, only that no PGN stands twice is to be shown
 pub block-sound : (words : List ℕ) → length words ≡ blockSize → once (filterOf words .entries) ≡ true → Sound (filterOf words)
-block-sound words long h = record { none = cleared-none words; different = h; few = counting words long .small }
+block-sound words long h = record {
+  none = cleared-none words;
+  different = h;
+  few = counting words (omega (arith, long)) .small;
+  unnamed = cleared-unnamed words;
+  few-names = few-named words;
+}
 
 pub clear-sound : Sound clear
 unfolding once
-clear-sound = record { none = λ _. refl; different = refl; few = zero-le }
+clear-sound = record { none = λ _. refl; different = refl; few = zero-le; unnamed = λ _. refl; few-names = zero-le }
 
 pub added-sound : {f : Filter} → Sound f → (xs : List ℕ) → Sound (added f xs)
 unfolding added mayAdd
@@ -77,7 +112,13 @@ added-sound {f} S xs =
     either Sound (not (isCleared (f .mode)) && not (wouldPass f xs)) S
     (λ e.
     let p = both (not (isCleared (f .mode))) (not (wouldPass f xs)) e in
-    record { none = not-both (isCleared (f .mode)) (p .0); different = add-once (f .entries) xs (S .different); few = few-enough f xs (p .1) })
+    record {
+      none = not-both (isCleared (f .mode)) (p .0);
+      different = add-once (f .entries) xs (S .different);
+      few = few-enough f xs (p .1);
+      unnamed = not-both (isCleared (f .mode)) (p .0);
+      few-names = S .few-names;
+    })
 
 pub deleted-sound : {f : Filter} → Sound f → (xs : List ℕ) → Sound (deleted f xs)
 unfolding deleted mayDelete
@@ -85,7 +126,13 @@ deleted-sound {f} S xs =
     either Sound (not (isCleared (f .mode)) && not (lacks f xs)) S
     (λ e.
     let p = both (not (isCleared (f .mode))) (not (lacks f xs)) e in
-    record { none = not-both (isCleared (f .mode)) (p .0); different = delete-once (f .entries) xs (S .different); few = le-trans (delete-shorter (f .entries) xs) (S .few) })
+    record {
+      none = not-both (isCleared (f .mode)) (p .0);
+      different = delete-once (f .entries) xs (S .different);
+      few = le-trans (delete-shorter (f .entries) xs) (S .few);
+      unnamed = not-both (isCleared (f .mode)) (p .0);
+      few-names = S .few-names;
+    })
 
 mode-for : (passing : Bool) → isCleared (modeFor passing) ≡ false
 unfolding isCleared modeFor
@@ -98,7 +145,44 @@ created-sound {f} S passing xs =
     either Sound (isCleared (f .mode) && not (wouldPass f xs)) S
     (λ e.
     let p = both (isCleared (f .mode)) (not (wouldPass f xs)) e in
-    record { none = λ c. absurd (true≢false (sym c ∙ mode-for passing)); different = add-once [] xs refl; few = rw (S .none (p .0)) at (few-enough f xs (p .1)) })
+    record {
+      none = λ c. absurd (true≢false (sym c ∙ mode-for passing));
+      different = add-once [] xs refl;
+      few = rw (S .none (p .0)) at (few-enough f xs (p .1));
+      unnamed = λ _. refl;
+      few-names = zero-le;
+    })
+
+-- a further NAME entry, where it is not yet there and there are fewer than eight
+one-more : (t : Bool) (ns : List NameEntry) (e : NameEntry) → length ns ≤ mostNames → not (not t && leb mostNames (length ns)) ≡ true
+    → length (cond t ns (ns ++ e ∷ [])) ≤ mostNames
+one-more true ns e few h = few
+one-more false ns e few h =
+    let l : length ns < mostNames = leb-false mostNames (length ns) (not-true (leb mostNames (length ns)) h) in
+    omega (arith, length-append ns (e ∷ []))
+
+pub named-sound : {f : Filter} → Sound f → (e : NameEntry) → Sound (named f e)
+unfolding named mayName passesNames
+named-sound {f} S e =
+    either Sound (not (isCleared (f .mode)) && not (passesNames f e)) S
+    (λ h.
+    let p = both (not (isCleared (f .mode))) (not (passesNames f e)) h in
+    record {
+      none = not-both (isCleared (f .mode)) (p .0);
+      different = S .different;
+      few = S .few;
+      unnamed = not-both (isCleared (f .mode)) (p .0);
+      few-names = one-more (isThere e (f .named)) (f .named) e (S .few-names) (p .1);
+    })
+
+-- "one already there changes nothing"
+pub name-again : (f : Filter) (e : NameEntry) → isThere e (f .named) ≡ true → named f e ≡ f
+unfolding named
+name-again f e h = go (mayName f e)
+  where
+    go : (b : Bool) → cond b (record { mode = f .mode; entries = f .entries; named = cond (isThere e (f .named)) (f .named) (f .named ++ e ∷ []) }) f ≡ f
+    go true = rw h
+    go false = refl
 
 -- ---- entries that are PGNs: they stay so
 abbrev Pgns : Filter → Type 0
@@ -117,19 +201,23 @@ module _ (f : Filter) (xs : List ℕ) (pgns : every isPgn (f .entries) ≡ true)
   unfolding created every
   created-pgns passing h = either Pgns (mayCreate f xs) pgns (λ _. add-every isPgn [] xs refl h)
 
+  pub named-pgns : (e : NameEntry) → every isPgn (named f e .entries) ≡ true
+  unfolding named
+  named-pgns e = either Pgns (mayName f e) pgns (λ _. pgns)
+
 -- ---- the place of a PGN
 -- adding a listed PGN changes nothing
 pub add-listed : (f : Filter) (x : ℕ) → listed x (f .entries) ≡ true → added f (x ∷ []) ≡ f
 unfolding added addAll
 add-listed f x l = go (mayAdd f (x ∷ []))
   where
-    go : (b : Bool) → cond b (record { mode = f .mode; entries = addOne (f .entries) x }) f ≡ f
+    go : (b : Bool) → cond b (record { mode = f .mode; entries = addOne (f .entries) x; named = f .named }) f ≡ f
     go true = rw (one-listed (f .entries) x l)
     go false = refl
 
 -- deleted and added again, a PGN stands last
 module _ (f : Filter) (x : ℕ) (S : Sound f) (e : isCleared (f .mode) ≡ false) (l : listed x (f .entries) ≡ true) where
-  gone : deleted f (x ∷ []) ≡ record { mode = f .mode; entries = deleteAll (f .entries) (x ∷ []) }
+  gone : deleted f (x ∷ []) ≡ record { mode = f .mode; entries = deleteAll (f .entries) (x ∷ []); named = f .named }
   unfolding deleted mayDelete lacks every
   gone = rw (e, l)
 
@@ -137,7 +225,7 @@ module _ (f : Filter) (x : ℕ) (S : Sound f) (e : isCleared (f .mode) ≡ false
   unfolding addAll listed
   last = one-new (deleteAll (f .entries) (x ∷ [])) x (deleted-listed x (f .entries) (x ∷ []) ∙ rw (eq-eqb x x refl) (and-false (listed x (f .entries))))
 
-  pub delete-add : added (deleted f (x ∷ [])) (x ∷ []) ≡ record { mode = f .mode; entries = deleteAll (f .entries) (x ∷ []) ++ (x ∷ []) }
+  pub delete-add : added (deleted f (x ∷ [])) (x ∷ []) ≡ record { mode = f .mode; entries = deleteAll (f .entries) (x ∷ []) ++ (x ∷ []); named = f .named }
   unfolding added mayAdd wouldPass
   delete-add =
       let n : length (deleteAll (f .entries) (x ∷ []) ++ (x ∷ [])) ≤ listSize = omega (arith, length-append (deleteAll (f .entries) (x ∷ [])) (x ∷ []), delete-less (f .entries) x l, S .few) in
@@ -145,7 +233,7 @@ module _ (f : Filter) (x : ℕ) (S : Sound f) (e : isCleared (f .mode) ≡ false
 
 -- ---- the round trip
 -- a list with a mode, created on a cleared pair from the bytes that report it, is that list again
-pub round-trip : (passing : Bool) (es : List ℕ) → once es ≡ true → every (λ x. ltb x (2 ^ 24)) es ≡ true → length es ≤ listSize → created passing clear (entriesOf (reported es)) ≡ record { mode = modeFor passing; entries = es }
+pub round-trip : (passing : Bool) (es : List ℕ) → once es ≡ true → every (λ x. ltb x (2 ^ 24)) es ≡ true → length es ≤ listSize → created passing clear (entriesOf (reported es)) ≡ record { mode = modeFor passing; entries = es; named = [] }
 unfolding created mayCreate wouldPass isCleared
 round-trip passing es h small few =
     rw (reported-back es small, add-different [] es h, le-ltb listSize (length es) few)
@@ -158,7 +246,7 @@ mode-back block e = refl
 mode-back pass e = refl
 
 -- so what function 0 reports of a pair that is not cleared, created on a cleared pair, is the pair's filter again
-pub restored : (f : Filter) → Sound f → every isPgn (f .entries) ≡ true → isCleared (f .mode) ≡ false → created (eqb (reportedMode (f .mode)) 1) clear (entriesOf (reported (f .entries))) ≡ f
+pub restored : (f : Filter) → Sound f → every isPgn (f .entries) ≡ true → isCleared (f .mode) ≡ false → created (eqb (reportedMode (f .mode)) 1) clear (entriesOf (reported (f .entries))) ≡ record { mode = f .mode; entries = f .entries; named = [] }
 restored f S pgns e =
     round-trip (eqb (reportedMode (f .mode)) 1) (f .entries) (S .different) (pgns-small (f .entries) pgns) (S .few)
     ∙ rw (mode-back (f .mode) e)

@@ -1,2 +1,3 @@
 mod Commands
+mod Names
 pub mod Laws

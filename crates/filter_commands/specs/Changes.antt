@@ -1,14 +1,15 @@
--- The commands on one pair, for the entries xs: Add (function 2), Delete (3), Clear (4) and Create (6).
+-- The commands on one pair: Add (function 2), Delete (3), Clear (4) and Create (6), for the entries xs, and Add by NAME (7).
 -- Whether one may be done is said by the same definitions that the questions of a caller answer.
 -- Assumes nothing.
 use Prim.Native.Nat.{ℕ, _≤_}
 use mathlib.Core.Bool.{Bool, true, false, cond, not, _&&_}
 use mathlib.Core.Path.{_≡_}
-use mathlib.Core.List.{List, []}
-use lib.ListN.{length}
-use lib.Dec.{ltb}
+use mathlib.Core.List.{List, [], _∷_, _++_}
+use lib.ListN.{length, getD}
+use lib.Dec.{ltb, leb}
 use Rattle.entries.specs.Entries.{listed, every}
 use Rattle.pgn_list.specs.PgnList.{listSize, addAll, deleteAll, once}
+use Rattle.name_entries.specs.NameEntries.{NameEntry, mostNames, isThere}
 use Rattle.filter.specs.Filter.{Mode, block, pass, Filter, clear, filterOf, isCleared}
 
 -- ---- the questions
@@ -20,6 +21,14 @@ wouldPass f xs = ltb listSize (length (addAll (f .entries) xs))
 unfoldable pub lacks : Filter → List ℕ → Bool
 lacks f xs = not (every (λ x. listed x (f .entries)) xs)
 
+-- the NAME entry of a command: its one PGN, its NAME and its mask
+abbrev pub entryOf : List ℕ → ℕ → ℕ → NameEntry
+entryOf xs name mask = record { pgn = getD xs 0 0; name = name; mask = mask }
+
+-- 16 of a NAME entry: "at the ninth"; "one already there changes nothing", and is done where there are eight
+unfoldable pub passesNames : Filter → NameEntry → Bool
+passesNames f e = not (isThere e (f .named)) && leb mostNames (length (f .named))
+
 -- ---- what may be done
 unfoldable pub mayAdd : Filter → List ℕ → Bool
 mayAdd f xs = not (isCleared (f .mode)) && not (wouldPass f xs)
@@ -30,12 +39,15 @@ mayDelete f xs = not (isCleared (f .mode)) && not (lacks f xs)
 unfoldable pub mayCreate : Filter → List ℕ → Bool
 mayCreate f xs = isCleared (f .mode) && not (wouldPass f xs)
 
+unfoldable pub mayName : Filter → NameEntry → Bool
+mayName f e = not (isCleared (f .mode)) && not (passesNames f e)
+
 -- ---- the filter after a command: as it was, where the command may not be done
 unfoldable pub added : Filter → List ℕ → Filter
-added f xs = cond (mayAdd f xs) (record { mode = f .mode; entries = addAll (f .entries) xs }) f
+added f xs = cond (mayAdd f xs) (record { mode = f .mode; entries = addAll (f .entries) xs; named = f .named }) f
 
 unfoldable pub deleted : Filter → List ℕ → Filter
-deleted f xs = cond (mayDelete f xs) (record { mode = f .mode; entries = deleteAll (f .entries) xs }) f
+deleted f xs = cond (mayDelete f xs) (record { mode = f .mode; entries = deleteAll (f .entries) xs; named = f .named }) f
 
 -- Create's mode 1 is pass, its mode 0 block
 unfoldable pub modeFor : Bool → Mode
@@ -43,7 +55,13 @@ modeFor true = pass
 modeFor false = block
 
 unfoldable pub created : Bool → Filter → List ℕ → Filter
-created passing f xs = cond (mayCreate f xs) (record { mode = modeFor passing; entries = addAll [] xs }) f
+created passing f xs = cond (mayCreate f xs) (record { mode = modeFor passing; entries = addAll [] xs; named = [] }) f
+
+unfoldable pub named : Filter → NameEntry → Filter
+named f e =
+    cond (mayName f e)
+    (record { mode = f .mode; entries = f .entries; named = cond (isThere e (f .named)) (f .named) (f .named ++ e ∷ []) })
+    f
 
 -- ---- the contracts on a block: done exactly if it may be, the filter after, and every word as it was where it may not be done.
 -- Of the free part of a block that was changed nothing is promised.
@@ -62,14 +80,19 @@ Deleting entry exit xs r = Changing entry exit (mayDelete (filterOf entry) xs) (
 abbrev pub Creating : Bool → List ℕ → List ℕ → List ℕ → Bool → Type 0
 Creating passing entry exit xs r = Changing entry exit (mayCreate (filterOf entry) xs) (created passing (filterOf entry) xs) r
 
+abbrev pub Naming : List ℕ → List ℕ → NameEntry → Bool → Type 0
+Naming entry exit e r = Changing entry exit (mayName (filterOf entry) e) (named (filterOf entry) e) r
+
 -- Clear is never refused
 pub record Clearing (entry exit : List ℕ) : Type 0 where
   pub state : filterOf exit ≡ clear
   pub long : length exit ≡ length entry
 
 -- ---- the invariant
--- a cleared pair has no entries, and a list never holds a PGN twice nor more than it can
+-- a cleared pair has no entries and no NAME entries, a list never holds a PGN twice nor more than it can, and there are at most eight NAME entries
 pub record Sound (f : Filter) : Type 0 where
   pub none : isCleared (f .mode) ≡ true → f .entries ≡ []
   pub different : once (f .entries) ≡ true
   pub few : length (f .entries) ≤ listSize
+  pub unnamed : isCleared (f .mode) ≡ true → f .named ≡ []
+  pub few-names : length (f .named) ≤ mostNames

@@ -1,7 +1,9 @@
-// The commands on one pair's filter: Add, Delete, Create and Clear, and the questions that refuse them with 14 to 17.
+// The commands on one pair's filter: Add, Delete, Create, Clear and Add by NAME, and the questions that refuse them with 14 to 17.
 pub mod pairs;
 
 use filter::BLOCK;
+use filter::BLOCK_NAMED;
+use filter::BLOCK_SIZE;
 use filter::CLEARED;
 use filter::COUNT;
 use filter::LIST;
@@ -10,14 +12,14 @@ use filter::MODE;
 use filter::PASS;
 use pgn_list::LIST_SIZE;
 ghost use mathlib.Core.Path.{_≡_};
-ghost use mathlib.Core.Bool.{false};
+ghost use mathlib.Core.Bool.{true, false};
 ghost use mathlib.Core.List.{[], _∷_};
-ghost use Prim.Native.Nat.{_≤_};
-ghost use lib.ListN.{length};
+ghost use Prim.Native.Nat.{_≤_, _<_};
+ghost use lib.ListN.{length, getD};
 ghost use Rattle.entries.specs.Entries.{entriesOf};
 ghost use Rattle.pgn_list.specs.PgnList.{listSize};
-ghost use Rattle.filter.specs.Filter.{listOf, blockSize, filterOf, isCleared, Counting};
-ghost use Rattle.filter_commands.specs.Changes.{wouldPass, lacks, Adding, Deleting, Creating, Clearing};
+ghost use Rattle.filter.specs.Filter.{modePlace, listOf, blockSize, filterOf, isCleared, Counting};
+ghost use Rattle.filter_commands.specs.Changes.{wouldPass, lacks, passesNames, Adding, Deleting, Creating, Naming, Clearing};
 ghost use Rattle.filter_commands.specs.Steps.{Growing};
 
 // Whether an entry is absent from the list: refusal 17.
@@ -187,4 +189,70 @@ pub fn clear(block: &mut [u64])
     ensures { λ _. ⌜ Clearing (now (block .entry)) (now (block .exit)) ⌝ }
 {
     block[MODE] = CLEARED;
+}
+
+// The first entry, or 0 where there is none.
+fn first_entry(bytes: &[u8]) -> u64
+    ensures { λ r. ⌜ r ≡ getD (entriesOf (now (bytes .entry))) 0 0 ⌝ }
+{
+    if entries::count(bytes) == 0 {
+        return 0;
+    }
+    entries::entry_at(bytes, 0)
+}
+
+// Whether a NAME entry would be the ninth: refusal 16. One already there is none.
+pub fn names_full(block: &[u64], pgn: u64, name: u64, mask: u64) -> bool
+    requires { ⌜ length (now block) ≡ blockSize ⌝ }
+    ensures { λ r. ⌜ r ≡ passesNames (filterOf (now (block .entry))) (record { pgn = pgn; name = name; mask = mask }) ⌝ }
+{
+    if block[MODE] < BLOCK_NAMED {
+        return false;
+    }
+    let n = name_entries::count(&block[LIST_END..BLOCK_SIZE]);
+    if n < name_entries::MOST {
+        return false;
+    }
+    !name_entries::holds(&block[LIST_END..BLOCK_SIZE], n, pgn, name, mask)
+}
+
+// The first NAME entry of a pair, whose mode word from then on says that there are some.
+fn begin_names(block: &mut [u64], mode: u64, pgn: u64, name: u64, mask: u64)
+    requires { ⌜ (length (now block) ≡ blockSize) × (mode ≡ getD (now block) modePlace 0) × (1 ≤ mode) × (mode < 3) ⌝ }
+    ensures { λ _. ⌜ Naming (now (block .entry)) (now (block .exit)) (record { pgn = pgn; name = name; mask = mask }) true ⌝ }
+{
+    name_entries::append(&mut block[LIST_END..BLOCK_SIZE], 0, pgn, name, mask);
+    block[MODE] = mode + 2;
+}
+
+// A further NAME entry, behind the others. Tells whether it was done: not where it would be the ninth.
+fn grow_names(block: &mut [u64], pgn: u64, name: u64, mask: u64) -> bool
+    requires { ⌜ (length (now block) ≡ blockSize) × (3 ≤ getD (now block) modePlace 0) ⌝ }
+    ensures { λ r. ⌜ Naming (now (block .entry)) (now (block .exit)) (record { pgn = pgn; name = name; mask = mask }) r ⌝ }
+{
+    let n = name_entries::count(&block[LIST_END..BLOCK_SIZE]);
+    if name_entries::holds(&block[LIST_END..BLOCK_SIZE], n, pgn, name, mask) {
+        return true;
+    }
+    if n == name_entries::MOST {
+        return false;
+    }
+    name_entries::append(&mut block[LIST_END..BLOCK_SIZE], n, pgn, name, mask);
+    true
+}
+
+// Add by NAME: the NAME entry joins those of the pair, one already there stays where it is. Tells whether it was done.
+pub fn add_name(block: &mut [u64], pgn: u64, name: u64, mask: u64) -> bool
+    requires { ⌜ length (now block) ≡ blockSize ⌝ }
+    ensures { λ r. ⌜ Naming (now (block .entry)) (now (block .exit)) (record { pgn = pgn; name = name; mask = mask }) r ⌝ }
+{
+    let mode = block[MODE];
+    if mode == CLEARED {
+        return false;
+    }
+    if mode < BLOCK_NAMED {
+        begin_names(block, mode, pgn, name, mask);
+        return true;
+    }
+    grow_names(block, pgn, name, mask)
 }

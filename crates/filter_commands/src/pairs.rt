@@ -12,13 +12,15 @@ pub enum Question {
     IsNotCleared,
     WouldPass,
     Lacks,
+    NamesFull { name: u64, mask: u64 },
 }
 
-// What a command with entries does to a pair.
+// What a command with entries does to a pair. A NAME entry's PGN is the command's one entry.
 pub enum Change {
     Adds,
     Deletes,
     Creates(bool),
+    Names { name: u64, mask: u64 },
 }
 
 // A question to a pair, before a command with these entries.
@@ -31,6 +33,12 @@ pub fn answer(block: &[u64], question: Question, entries: &[u8]) -> bool
         Question::IsNotCleared => !filter::is_cleared(block),
         Question::WouldPass => crate::would_pass(block, entries),
         Question::Lacks => crate::lacks(block, entries),
+        Question::NamesFull { name, mask } => crate::names_full(
+            block,
+            crate::first_entry(entries),
+            name,
+            mask,
+        ),
     }
 }
 
@@ -43,5 +51,11 @@ pub fn apply(block: &mut [u64], change: Change, entries: &[u8]) -> bool
         Change::Adds => crate::add(block, entries),
         Change::Deletes => crate::delete(block, entries),
         Change::Creates(passing) => crate::create(block, passing, entries),
+        Change::Names { name, mask } => crate::add_name(
+            block,
+            crate::first_entry(entries),
+            name,
+            mask,
+        ),
     }
 }

@@ -13,6 +13,7 @@ use Rattle.filter.specs.declared.Asked.{Asked}
 use Rattle.filter.specs.Filter.{reasonNumber}
 use Rattle.filter.proofs.Reasons.{reason-below}
 use Rattle.pgn_list.specs.PgnList.{listSize}
+use Rattle.name_entries.specs.NameEntries.{mostNames}
 use Rattle.queue.specs.declared.Frame.{Frame}
 use Rattle.queue.specs.Queue.{Queued, sentAll, idle}
 use Rattle.unit.specs.declared.Sent.the-variants.{One}
@@ -22,10 +23,10 @@ use Rattle.forwarding.specs.declared.Share.{Share}
 use Rattle.unit.specs.Ports.{each, inTurn, mask, bitAt, digits, total}
 use Rattle.unit.specs.Model.{Rest, Model, modelOf, queueOn, rowAt, withQueue, withQueues, withLosses, recordLength}
 use Rattle.forwarding.specs.Forwarding.{silent, sentIf, accepts, loses, losesOwn, lostFrom, lostOwn}
-use Rattle.forwarding.specs.Steps.{changedTo, cameOf, forwardedTo, sharesTo, Losing, LosingAll, Sending, Offering, Forwarding, announcedTo, unsentTo, OwnJoining, Announcing}
+use Rattle.forwarding.specs.Steps.{changedTo, cameOf, joins, misses, forwardedTo, sharesTo, Losing, LosingAll, Sending, Offering, Forwarding, announcedTo, unsentTo, OwnJoining, Announcing}
 use Rattle.unit.proofs.Ports.{each-later, each-step, turn-step, turn-same, turn-none, mask-bit, mask-step, digits-step, digits-small, total-step, mask-small, choice-small, each-none, mask-none}
 use Rattle.record.proofs.Regions.{queues-long}
-use Rattle.forwarding.proofs.Sends.{joins, misses, joins-is, misses-is}
+use Rattle.forwarding.proofs.Sends.{joins-is, misses-is}
 use Rattle.unit.specs.declared.Sent.{Sent}
 
 -- ---- any loop over the ports
@@ -80,7 +81,7 @@ pub record Going (ports : ℕ) (start : List ℕ) (question : ℕ → Asked) (f 
   pub along : Along ports start (λ q x. sentAll x (sentIf (question q) f)) (λ q. false) (λ q l. l) words bit n
   pub place : weight ≡ 16 ^ n
   pub answer : record { accepted = accepted; lost = lost; reasons = reasons; compared = compared } ≡ sharesTo n (modelOf ports start) question
-  pub small : compared ≤ listSize * n
+  pub small : compared ≤ (listSize + mostNames) * n
 
 -- forwarding changes queues alone, so what is asked of the rest is answered as it was at the start
 pub asked-still : {ports : ℕ} (question : Rest → ℕ → Asked) {start words after : List ℕ} {f : Frame} {accepted lost reasons compared bit weight n : ℕ} {r : Offered} → Going ports start (question (modelOf ports start .rest)) f words accepted lost reasons compared bit weight n
@@ -109,7 +110,7 @@ module _ {ports : ℕ} {start : List ℕ} {question : ℕ → Asked} {f : Frame}
     reason-is : r .reason ≡ reasonNumber (question n .reason)
     reason-is = ap (λ (x : Offered). x .reason) offered-is
 
-    going-more : length after ≡ recordLength ports → Going ports start question f after (accepted + cond (joins (r .came)) bit 0) (lost + cond (misses (r .came)) bit 0) (reasons + weight * r .reason) (compared + r .compared) (2 * bit) (16 * weight) (n + 1)
+    pub going-more : length after ≡ recordLength ports → Going ports start question f after (accepted + cond (joins (r .came)) bit 0) (lost + cond (misses (r .came)) bit 0) (reasons + weight * r .reason) (compared + r .compared) (2 * bit) (16 * weight) (n + 1)
     unfolding sharesTo
     going-more h = record {
       along = along-more (G .along) more h (S .state);
@@ -124,16 +125,6 @@ module _ {ports : ℕ} {start : List ℕ} {question : ℕ → Asked} {f : Frame}
       small = omega (arith, S .small, G .small);
     }
 
-    -- by what became of the frame
-    pub going-stopped : r .came ≡ Came.Stopped → length after ≡ recordLength ports → Going ports start question f after accepted lost (reasons + weight * r .reason) (compared + r .compared) (2 * bit) (16 * weight) (n + 1)
-    going-stopped e h = rw (add-zero accepted, add-zero lost) at (rw e at (going-more h))
-
-    pub going-joined : r .came ≡ Came.Joined → length after ≡ recordLength ports → Going ports start question f after (accepted + bit) lost (reasons + weight * r .reason) (compared + r .compared) (2 * bit) (16 * weight) (n + 1)
-    going-joined e h = rw (add-zero lost) at (rw e at (going-more h))
-
-    pub going-lost : r .came ≡ Came.Lost → length after ≡ recordLength ports → Going ports start question f after accepted (lost + bit) (reasons + weight * r .reason) (compared + r .compared) (2 * bit) (16 * weight) (n + 1)
-    going-lost e h = rw (add-zero accepted) at (rw e at (going-more h))
-
     -- no sum overflows
     pub reasons-small : reasons + weight * r .reason < 2 ^ 36
     unfolding sharesTo
@@ -147,7 +138,7 @@ module _ {ports : ℕ} {start : List ℕ} {question : ℕ → Asked} {f : Frame}
             let w : reasons ≡ digits told n = ap (λ (x : Share). x .reasons) (G .answer) in
             rw (w, reason-is, G .place, digits-step)
 
-    pub compared-small : compared + r .compared < 288
+    pub compared-small : compared + r .compared < 360
     compared-small = omega (arith, S .small, G .small, G .along .few)
 
   module _ {words : List ℕ} {accepted lost reasons compared bit weight n : ℕ} (G : Going ports start question f words accepted lost reasons compared bit weight n) (more : n < ports) where
@@ -163,7 +154,7 @@ module _ {ports : ℕ} {start : List ℕ} {question : ℕ → Asked} {f : Frame}
 
     -- where nothing is asked, nothing is added
     pub going-self : Sending ports words words (question n) n f (record { came = Came.Stopped; reason = 0; compared = 0 }) → Going ports start question f words accepted lost reasons compared (2 * bit) (16 * weight) (n + 1)
-    going-self S = rw (mul-zero weight, add-zero reasons, add-zero compared) at (going-stopped G S more refl (G .along .whole))
+    going-self S = rw (add-zero accepted, add-zero lost, mul-zero weight, add-zero reasons, add-zero compared) at (going-more G S more (G .along .whole))
 
 -- ---- the unit's own frame
 pub record Telling (ports : ℕ) (start : List ℕ) (f : Frame) (words : List ℕ) (lost bit n : ℕ) : Type 0 where

@@ -10,17 +10,22 @@ use borrow.Author.Tests.{eq-eqb, ne-eqb, lt-ltb, le-ltb}
 use lib.Seq.{set-getD}
 use Rattle.filter.specs.declared.Asked.{Asked}
 use Rattle.filter.specs.Filter.{Filter, crosses, reasonNumber, blockSize as filterLength}
+use Rattle.pgn_list.specs.PgnList.{listSize}
+use Rattle.name_entries.specs.NameEntries.{mostNames}
 use Rattle.queue.specs.declared.Frame.{Frame}
 use Rattle.queue.specs.Queue.{size, idle, joined}
 use Rattle.losses.specs.Losses.{oneMore}
 use Rattle.delivery.specs.Row.{room}
 use Rattle.unit.specs.Count.{pairCount}
-use Rattle.unit.specs.Model.{Model, modelOf, queueOn, rowAt, withQueue, withLosses, pairsFrom, pairAt, generalAt}
+use Rattle.unit.specs.Model.{Rest, Model, modelOf, queueOn, rowAt, withQueue, withLosses, pairsFrom, pairAt, generalAt}
 use Rattle.unit.proofs.Count.{pair-below}
 use Rattle.forwarding.specs.declared.Came.{Came}
+use Rattle.forwarding.specs.declared.Offered.{Offered}
 use Rattle.forwarding.specs.Forwarding.{silent, verdict, accepts, loses, countedAt, lostFrom, lostOwn}
+use Rattle.identifier.specs.Identifier.{saOf}
+use Rattle.addresses.specs.Table.{nameAt}
 use Rattle.record.specs.Steps.{PairAsking, RowJoining, LossesChanging}
-use Rattle.forwarding.specs.Steps.{Losing, Joining, cameOf, Sending, Standing, OwnJoining}
+use Rattle.forwarding.specs.Steps.{Losing, Joining, cameOf, joins, misses, Sending, Standing, OwnJoining}
 
 queue-same : (m : Model) (q : ℕ) → m ≡ withQueue m q (queueOn m q)
 queue-same m q = rw (set-getD (m .queues) q idle)
@@ -32,14 +37,14 @@ told-small weight d h l = le-trans (mul-le-mul-right d h) (mul-le-mul-left (2 ^ 
     below : d < 16 → d ≤ 16
     below l = omega arith
 
-verdict-is : {ports : ℕ} {before : List ℕ} {p q pgn : ℕ} {v : Asked} → (p ≡ q → ⊥) → PairAsking ports before p q pgn v → verdict ports (modelOf ports before .rest .pairs) p pgn q ≡ v
+verdict-is : {ports : ℕ} {before : List ℕ} {p q pgn : ℕ} (sa : ℕ) {v : Asked} → (p ≡ q → ⊥) → PairAsking ports before p q pgn (nameAt (modelOf ports before .rest .table) sa) v → verdict ports (modelOf ports before .rest) p pgn sa q ≡ v
 unfolding verdict
-verdict-is {ports} {before} {p} {q} ne P = rw (ne-eqb p q ne) (sym (P .answer))
+verdict-is {ports} {before} {p} {q} sa ne P = rw (ne-eqb p q ne) (sym (P .answer))
 
 -- the arrival port is not asked
-pub verdict-home : (ports : ℕ) (pairs : List Filter) (p pgn : ℕ) → verdict ports pairs p pgn p ≡ silent
+pub verdict-home : (ports : ℕ) (rest : Rest) (p pgn sa : ℕ) → verdict ports rest p pgn sa p ≡ silent
 unfolding verdict
-verdict-home ports pairs p pgn = rw (eq-eqb p p refl) refl
+verdict-home ports rest p pgn sa = rw (eq-eqb p p refl) refl
 
 -- one more in the counter in place i of a model
 abbrev more : ℕ → Model → Model
@@ -66,17 +71,6 @@ module _ {ports : ℕ} {before after : List ℕ} {p q : ℕ} {f : Frame} {w : Bo
 pub lost-both : {ports : ℕ} {before between after : List ℕ} {p q : ℕ} → LossesChanging ports before between (pairAt ports p q) oneMore → LossesChanging ports between after (generalAt ports) oneMore → Losing ports before after p q
 lost-both {ports} {p = p} {q = q} C D = record { state = D .state ∙ ap (more (generalAt ports)) (C .state) }
 
--- whether a frame joined, and whether it was lost
-abbrev pub joins : Came → Bool
-joins Came.Stopped = false
-joins Came.Joined = true
-joins Came.Lost = false
-
-abbrev pub misses : Came → Bool
-misses Came.Stopped = false
-misses Came.Joined = false
-misses Came.Lost = true
-
 pub joins-is : (v : Asked) (row : List Frame) → joins (cameOf v row) ≡ accepts v row
 joins-is v row = go (crosses (v .reason)) (room size row)
   where
@@ -93,9 +87,18 @@ misses-is v row = go (crosses (v .reason)) (room size row)
     go true false = refl
     go false w = refl
 
+-- what a pair answered, done at the port that it leads to
+module _ {ports : ℕ} {before : List ℕ} {q : ℕ} {f : Frame} {v : Asked} {told : ℕ} (T : told ≡ reasonNumber (v .reason)) (small : v .compared ≤ listSize + mostNames) where
+  pub carried-stopped : crosses (v .reason) ≡ false → Sending ports before before v q f (record { came = Came.Stopped; reason = told; compared = v .compared })
+  carried-stopped e = record { answer = rw (e, T); state = rw e (queue-same (modelOf ports before) q); small = small }
+
+  pub carried : {after : List ℕ} {w : Bool} (b : Bool) → crosses (v .reason) ≡ true → w ≡ b → RowJoining ports before after q f w
+      → Sending ports before after v q f (record { came = cond b Came.Joined Came.Lost; reason = told; compared = v .compared })
+  carried b e h J = record { answer = rw (e, ← (J .answer), h, T); state = rw e (J .state); small = small }
+
 module _ {ports : ℕ} {before : List ℕ} {p q : ℕ} (pgn : ℕ) {f : Frame} where
   -- the arrival port
-  pub send-self : p ≡ q → Sending ports before before (verdict ports (modelOf ports before .rest .pairs) p pgn q) q f (record { came = Came.Stopped; reason = 0; compared = 0 })
+  pub send-self : p ≡ q → Sending ports before before (verdict ports (modelOf ports before .rest) p pgn (saOf (f .id)) q) q f (record { came = Came.Stopped; reason = 0; compared = 0 })
   unfolding verdict
   send-self e = record {
     answer = rw (eq-eqb p q e);
@@ -103,21 +106,10 @@ module _ {ports : ℕ} {before : List ℕ} {p q : ℕ} (pgn : ℕ) {f : Frame} w
     small = omega arith;
   }
 
-  module _ {v : Asked} {told : ℕ} (ne : p ≡ q → ⊥) (P : PairAsking ports before p q pgn v) (T : told ≡ reasonNumber (v .reason)) where
-    pub send-stopped : crosses (v .reason) ≡ false → Sending ports before before (verdict ports (modelOf ports before .rest .pairs) p pgn q) q f (record { came = Came.Stopped; reason = told; compared = v .compared })
-    send-stopped e = record {
-      answer = rw (verdict-is ne P, e, T);
-      state = rw (verdict-is ne P, e) (queue-same (modelOf ports before) q);
-      small = P .small;
-    }
-
-    pub send-permitted : {after : List ℕ} {w : Bool} (b : Bool) → crosses (v .reason) ≡ true → w ≡ b → RowJoining ports before after q f w
-        → Sending ports before after (verdict ports (modelOf ports before .rest .pairs) p pgn q) q f (record { came = cond b Came.Joined Came.Lost; reason = told; compared = v .compared })
-    send-permitted b e h J = record {
-      answer = rw (verdict-is ne P, e, ← (J .answer), h, T);
-      state = rw (verdict-is ne P, e) (J .state);
-      small = P .small;
-    }
+  -- another, by what its pair answered
+  pub sent-by : {after : List ℕ} {v : Asked} {r : Offered} → (p ≡ q → ⊥) → PairAsking ports before p q pgn (nameAt (modelOf ports before .rest .table) (saOf (f .id))) v
+      → Sending ports before after v q f r → Sending ports before after (verdict ports (modelOf ports before .rest) p pgn (saOf (f .id)) q) q f r
+  sent-by ne P S = rw (verdict-is (saOf (f .id)) ne P) S
 
 -- ---- where a frame from port p stands: at port n, the filter of whose pair begins at a word
 module _ {ports p at n : ℕ} (port : p < ports) (L : Standing ports p at n) where

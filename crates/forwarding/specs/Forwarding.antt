@@ -13,16 +13,17 @@ use Rattle.queue.specs.declared.Frame.{Frame}
 use Rattle.queue.specs.Queue.{size}
 use Rattle.losses.specs.Losses.{oneMore}
 use Rattle.unit.specs.declared.Sent.{Sent}
-use Rattle.unit.specs.Model.{pairAt, generalAt}
+use Rattle.unit.specs.Model.{Rest, pairAt, generalAt}
+use Rattle.addresses.specs.Table.{nameAt}
 
 -- ---- rule 2, and what rule 5 counts: what is answered for port q
 -- where no pair is asked: nothing crosses and nothing is compared
 abbrev pub silent : Asked
 silent = record { reason = Reason.NotAsked; compared = 0 }
 
--- the pair p to q is asked; the arrival port is no target
-unfoldable pub verdict : ℕ → List Filter → ℕ → ℕ → ℕ → Asked
-verdict ports pairs p pgn q = cond (eqb p q) silent (asked (getD pairs (pairAt ports p q) clear) pgn)
+-- the pair p to q is asked about the PGN and the NAME that the table gives the sender's address; the arrival port is no target
+unfoldable pub verdict : ℕ → Rest → ℕ → ℕ → ℕ → ℕ → Asked
+verdict ports rest p pgn sa q = cond (eqb p q) silent (asked (getD (rest .pairs) (pairAt ports p q) clear) pgn (nameAt (rest .table) sa))
 
 -- ---- rule 3: what is sent to port q, and whether it is accepted or lost there
 abbrev pub sentIf : Asked → Frame → List Frame

@@ -1,24 +1,28 @@
 -- The contracts of the loops over the ports: what each does to the model of a record, at one port and at all.
 -- Assumes nothing.
-use Prim.Native.Nat.{ℕ, _+_, _-_, _*_, _≤_, _<_}
-use mathlib.Core.Bool.{Bool, cond}
+use Prim.Native.Nat.{ℕ, _+_, _-_, _*_, _^_, _≤_, _<_}
+use mathlib.Core.Bool.{Bool, true, false, cond}
 use mathlib.Core.Logic.{_⊎_}
 use mathlib.Core.Path.{_≡_}
 use mathlib.Core.List.{List, [], _∷_}
+use lib.ListN.{length}
 use Rattle.delivery.specs.Row.{room}
 use Rattle.filter.specs.declared.Asked.{Asked}
 use Rattle.filter.specs.Filter.{crosses, reasonNumber, blockSize as filterLength}
 use Rattle.pgn_list.specs.PgnList.{listSize}
+use Rattle.name_entries.specs.NameEntries.{mostNames}
+use Rattle.identifier.specs.Identifier.{saOf}
 use Rattle.queue.specs.declared.Frame.{Frame}
 use Rattle.queue.specs.Queue.{Queued, size, sentAll, joined}
 use Rattle.unit.specs.declared.Sent.{Sent}
 use Rattle.unit.specs.Ports.{each, inTurn, mask, digits, total}
-use Rattle.unit.specs.Model.{Model, queueOn, rowAt, withQueue, withQueues, withLosses, pairsFrom, pairAt, modelOf}
+use Rattle.unit.specs.Model.{Model, queueOn, rowAt, withQueue, withQueues, withLosses, pairsFrom, pairAt, recordLength, modelOf}
 use Rattle.unit.specs.Count.{pairCount}
 use Rattle.unit.specs.Own.{framesSent}
 use Rattle.forwarding.specs.declared.Came.{Came}
 use Rattle.forwarding.specs.declared.Offered.{Offered}
 use Rattle.forwarding.specs.declared.Share.{Share}
+use Rattle.forwarding.specs.declared.Way.{Way}
 use Rattle.forwarding.specs.Forwarding.{verdict, sentIf, accepts, loses, losesOwn, lostFrom, lostOwn}
 
 -- ---- any change of the queues at the first n ports, each by itself, and what is counted where a frame is lost
@@ -49,21 +53,70 @@ pub record Joining (ports : ℕ) (before after : List ℕ) (p q : ℕ) (f : Fram
 abbrev pub cameOf : Asked → List Frame → Came
 cameOf v row = cond (crosses (v .reason)) (cond (room size row) Came.Joined Came.Lost) Came.Stopped
 
+-- whether a frame joined, and whether it was lost
+abbrev pub joins : Came → Bool
+joins Came.Stopped = false
+joins Came.Joined = true
+joins Came.Lost = false
+
+abbrev pub misses : Came → Bool
+misses Came.Stopped = false
+misses Came.Joined = false
+misses Came.Lost = true
+
 pub record Sending (ports : ℕ) (before after : List ℕ) (v : Asked) (q : ℕ) (f : Frame) (r : Offered) : Type 0 where
   pub answer : r ≡ record { came = cameOf v (rowAt (modelOf ports before) q); reason = reasonNumber (v .reason); compared = v .compared }
   pub state : modelOf ports after ≡ withQueue (modelOf ports before) q (sentAll (queueOn (modelOf ports before) q) (sentIf v f))
-  pub small : r .compared ≤ listSize
+  pub small : r .compared ≤ listSize + mostNames
 
 -- from any other port, by the pair whose filter begins at a word, whatever the number of ports
 abbrev pub SendingAt : (before after : List ℕ) (at q pgn : ℕ) (f : Frame) (r : Offered) → Type 0
 SendingAt before after at q pgn f r =
     (ports p : ℕ) → q < ports → (p ≡ q → ⊥) → pairAt ports p q < pairCount ports → at ≡ pairsFrom ports + filterLength * pairAt ports p q
-    → Sending ports before after (verdict ports (modelOf ports before .rest .pairs) p pgn q) q f r
+    → Sending ports before after (verdict ports (modelOf ports before .rest) p pgn (saOf (f .id)) q) q f r
 
 -- where the filter begins that port p's frame meets next, before port n: port p itself has none
 abbrev pub Standing : ℕ → ℕ → ℕ → ℕ → Type 0
 Standing ports p at n =
     ((n ≤ p) × (at ≡ pairsFrom ports + filterLength * ((ports - 1) * p + n))) ⊎ ((p < n) × (at + filterLength ≡ pairsFrom ports + filterLength * ((ports - 1) * p + n)))
+
+-- what came of a frame at the port where it is, and at its own; and what it is told by then
+unfoldable pub wayAfter : Way → Offered → Way
+wayAfter way s = record {
+  accepted = way .accepted + cond (joins (s .came)) (way .bit) 0;
+  lost = way .lost + cond (misses (s .came)) (way .bit) 0;
+  reasons = way .reasons + way .weight * s .reason;
+  compared = way .compared + s .compared;
+  bit = 2 * way .bit;
+  weight = 16 * way .weight;
+  at = way .at + filterLength;
+  to = way .to + 1;
+}
+
+unfoldable pub wayPast : Way → Way
+wayPast way = record {
+  accepted = way .accepted;
+  lost = way .lost;
+  reasons = way .reasons;
+  compared = way .compared;
+  bit = 2 * way .bit;
+  weight = 16 * way .weight;
+  at = way .at;
+  to = way .to + 1;
+}
+
+abbrev pub wayShare : Way → Share
+wayShare way = record { accepted = way .accepted; lost = way .lost; reasons = way .reasons; compared = way .compared }
+
+-- no sum on the way overflows
+pub record Room (way : Way) (s : Offered) : Type 0 where
+  pub sets : (way .accepted + way .bit < 256) × (way .lost + way .bit < 256)
+  pub reasons : way .reasons + way .weight * s .reason < 2 ^ 36
+  pub compared : way .compared + s .compared < 360
+  pub bit : way .bit ≤ 128
+  pub weight : way .weight ≤ 2 ^ 28
+  pub at : way .at ≤ 65536
+  pub to : way .to ≤ 8
 
 unfoldable pub forwardedTo : ℕ → Model → ℕ → (ℕ → Asked) → Frame → Model
 forwardedTo ports m p question f =
@@ -76,6 +129,18 @@ sharesTo n m question = record {
   reasons = digits (λ q. reasonNumber (question q .reason)) n;
   compared = total (λ q. question q .compared) n;
 }
+
+-- a frame from port p has gone as far as its way says, and stands before the pair to that port
+pub record Gone (ports : ℕ) (start words : List ℕ) (p pgn : ℕ) (f : Frame) (way : Way) : Type 0 where
+  pub few : way .to ≤ ports
+  pub whole : length words ≡ recordLength ports
+  pub bit : way .bit ≡ 2 ^ way .to
+  pub weight : way .weight ≡ 16 ^ way .to
+  pub answer : wayShare way ≡ sharesTo (way .to) (modelOf ports start) (verdict ports (modelOf ports start .rest) p pgn (saOf (f .id)))
+  pub small : way .compared ≤ (listSize + mostNames) * way .to
+  pub state : modelOf ports words
+      ≡ changedTo (way .to) (modelOf ports start) (λ q x. sentAll x (sentIf (verdict ports (modelOf ports start .rest) p pgn (saOf (f .id)) q) f)) (λ q. false) (λ q l. l)
+  pub standing : Standing ports p (way .at) (way .to)
 
 -- every queue by itself, nothing counted yet
 pub record Offering (ports : ℕ) (before after : List ℕ) (question : ℕ → Asked) (f : Frame) (r : Share) : Type 0 where

@@ -6,7 +6,8 @@ use Prim.Native.Nat.{ℕ, _-_, _≤_}
 use native.Mathlib.Omega.{arith}
 use borrow.Author.Tests.{eq-eqb, ne-eqb}
 use lib.ListN.{length}
-use Rattle.identifier.specs.Identifier.{pgnOf}
+use Rattle.identifier.specs.Identifier.{pgnOf, saOf}
+use Rattle.addresses.specs.Table.{nameAt}
 use Rattle.filter.specs.declared.Asked.{Asked}
 use Rattle.queue.specs.declared.Frame.{Frame}
 use Rattle.address_claims.specs.declared.Event.{Event}
@@ -69,9 +70,10 @@ module _ {ports : ℕ} (words : List ℕ) (from to id : ℕ) {n : ℕ} (e : n �
   unfolding askAnswer verdict
   ask-self z s = record { answer = rw (← e, eq-eqb n 0 z, s, eq-eqb (to - 1) (to - 1) refl); small = omega arith }
 
-  pub ask-pair : {pgn : ℕ} {v : Asked} → n ≡ 0 → (from - 1 ≡ to - 1 → ⊥) → pgn ≡ pgnOf id → PairAsking ports words (from - 1) (to - 1) pgn v → PartAsking ports words from to id (askedOf 0 v)
+  pub ask-pair : {pgn sa : ℕ} {v : Asked} → n ≡ 0 → (from - 1 ≡ to - 1 → ⊥) → pgn ≡ pgnOf id → sa ≡ saOf id
+      → PairAsking ports words (from - 1) (to - 1) pgn (nameAt (modelOf ports words .rest .table) sa) v → PartAsking ports words from to id (askedOf 0 v)
   unfolding askAnswer verdict
-  ask-pair z h g P = record { answer = rw (← e, eq-eqb n 0 z, ne-eqb (from - 1) (to - 1) h, ← g, ← (P .answer)); small = P .small }
+  ask-pair z h g s P = record { answer = rw (← e, eq-eqb n 0 z, ne-eqb (from - 1) (to - 1) h, ← g, ← s, ← (P .answer)); small = P .small }
 
 -- ---- join
 module _ {ports : ℕ} {words : List ℕ} (from to : ℕ) (f : Frame) {n : ℕ} (e : n ≡ pairRefusal ports (length words) from to (f .id) (f .len)) where

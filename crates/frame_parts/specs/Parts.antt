@@ -1,16 +1,17 @@
 -- The parts that a frame's call is made of, as calls of their own: a frame arrives, one pair is asked, a frame is sent to one port, a claim or request is
 -- acted on, the unit's own frame is sent. Each says what it answers and what it does to the model; another product is built on these alone.
 -- Assumes nothing.
-use Prim.Native.Nat.{ℕ, _-_, _≤_}
+use Prim.Native.Nat.{ℕ, _+_, _-_, _≤_}
 use mathlib.Core.Bool.{Bool, false, not, _&&_, cond}
 use mathlib.Core.Path.{_≡_}
 use mathlib.Core.List.{List}
 use lib.ListN.{length}
 use lib.Dec.{eqb}
-use Rattle.identifier.specs.Identifier.{pgnOf}
+use Rattle.identifier.specs.Identifier.{pgnOf, saOf}
 use Rattle.delivery.specs.Row.{room}
 use Rattle.filter.specs.declared.Asked.{Asked}
 use Rattle.pgn_list.specs.PgnList.{listSize}
+use Rattle.name_entries.specs.NameEntries.{mostNames}
 use Rattle.queue.specs.declared.Frame.{Frame}
 use Rattle.queue.specs.Queue.{size}
 use Rattle.address_claims.specs.declared.Event.{Event}
@@ -63,12 +64,12 @@ askedOf refusal v = record { refusal = refusal; reason = v .reason; compared = v
 unfoldable pub askAnswer : ℕ → ℕ → Rest → ℕ → ℕ → ℕ → AskAnswer
 askAnswer ports lent rest from to id =
     cond (eqb (pairRefusal ports lent from to id 0) 0)
-    (askedOf 0 (verdict ports (rest .pairs) (from - 1) (pgnOf id) (to - 1)))
+    (askedOf 0 (verdict ports rest (from - 1) (pgnOf id) (saOf id) (to - 1)))
     (askedOf (pairRefusal ports lent from to id 0) silent)
 
 pub record PartAsking (ports : ℕ) (words : List ℕ) (from to id : ℕ) (r : AskAnswer) : Type 0 where
   pub answer : r ≡ askAnswer ports (length words) (modelOf ports words .rest) from to id
-  pub small : r .compared ≤ listSize
+  pub small : r .compared ≤ listSize + mostNames
 
 -- ---- send a frame to one port (rule 3), where a loss is counted: the arrival port is no target
 unfoldable pub joinAnswer : ℕ → ℕ → Model → ℕ → ℕ → Frame → JoinAnswer

@@ -114,7 +114,14 @@ pub fn ask(words: &[u64], from: u32, to: u32, id: u32) -> AskAnswer
     }
     let p = from as usize - 1;
     let q = to as usize - 1;
-    let v = record::ask_pair(words, ports as usize, p, q, identifier::pgn(id));
+    let v = record::ask_pair(
+        words,
+        ports as usize,
+        p,
+        q,
+        identifier::pgn(id),
+        identifier::sa(id),
+    );
     let reason = v.reason;
     AskAnswer {
         refusal: 0,

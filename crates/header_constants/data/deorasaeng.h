@@ -6,7 +6,7 @@
    bytes may be handed in as NULL, 0; any other may not.
 
    Platform: x86-64 Linux, the System V calling convention, any linker for ELF. Needed are memcpy and memset and nothing else: no heap, no call of the operating
-   system, no data outside the record. SSE registers and the red zone are used. Some 21 KB of code and constants, 9,872 bytes of record for four ports, at most 1.3 KB
+   system, no data outside the record. SSE registers and the red zone are used. Some 24 KB of code and constants, 12,272 bytes of record for four ports, at most 1.3 KB
    of stack, 6 KB in a call on a plan.
    From the same proved module also 64-bit ARM, RISC-V and 32-bit ARM under Linux, Cortex-M4 and M7 without an operating system, and WebAssembly
    (scripts/library --target). On top of what is believed for x86-64 stands, for a 64-bit one, another back end of the same compiler; for a 32-bit one also that offsets
@@ -49,10 +49,10 @@ struct deorasaeng_byte_and_word {
 };
 typedef char deorasaeng_words_are_aligned_to_8[offsetof(struct deorasaeng_byte_and_word, word) == 8 ? 1 : -1];
 
-/* The version of this interface. A version may add functions, numbers, and words at the end of an answer or of the record, whose published length then grows: a
+/* The version of this interface. A version may add functions, numbers, and words at the end of an answer or in the record, whose published length then grows: a
    call that lends the old length is refused with 2. So callers are compiled again with the header of the library that they link: deorasaeng_version() tells the
    library's own, and where it is not this one the two do not fit. */
-#define DEORASAENG_VERSION 9
+#define DEORASAENG_VERSION 10
 uint64_t deorasaeng_version(void);
 
 /* What a function gives back: 0 for done, else why the call is refused. */
@@ -73,7 +73,7 @@ enum deorasaeng_number {
     DEORASAENG_WRONG_MODE = 13,          /* Create mode not 0 or 1 */
     DEORASAENG_NOT_CLEARED = 14,         /* Create: a named pair not cleared */
     DEORASAENG_IS_CLEARED = 15,          /* Add, Delete: a named pair cleared */
-    DEORASAENG_LIST_FULL = 16,           /* a named pair would pass 32 PGNs */
+    DEORASAENG_LIST_FULL = 16,           /* a named pair would pass 32 PGNs or 8 NAME entries */
     DEORASAENG_PGN_ABSENT = 17,          /* Delete: a PGN absent from a named pair */
     DEORASAENG_WRONG_STATE = 18,         /* Start not in Unstarted, Quiet not in Claiming */
     DEORASAENG_WRONG_ENTRY = 22,         /* an entry is no PGN */
@@ -91,11 +91,11 @@ enum deorasaeng_number {
 #define DEORASAENG_FEWEST_PORTS 2
 #define DEORASAENG_MOST_PORTS 8
 
-/* Published lengths: of the record of a unit with four ports, of one port's queue in it and of one pair's list, in words; of a reply buffer at least, and of a
-   frame's bytes, in bytes. */
-#define DEORASAENG_RECORD_WORDS 1234
+/* Published lengths: of the record of a unit with four ports, of one port's queue in it and of one pair in it, which has its NAME entries behind its list, in words; of a
+   reply buffer at least, and of a frame's bytes, in bytes. */
+#define DEORASAENG_RECORD_WORDS 1534
 #define DEORASAENG_QUEUE_WORDS 75
-#define DEORASAENG_PAIR_WORDS 34
+#define DEORASAENG_RECORD_PAIR_WORDS 59
 #define DEORASAENG_REPLY_BYTES 1785
 #define DEORASAENG_FRAME_BYTES 8
 
@@ -105,12 +105,12 @@ enum deorasaeng_number {
 
 /* The length of the record of a unit with another number of ports, in words, and of one with any number: a constant where `ports` is one. For a number that is not 2 to
    8 it is four's, which is what power-on is to be lent then. */
-#define DEORASAENG_RECORD_WORDS_2 734
-#define DEORASAENG_RECORD_WORDS_3 949
-#define DEORASAENG_RECORD_WORDS_5 1589
-#define DEORASAENG_RECORD_WORDS_6 2014
-#define DEORASAENG_RECORD_WORDS_7 2509
-#define DEORASAENG_RECORD_WORDS_8 3074
+#define DEORASAENG_RECORD_WORDS_2 784
+#define DEORASAENG_RECORD_WORDS_3 1099
+#define DEORASAENG_RECORD_WORDS_5 2089
+#define DEORASAENG_RECORD_WORDS_6 2764
+#define DEORASAENG_RECORD_WORDS_7 3559
+#define DEORASAENG_RECORD_WORDS_8 4474
 #define DEORASAENG_RECORD_WORDS_FOR(ports)                                                  \
     ((ports) == 2 ? DEORASAENG_RECORD_WORDS_2 : (ports) == 3 ? DEORASAENG_RECORD_WORDS_3 :  \
      (ports) == 5 ? DEORASAENG_RECORD_WORDS_5 : (ports) == 6 ? DEORASAENG_RECORD_WORDS_6 :  \
@@ -125,11 +125,13 @@ enum deorasaeng_number {
 #define DEORASAENG_COUNTS_ANSWER 10
 #define DEORASAENG_PLAN_ANSWER 1
 
-/* A plan of a machine: how many segments and units it may have; for each unit the segment on each of eight ports, and the list of each of 56 pairs, as words. */
+/* A plan of a machine: how many segments and units it may have; for each unit the segment on each of eight ports, and the list of each of 56 pairs, as words; and the
+   words of one of these pairs, which has no NAME entries. */
 #define DEORASAENG_MOST_SEGMENTS 16
 #define DEORASAENG_MOST_UNITS 16
 #define DEORASAENG_PLAN_PORT_WORDS 128
 #define DEORASAENG_PLAN_LIST_WORDS 30464
+#define DEORASAENG_PAIR_WORDS 34
 
 /* The words of a frame's answer. */
 enum deorasaeng_frame_word {
@@ -264,8 +266,9 @@ uint32_t deorasaeng_take_queue(uint64_t queue[DEORASAENG_QUEUE_WORDS], uint64_t 
 
 /* A plan of a machine, asked before it is built: which segments hear a PGN that is sent on the first one? It needs no record. `ports` has eight words for each of 16
    units, the segment on each port, 1 to `segments`, or 0 if it is unused. `lists` has 56 blocks of DEORASAENG_PAIR_WORDS words for each of 16 units, in order of From, then
-   To: mode (0 cleared, 1 block, 2 pass), count, 32 PGNs. What lies past the units in use is not read. The answer has bit s - 1 for segment s that hears. Numbers 2, 28
-   and 29. docs/PLANS.md says what each is for. */
+   To: mode (0 cleared, 1 block, 2 pass), count, 32 PGNs. A record's pair is none of these, and its words are not to be copied here: it has NAME entries behind its
+   list, and modes above 2 for them, which are 28 in a plan. What lies past the units in use is not read. The answer has bit s - 1 for segment s that hears. Numbers 2,
+   28 and 29. docs/PLANS.md says what each is for. */
 uint32_t deorasaeng_plan(const uint64_t *ports, deorasaeng_size ports_len, const uint64_t *lists, deorasaeng_size lists_len, uint32_t segments, uint32_t units,
                          uint32_t first, uint32_t pgn, uint64_t *answer, deorasaeng_size answer_len);
 

@@ -267,7 +267,7 @@ fn record_lengths(head: &[u8], names: &[u8], from: Passed) -> Passed {
     p
 }
 
-// QUEUE_WORDS, PAIR_WORDS, REPLY_BYTES, QUEUES_AT, FRAME_BYTES, and the lengths of the answers to a frame, a take, a message, Start, of the unit, of the counts and of a plan.
+// QUEUE_WORDS, RECORD_PAIR_WORDS, REPLY_BYTES, QUEUES_AT, FRAME_BYTES, and the lengths of the answers to a frame, a take, a message, Start, of the unit, of the counts and of a plan.
 const LENGTHS: [u64; 12] = [
     queue::BLOCK_LENGTH as u64,
     filter::BLOCK_SIZE as u64,
@@ -283,12 +283,13 @@ const LENGTHS: [u64; 12] = [
     deorasaeng::PLAN_WORDS as u64,
 ];
 
-// MOST_SEGMENTS, MOST_UNITS, PLAN_PORT_WORDS, PLAN_LIST_WORDS.
-const PLAN: [u64; 4] = [
+// MOST_SEGMENTS, MOST_UNITS, PLAN_PORT_WORDS, PLAN_LIST_WORDS, PAIR_WORDS.
+const PLAN: [u64; 5] = [
     plan_shape::SEGMENTS as u64,
     plan_shape::UNITS as u64,
     plan_shape::PORTS_LENGTH as u64,
     plan_shape::LISTS_LENGTH as u64,
+    plan_shape::BLOCK_SIZE as u64,
 ];
 
 // The claim states, and the address of a unit that has none.

@@ -7,10 +7,10 @@ use native.Mathlib.Omega.{arith}
 use native.Mathlib.Decide.{ℕ-discrete, decLt}
 use lib.ListN.{length, getD}
 use Rattle.filter.specs.Filter.{Filter, clear, isCleared}
-use Rattle.filter_commands.specs.Changes.{wouldPass, lacks, mayAdd, mayDelete, mayCreate}
+use Rattle.filter_commands.specs.Changes.{wouldPass, lacks, mayAdd, mayDelete, mayCreate, mayName}
 use Rattle.filter_commands.specs.declared.pairs.Change.{Change}
-use Rattle.filter_commands.specs.declared.pairs.Change.the-variants.{Adds, Deletes, Creates}
-use Rattle.filter_commands.specs.declared.pairs.Question.the-variants.{IsCleared, IsNotCleared, WouldPass, Lacks}
+use Rattle.filter_commands.specs.declared.pairs.Change.the-variants.{Adds, Deletes, Creates, Names}
+use Rattle.filter_commands.specs.declared.pairs.Question.the-variants.{IsCleared, IsNotCleared, WouldPass, Lacks, NamesFull}
 use Rattle.filter_commands.specs.Pairs.{holdsOf, mayOf, changeOf}
 use Rattle.unit.specs.Model.{recordLength}
 use Rattle.record.specs.Steps.{PairJudging}
@@ -73,16 +73,18 @@ module _ (ports from to : ℕ) (pairs : List Filter) where
   create-may false b n e = absurd (true≢false n)
 
   pub allowed : (change : Change) (xs : List ℕ) → Each (λ f. mayOf change xs f ≡ true) → listRefusal ports change xs from to pairs ≡ 0
-  unfolding listRefusal listChecks holdsOf mayOf mayAdd mayDelete mayCreate
+  unfolding listRefusal listChecks holdsOf mayOf mayAdd mayDelete mayCreate mayName
   allowed Adds xs h = two-pass (holdsOf IsCleared xs) (holdsOf WouldPass xs) 15 16 (omega arith) (omega arith) (λ k l e. both-no _ _ (h k l e))
   allowed Deletes xs h = two-pass (holdsOf IsCleared xs) (holdsOf Lacks xs) 15 17 (omega arith) (omega arith) (λ k l e. both-no _ _ (h k l e))
   allowed (Creates passing) xs h = two-pass (holdsOf IsNotCleared xs) (holdsOf WouldPass xs) 14 16 (omega arith) (omega arith) (λ k l e. create-no (isCleared (getD pairs (firstPair ports from + k) clear .mode)) (wouldPass (getD pairs (firstPair ports from + k) clear) xs) (h k l e))
+  allowed (Names name mask) xs h = two-pass (holdsOf IsCleared xs) (holdsOf (NamesFull name mask) xs) 15 16 (omega arith) (omega arith) (λ k l e. both-no _ _ (h k l e))
 
   pub allows : (change : Change) (xs : List ℕ) → listRefusal ports change xs from to pairs ≡ 0 → Each (λ f. mayOf change xs f ≡ true)
-  unfolding listRefusal listChecks holdsOf mayOf mayAdd mayDelete mayCreate
+  unfolding listRefusal listChecks holdsOf mayOf mayAdd mayDelete mayCreate mayName
   allows Adds xs z k l e = let n = two-passed (holdsOf IsCleared xs) (holdsOf WouldPass xs) 15 16 (omega arith) (omega arith) z k l e in rw (n .0, n .1)
   allows Deletes xs z k l e = let n = two-passed (holdsOf IsCleared xs) (holdsOf Lacks xs) 15 17 (omega arith) (omega arith) z k l e in rw (n .0, n .1)
   allows (Creates passing) xs z k l e = let n = two-passed (holdsOf IsNotCleared xs) (holdsOf WouldPass xs) 14 16 (omega arith) (omega arith) z k l e in create-may (isCleared (getD pairs (firstPair ports from + k) clear .mode)) (wouldPass (getD pairs (firstPair ports from + k) clear) xs) (n .0) (n .1)
+  allows (Names name mask) xs z k l e = let n = two-passed (holdsOf IsCleared xs) (holdsOf (NamesFull name mask) xs) 15 16 (omega arith) (omega arith) z k l e in rw (n .0, n .1)
 
 -- where the loop stands at pair i: those that are named and stand before it might be changed, and are
 pub record Going (ports first end : ℕ) (start words : List ℕ) (change : Change) (xs : List ℕ) (i : ℕ) : Type 0 where

@@ -13,9 +13,9 @@ use Rattle.entries.specs.Entries.{listed, every, leading}
 use Rattle.entries.proofs.Leading.{leading-all, leading-some, leading-short}
 use Rattle.filter.specs.Filter.{Filter, clear}
 use Rattle.filter_commands.specs.Changes.{lacks}
-use Rattle.filter_commands.specs.declared.pairs.Question.the-variants.{IsCleared, IsNotCleared, WouldPass, Lacks}
+use Rattle.filter_commands.specs.declared.pairs.Question.the-variants.{IsCleared, IsNotCleared, WouldPass, Lacks, NamesFull}
 use Rattle.filter_commands.specs.declared.pairs.Change.{Change}
-use Rattle.filter_commands.specs.declared.pairs.Change.the-variants.{Adds, Deletes, Creates}
+use Rattle.filter_commands.specs.declared.pairs.Change.the-variants.{Adds, Deletes, Creates, Names}
 use Rattle.filter_commands.specs.Pairs.{holdsOf}
 use Rattle.list_commands.specs.Commands.{firstPair, names, holdsAt, anyBelow, anyNamed, firstBelow, heldBefore, absentIn, absentAt, listChecks, listRefusal}
 use Rattle.list_commands.specs.Steps.{Naming, Stopping}
@@ -174,3 +174,4 @@ refused-17 ports Deletes xs from to pairs e = go (anyNamed ports (ports - 1) (ho
     go false true t e = t
     go false false t e = absurd (omega arith)
 refused-17 ports (Creates passing) xs from to pairs e = absurd (two 14 16 (anyNamed ports (ports - 1) (holdsOf IsNotCleared xs) from to pairs) (anyNamed ports (ports - 1) (holdsOf WouldPass xs) from to pairs) (λ z. omega arith) (λ z. omega arith) e)
+refused-17 ports (Names name mask) xs from to pairs e = absurd (two 15 16 (anyNamed ports (ports - 1) (holdsOf IsCleared xs) from to pairs) (anyNamed ports (ports - 1) (holdsOf (NamesFull name mask) xs) from to pairs) (λ z. omega arith) (λ z. omega arith) e)

@@ -14,9 +14,9 @@ use Rattle.checks.specs.Ports.{isPort}
 use Rattle.network_message.specs.Decoding.{allPorts}
 use Rattle.unit.specs.Ports.{each}
 use Rattle.unit.specs.Model.{pairsFrom}
-use Rattle.filter_commands.specs.declared.pairs.Question.the-variants.{IsCleared, IsNotCleared, WouldPass, Lacks}
+use Rattle.filter_commands.specs.declared.pairs.Question.the-variants.{IsCleared, IsNotCleared, WouldPass, Lacks, NamesFull}
 use Rattle.filter_commands.specs.declared.pairs.Change.{Change}
-use Rattle.filter_commands.specs.declared.pairs.Change.the-variants.{Adds, Deletes, Creates}
+use Rattle.filter_commands.specs.declared.pairs.Change.the-variants.{Adds, Deletes, Creates, Names}
 use Rattle.filter_commands.specs.Pairs.{holdsOf, changeOf}
 use Rattle.list_commands.specs.declared.Absent.{Absent}
 
@@ -77,6 +77,10 @@ listChecks ports Deletes xs from to pairs =
 listChecks ports (Creates passing) xs from to pairs =
     check (anyNamed ports (ports - 1) (holdsOf IsNotCleared xs) from to pairs) 14
     ∷ check (anyNamed ports (ports - 1) (holdsOf WouldPass xs) from to pairs) 16
+    ∷ []
+listChecks ports (Names name mask) xs from to pairs =
+    check (anyNamed ports (ports - 1) (holdsOf IsCleared xs) from to pairs) 15
+    ∷ check (anyNamed ports (ports - 1) (holdsOf (NamesFull name mask) xs) from to pairs) 16
     ∷ []
 
 unfoldable pub listRefusal : ℕ → Change → List ℕ → ℕ → ℕ → List Filter → ℕ

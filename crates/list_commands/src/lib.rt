@@ -151,6 +151,16 @@ fn refusal(
             }
             0
         }
+        Change::Names { name, mask } => {
+            if any(words, ports, first, end, Question::IsCleared, entries) {
+                return 15;
+            }
+            let full = Question::NamesFull { name, mask };
+            if any(words, ports, first, end, full, entries) {
+                return 16;
+            }
+            0
+        }
     }
 }
 

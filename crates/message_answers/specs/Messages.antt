@@ -66,7 +66,7 @@ resetAt i requester payload pairs = record {
   told = nothingTold;
 }
 
--- Add, Delete or Create on the pairs, with its entries
+-- Add, Delete, Create or Add by NAME on the pairs, with its entries
 abbrev pub changedBy : ℕ → Rest → ℕ → List ℕ → Change → ℕ → ℕ → ℕ → ℕ → Replied
 changedBy ports rest requester payload change from to start end =
     acknowledged (listRefusal ports change (entriesOf (between start end payload)) from to (rest .pairs)) requester payload

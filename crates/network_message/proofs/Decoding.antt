@@ -8,8 +8,9 @@ use Prim.Native.Nat.{ℕ, _≤_}
 use native.Mathlib.Omega.{arith}
 use borrow.Author.Tests.{eq-eqb, ne-eqb, eqb-true, eqb-false, not-true}
 use lib.Dec.{eqb}
-use lib.ListN.{length}
-use Rattle.entries.specs.Entries.{listed}
+use lib.ListN.{length, drop, length-drop}
+use lib.Seq.{length-take-le}
+use Rattle.entries.specs.Entries.{listed, entriesOf, firstWrong}
 use Rattle.entries.proofs.Listed.{formed}
 use Rattle.checks.proofs.Tests.{both}
 use Rattle.network_message.specs.Decoding.{functionOf, pairOf, fromOf, toOf, isGeneral, allPorts, mayBeAll, isPair, namesPorts, holdsParameter, entriesEnd, holdsEntries, hasGoodBody, wrongIn, wrongEntry, between, judged, commandOf, answered, decoded}
@@ -68,6 +69,12 @@ module _ (ports port function from to : ℕ) (payload : List ℕ) (P : Passed po
       let b = end-bounds start payload s l in
       record { forward = b .0; inside = b .1; formed = formed (between start (entriesEnd start payload) payload) e (eqb-true _ 0 w) }
 
+  -- of a NAME entry: three bytes, and they make a PGN
+  named-held : 8 ≤ length payload → eqb (firstWrong (entriesOf (between 2 5 payload))) 0 ≡ true → Holding 2 5 payload
+  named-held l w =
+      let three : length (between 2 5 payload) ≡ 3 = length-take-le 3 (drop 2 payload) (omega (arith, length-drop 2 payload)) in
+      record { forward = omega arith; inside = omega arith; formed = formed (between 2 5 payload) (rw three) (eqb-true _ 0 w) }
+
   pub command-good : 8 ≤ length payload → Good ports payload (commandOf function from to payload)
   unfolding isGeneral mayBeAll holdsParameter hasGoodBody wrongEntry listed
   command-good l =
@@ -77,6 +84,7 @@ module _ (ports port function from to : ℕ) (payload : List ℕ) (P : Passed po
       (λ e. (here (rw e) (λ h. omega arith), held 2 (omega arith) l (rw e at (P .bodied)) (rw e at (P .entered))))
       (λ e. here (rw e) (λ h. omega arith))
       (λ _ e. (here (rw e) (λ h. omega arith), held 3 (omega arith) l (rw e at (P .bodied)) (rw e at (P .entered))))
+      (λ e. (here (rw e) (λ h. omega arith), named-held l (rw e at (P .entered))))
       (λ e. port-bounds ports to (port-named e))
       (λ e. rw e at (P .held))
       (λ e. tt)
@@ -124,6 +132,7 @@ module _ (ports port : ℕ) (payload : List ℕ) where
           (λ e. mine (rw e) (λ h. omega arith))
           (λ e. mine (rw e) (λ h. omega arith))
           (λ _ e. mine (rw e) (λ h. omega arith))
+          (λ e. mine (rw e) (λ h. omega arith))
           (own-port ports port function from to tool there few (P .allowed))
           (λ e. all (rw e))
           (λ e. all (rw e))

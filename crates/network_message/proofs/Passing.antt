@@ -9,9 +9,9 @@ use lib.Dec.{eqb}
 use Rattle.entries.specs.Entries.{listed}
 use Rattle.network_message.specs.declared.Command.{Command}
 use Rattle.network_message.specs.declared.Command.the-variants.{Refused, Request, WithEntries, Clear, AddressList, Parameter, Reset, PairParameter, PairReset}
-use Rattle.filter_commands.specs.declared.pairs.Change.the-variants.{Adds, Deletes, Creates}
+use Rattle.filter_commands.specs.declared.pairs.Change.the-variants.{Adds, Deletes, Creates, Names}
 use Rattle.checks.specs.Checks.{acknowledges}
-use Rattle.network_message.specs.Decoding.{parameterOf, isKnown, namesPorts, mayName, holdsParameter, entriesEnd, hasGoodBody, wrongEntry, payloadChecks, refusalOf, judged, commandOf, answered}
+use Rattle.network_message.specs.Decoding.{parameterOf, nameOf, maskOf, isKnown, namesPorts, mayName, holdsParameter, entriesEnd, hasGoodBody, wrongEntry, payloadChecks, refusalOf, judged, commandOf, answered}
 use Rattle.checks.proofs.FirstNumber.{first-in}
 
 -- ---- what a payload that is not refused has passed
@@ -56,11 +56,14 @@ module _ (ports port function from to : ℕ) (payload : List ℕ) where
       choose Q (eqb n 0) (λ e. command (passed (eqb-true n 0 e))) (λ e. refused n (judged ports port function from to payload .entry) (told (eqb-false n 0 e)))
 
 -- ---- a command, by its function
--- a known function that is none of the nine is 133
-last-known : (function : ℕ) → isKnown function ≡ true → eqb function 0 ≡ false → eqb function 2 ≡ false → eqb function 3 ≡ false → eqb function 4 ≡ false → eqb function 6 ≡ false → eqb function 64 ≡ false → eqb function 128 ≡ false → eqb function 130 ≡ false → eqb function 131 ≡ false → function ≡ 133
+-- a known function that is none of the others is 133
+last-known : (function : ℕ) → isKnown function ≡ true
+    → eqb function 0 ≡ false → eqb function 2 ≡ false → eqb function 3 ≡ false → eqb function 4 ≡ false → eqb function 6 ≡ false
+    → eqb function 7 ≡ false → eqb function 64 ≡ false → eqb function 128 ≡ false → eqb function 130 ≡ false → eqb function 131 ≡ false
+    → function ≡ 133
 unfolding isKnown listed
-last-known function known n0 n2 n3 n4 n6 n64 n128 n130 n131 =
-    let k = rw (turn 0 n0, turn 2 n2, turn 3 n3, turn 4 n4, turn 6 n6, turn 64 n64, turn 128 n128, turn 130 n130, turn 131 n131) at known in
+last-known function known n0 n2 n3 n4 n6 n7 n64 n128 n130 n131 =
+    let k = rw (turn 0 n0, turn 2 n2, turn 3 n3, turn 4 n4, turn 6 n6, turn 7 n7, turn 64 n64, turn 128 n128, turn 130 n130, turn 131 n131) at known in
     sym (eqb-true 133 function (only (eqb 133 function) k))
   where
     turn : (k : ℕ) → eqb function k ≡ false → eqb k function ≡ false
@@ -70,16 +73,29 @@ last-known function known n0 n2 n3 n4 n6 n64 n128 n130 n131 =
     only true e = refl
     only false e = e
 
-pub by-function : (P : Command → Type 0) (function from to : ℕ) (payload : List ℕ) → isKnown function ≡ true → (function ≡ 0 → P (Request from to)) → (function ≡ 2 → P (WithEntries Adds from to 2 (entriesEnd 2 payload))) → (function ≡ 3 → P (WithEntries Deletes from to 2 (entriesEnd 2 payload))) → (function ≡ 4 → P (Clear from to)) → ((pass : Bool) → function ≡ 6 → P (WithEntries (Creates pass) from to 3 (entriesEnd 3 payload))) → (function ≡ 64 → P (AddressList to)) → (function ≡ 128 → P (Parameter (parameterOf payload))) → (function ≡ 130 → P Reset) → (function ≡ 131 → P (PairParameter from to (parameterOf payload))) → (function ≡ 133 → P (PairReset from to)) → P (commandOf function from to payload)
+pub by-function : (P : Command → Type 0) (function from to : ℕ) (payload : List ℕ) → isKnown function ≡ true
+    → (function ≡ 0 → P (Request from to))
+    → (function ≡ 2 → P (WithEntries Adds from to 2 (entriesEnd 2 payload)))
+    → (function ≡ 3 → P (WithEntries Deletes from to 2 (entriesEnd 2 payload)))
+    → (function ≡ 4 → P (Clear from to))
+    → ((pass : Bool) → function ≡ 6 → P (WithEntries (Creates pass) from to 3 (entriesEnd 3 payload)))
+    → (function ≡ 7 → P (WithEntries (Names (nameOf payload) (maskOf payload)) from to 2 5))
+    → (function ≡ 64 → P (AddressList to))
+    → (function ≡ 128 → P (Parameter (parameterOf payload)))
+    → (function ≡ 130 → P Reset)
+    → (function ≡ 131 → P (PairParameter from to (parameterOf payload)))
+    → (function ≡ 133 → P (PairReset from to))
+    → P (commandOf function from to payload)
 unfolding commandOf
-by-function P function from to payload known request add delete clear create list parameter reset pair-parameter pair-reset =
+by-function P function from to payload known request add delete clear create name list parameter reset pair-parameter pair-reset =
     choose P (eqb function 0) (λ e. request (eqb-true function 0 e))
     (λ n0. choose P (eqb function 2) (λ e. add (eqb-true function 2 e))
     (λ n2. choose P (eqb function 3) (λ e. delete (eqb-true function 3 e))
     (λ n3. choose P (eqb function 4) (λ e. clear (eqb-true function 4 e))
     (λ n4. choose P (eqb function 6) (λ e. create _ (eqb-true function 6 e))
-    (λ n6. choose P (eqb function 64) (λ e. list (eqb-true function 64 e))
+    (λ n6. choose P (eqb function 7) (λ e. name (eqb-true function 7 e))
+    (λ n7. choose P (eqb function 64) (λ e. list (eqb-true function 64 e))
     (λ n64. choose P (eqb function 128) (λ e. parameter (eqb-true function 128 e))
     (λ n128. choose P (eqb function 130) (λ e. reset (eqb-true function 130 e))
     (λ n130. choose P (eqb function 131) (λ e. pair-parameter (eqb-true function 131 e))
-    (λ n131. pair-reset (last-known function known n0 n2 n3 n4 n6 n64 n128 n130 n131))))))))))
+    (λ n131. pair-reset (last-known function known n0 n2 n3 n4 n6 n7 n64 n128 n130 n131)))))))))))

@@ -6,11 +6,12 @@ use mathlib.Core.List.{List, [], _∷_}
 use Prim.Native.Nat.{ℕ, _+_, _-_, _/_, _%_}
 use lib.ListN.{length, getD, take, drop}
 use lib.Dec.{ltb, eqb}
+use Rattle.storage.specs.Bytes.{packed}
 use Rattle.entries.specs.Entries.{listed, every, entriesOf, whole, firstWrong}
 use Rattle.network_message.specs.declared.Command.{Command}
 use Rattle.network_message.specs.declared.judging.Judged.{Judged}
 use Rattle.network_message.specs.declared.Command.the-variants.{Refused, Request, WithEntries, Clear, AddressList, Parameter, Reset, PairParameter, PairReset}
-use Rattle.filter_commands.specs.declared.pairs.Change.the-variants.{Adds, Deletes, Creates}
+use Rattle.filter_commands.specs.declared.pairs.Change.the-variants.{Adds, Deletes, Creates, Names}
 use Rattle.checks.specs.Checks.{Check, check, first}
 use Rattle.checks.specs.Ports.{isPort}
 
@@ -36,18 +37,33 @@ toOf pair = pair % 16
 abbrev pub parameterOf : List ℕ → ℕ
 parameterOf payload = getD payload 2 0
 
+-- the bytes from `start` up to `end`, counted from 0
+abbrev pub between : ℕ → ℕ → List ℕ → List ℕ
+between start end payload = take (end - start) (drop start payload)
+
+-- "function 7 in 23 bytes: 7, pair byte, PGN, NAME, mask, and two of rate reduction, ignored; least significant byte first":
+-- bytes 3 to 5 are the PGN, 6 to 13 the NAME and 14 to 21 the mask; 22 and 23 are not read
+abbrev pub nameEntryLength : ℕ
+nameEntryLength = 23
+
+unfoldable pub nameOf : List ℕ → ℕ
+nameOf payload = packed (between 5 13 payload)
+
+unfoldable pub maskOf : List ℕ → ℕ
+maskOf payload = packed (between 13 21 payload)
+
 -- ---- 9: function not listed
--- 0 Request, 2 Add, 3 Delete, 4 Clear, 6 Create, 64 the address list; 128 the general request for a parameter, 130 the general reset,
+-- 0 Request, 2 Add, 3 Delete, 4 Clear, 6 Create, 7 Add by NAME, 64 the address list; 128 the general request for a parameter, 130 the general reset,
 -- 131 and 133 a pair's; "a reply sent to us gets 9": 129 and 132 are not listed
 unfoldable pub isKnown : ℕ → Bool
-isKnown function = listed function (0 ∷ 2 ∷ 3 ∷ 4 ∷ 6 ∷ 64 ∷ 128 ∷ 130 ∷ 131 ∷ 133 ∷ [])
+isKnown function = listed function (0 ∷ 2 ∷ 3 ∷ 4 ∷ 6 ∷ 7 ∷ 64 ∷ 128 ∷ 130 ∷ 131 ∷ 133 ∷ [])
 
 -- the general functions, of the unit as a whole
 unfoldable pub isGeneral : ℕ → Bool
 isGeneral function = listed function (128 ∷ 130 ∷ [])
 
 -- ---- 10: port outside 1 to the number of ports (and 15 as allowed), or From equals To
--- "To may be 15, all pairs from that port, in functions 2, 3, 4 and 6"
+-- "To may be 15, all pairs from that port, in functions 2, 3, 4 and 6"; in 7 "To 15 not allowed"
 abbrev pub allPorts : ℕ
 allPorts = 15
 
@@ -99,25 +115,27 @@ isFilling bytes = every (λ b. eqb b 0xFF) bytes
 unfoldable pub entriesEnd : ℕ → List ℕ → ℕ
 entriesEnd start payload = cond (eqb (length payload) 8 && isFilling (drop (start + 3) payload)) (start + 3) (length payload)
 
--- the bytes from `start` up to `end`
-abbrev pub between : ℕ → ℕ → List ℕ → List ℕ
-between start end payload = take (end - start) (drop start payload)
-
 unfoldable pub holdsEntries : ℕ → List ℕ → Bool
 holdsEntries start payload = whole (between start (entriesEnd start payload) payload)
 
--- the others are of 8 bytes
+-- Add by NAME is of 23 bytes, the others are of 8
 unfoldable pub hasGoodBody : ℕ → List ℕ → Bool
 hasGoodBody function payload =
-    cond (hasEntries function) (holdsEntries (entriesStart function) payload) (eqb (length payload) 8)
+    cond (hasEntries function) (holdsEntries (entriesStart function) payload)
+    (cond (eqb function 7) (eqb (length payload) nameEntryLength)
+    (eqb (length payload) 8))
 
 -- ---- 22: three bytes that aren't a PGN
 -- "the first such entry's number from 1", 0 where there is none
 unfoldable pub wrongIn : ℕ → List ℕ → ℕ
 wrongIn start payload = firstWrong (entriesOf (between start (entriesEnd start payload) payload))
 
+-- of Add by NAME its one PGN, in bytes 3 to 5
 unfoldable pub wrongEntry : ℕ → List ℕ → ℕ
-wrongEntry function payload = cond (hasEntries function) (wrongIn (entriesStart function) payload) 0
+wrongEntry function payload =
+    cond (hasEntries function) (wrongIn (entriesStart function) payload)
+    (cond (eqb function 7) (firstWrong (entriesOf (between 2 5 payload)))
+    0)
 
 -- ---- 13: Create mode, in byte 3, not 0 or 1
 unfoldable pub hasWrongMode : ℕ → List ℕ → Bool
@@ -145,11 +163,12 @@ commandOf function from to payload =
     (cond (eqb function 3) (WithEntries Deletes from to 2 (entriesEnd 2 payload))
     (cond (eqb function 4) (Clear from to)
     (cond (eqb function 6) (WithEntries (Creates (eqb (getD payload 2 0) 1)) from to 3 (entriesEnd 3 payload))
+    (cond (eqb function 7) (WithEntries (Names (nameOf payload) (maskOf payload)) from to 2 5)
     (cond (eqb function 64) (AddressList to)
     (cond (eqb function 128) (Parameter (parameterOf payload))
     (cond (eqb function 130) Reset
     (cond (eqb function 131) (PairParameter from to (parameterOf payload))
-    (PairReset from to)))))))))
+    (PairReset from to))))))))))
 
 -- what a payload is judged: the number that refuses it, and with 22 which entry
 unfoldable pub judged : ℕ → ℕ → ℕ → ℕ → ℕ → List ℕ → Judged

@@ -1,5 +1,6 @@
 // Judging a payload: the checks 9 to 13, 22 and 23, from the payload and the port alone.
 use crate::ADD;
+use crate::ADD_BY_NAME;
 use crate::ADDRESS_LIST;
 use crate::BUFFER_SIZE;
 use crate::CLEAR;
@@ -25,6 +26,9 @@ const ALL_PORTS: u32 = 15;
 
 const FILLING: u8 = 0xFF;
 
+// The bytes of an Add by NAME.
+const ADD_BY_NAME_LENGTH: usize = 23;
+
 // 9: whether a function is listed. An arm for each, since of neighbours in one arm a range is made that is tested apart.
 fn is_known(function: u8) -> bool
     ensures { λ r. ⌜ r ≡ isKnown function ⌝ }
@@ -35,6 +39,7 @@ fn is_known(function: u8) -> bool
         DELETE => true,
         CLEAR => true,
         CREATE => true,
+        ADD_BY_NAME => true,
         ADDRESS_LIST => true,
         PARAMETER => true,
         RESET => true,
@@ -190,6 +195,7 @@ fn has_good_body(function: u8, payload: &[u8]) -> bool
 {
     match function {
         ADD | DELETE | CREATE => holds_entries(entries_start(function), payload),
+        ADD_BY_NAME => payload.len() == ADD_BY_NAME_LENGTH,
         _ => payload.len() == 8,
     }
 }
@@ -210,6 +216,7 @@ fn wrong_entry(function: u8, payload: &[u8]) -> usize
 {
     match function {
         ADD | DELETE | CREATE => wrong_in(entries_start(function), payload),
+        ADD_BY_NAME => entries::first_wrong(&payload[crate::PGN_AT..crate::NAME_AT]),
         _ => 0,
     }
 }

@@ -4,9 +4,11 @@ mod judging;
 use filter_commands::pairs::Change;
 ghost use mathlib.Core.Path.{_≡_};
 ghost use Prim.Native.Nat.{_≤_};
-ghost use lib.ListN.{length};
+ghost use lib.ListN.{length, take, drop};
+ghost use Rattle.storage.specs.Bytes.{packed};
+ghost use Rattle.filter_commands.specs.declared.pairs.Change.the-variants.{Names};
 ghost use Rattle.network_message.specs.declared.Command.the-variants.{WithEntries};
-ghost use Rattle.network_message.specs.Decoding.{functionOf, fromOf, toOf, parameterOf, entriesStart, entriesEnd, wrongEntry, commandOf, decoded};
+ghost use Rattle.network_message.specs.Decoding.{functionOf, fromOf, toOf, parameterOf, nameOf, maskOf, entriesStart, entriesEnd, wrongEntry, commandOf, decoded};
 
 // The functions.
 pub const REQUEST: u8 = 0;
@@ -18,6 +20,8 @@ pub const DELETE: u8 = 3;
 pub const CLEAR: u8 = 4;
 
 pub const CREATE: u8 = 6;
+
+pub const ADD_BY_NAME: u8 = 7;
 
 pub const ADDRESS_LIST: u8 = 64;
 
@@ -38,8 +42,15 @@ pub const ENTRIES: u32 = 3;
 
 pub const LOST: u32 = 9;
 
+// Where an Add by NAME has its PGN, its NAME and its mask. The two bytes behind the mask are not read.
+const PGN_AT: usize = 2;
+
+const NAME_AT: usize = 5;
+
+const MASK_AT: usize = 13;
+
 // What a payload asks, or the number that refuses it, with 22 the first wrong entry's number from 1, else 0. A `to` of 15 is all pairs from that port.
-// Add, Delete and Create are a change with entries, the payload's bytes from `start` up to `end`.
+// Add, Delete, Create and Add by NAME are a change with entries, the payload's bytes from `start` up to `end`.
 pub enum Command {
     Refused {
         number: u32,
@@ -115,6 +126,31 @@ fn with_entries(change: Change, function: u8, from: u32, to: u32, payload: &[u8]
     }
 }
 
+// The number that the eight bytes from `at` on make, or those that are there.
+fn word_at(payload: &[u8], at: usize) -> u64
+    ensures { λ r. ⌜ r ≡ packed (take 8 (drop at (now (payload .entry)))) ⌝ }
+{
+    if payload.len() < at {
+        return 0;
+    }
+    storage::pack(&payload[at..])
+}
+
+// Add by NAME, with the NAME entry of a payload.
+fn add_by_name(from: u32, to: u32, payload: &[u8]) -> Command
+    ensures { λ r. ⌜ r ≡ WithEntries (Names (nameOf (now (payload .entry))) (maskOf (now (payload .entry)))) from to 2 5 ⌝ }
+{
+    let name = word_at(payload, NAME_AT);
+    let mask = word_at(payload, MASK_AT);
+    Command::WithEntries {
+        change: Change::Names { name, mask },
+        from,
+        to,
+        start: PGN_AT,
+        end: NAME_AT,
+    }
+}
+
 // The command of a payload that is not refused.
 fn command_of(function: u8, from: u32, to: u32, payload: &[u8]) -> Command
     requires { ⌜ 8 ≤ length (now payload) ⌝ }
@@ -132,6 +168,7 @@ fn command_of(function: u8, from: u32, to: u32, payload: &[u8]) -> Command
             to,
             payload,
         ),
+        ADD_BY_NAME => add_by_name(from, to, payload),
         ADDRESS_LIST => Command::AddressList { port: to },
         PARAMETER => Command::Parameter {
             parameter: parameter_of(payload),

@@ -1,6 +1,6 @@
 // The lists of the pairs.
-use filter::BLOCK_SIZE;
 use filter::Reason;
+use plan_shape::BLOCK_SIZE;
 use plan_shape::PAIRS;
 use plan_shape::PORTS;
 use plan_text::Wrong;
@@ -36,7 +36,7 @@ pub fn reason(listed: &[u64], unit: u32, from: u32, to: u32, pgn: u32) -> Reason
     if listed.len() < e {
         return Reason::NotAsked;
     }
-    let asked = filter::ask(&listed[a..e], pgn);
+    let asked = filter::ask_list(&listed[a..e], pgn);
     asked.reason
 }
 

@@ -11,11 +11,10 @@ use lib.ListN.{length, getD, take, drop, length-drop}
 use lib.Bits.{bitOr, or-add-and, and-le-l, and-le-r}
 use lib.Seq.{length-take-le, getD-take, getD-drop}
 use Rattle.storage.specs.Blocks.{blockAt}
-use Rattle.filter.specs.Filter.{blockSize}
 use lib.Dec.{leb}
 use Rattle.checks.proofs.Tests.{both}
 use Rattle.identifier.specs.Identifier.{isPgn}
-use Rattle.plan_shape.specs.Plan.{Plan, below, numbersInRange, inRange, pairInRange, blockOf, mostSegments, mostUnits, portCount, pairsOfUnit}
+use Rattle.plan_shape.specs.Plan.{Plan, below, numbersInRange, inRange, pairInRange, blockOf, planBlockSize, mostSegments, mostUnits, portCount, pairsOfUnit}
 use Rattle.plan_shape.specs.Steps.{FourPairs, Passing}
 
 -- ---- below n
@@ -53,40 +52,40 @@ abbrev pub inLists : List ℕ → ℕ → Bool
 inLists lists i = pairInRange (blockOf lists i)
 
 -- ---- the part that is lent for a pair
-pub part-block : (lists : List ℕ) (i : ℕ) → take (blockSize * i + blockSize - blockSize * i) (drop (blockSize * i) lists) ≡ blockOf lists i
+pub part-block : (lists : List ℕ) (i : ℕ) → take (planBlockSize * i + planBlockSize - planBlockSize * i) (drop (planBlockSize * i) lists) ≡ blockOf lists i
 unfolding blockAt
 part-block lists i =
-    let size : blockSize * i + blockSize - blockSize * i ≡ blockSize = omega arith in
-    let start : 0 + blockSize * i ≡ blockSize * i = omega arith in
+    let size : planBlockSize * i + planBlockSize - planBlockSize * i ≡ planBlockSize = omega arith in
+    let start : 0 + planBlockSize * i ≡ planBlockSize * i = omega arith in
     rw (size, start)
 
-pub part-long : (lists : List ℕ) (i : ℕ) → blockSize * i + blockSize ≤ length lists → length (take (blockSize * i + blockSize - blockSize * i) (drop (blockSize * i) lists)) ≡ blockSize
+pub part-long : (lists : List ℕ) (i : ℕ) → planBlockSize * i + planBlockSize ≤ length lists → length (take (planBlockSize * i + planBlockSize - planBlockSize * i) (drop (planBlockSize * i) lists)) ≡ planBlockSize
 part-long lists i h =
-    let size : blockSize * i + blockSize - blockSize * i ≡ blockSize = omega arith in
-    rw size (length-take-le blockSize (drop (blockSize * i) lists) (omega (arith, length-drop (blockSize * i) lists)))
+    let size : planBlockSize * i + planBlockSize - planBlockSize * i ≡ planBlockSize = omega arith in
+    rw size (length-take-le planBlockSize (drop (planBlockSize * i) lists) (omega (arith, length-drop (planBlockSize * i) lists)))
 
 -- ---- four pairs at a time
 -- a pair whose mode is 0 is in range
-pub cleared : (lists : List ℕ) (i : ℕ) → getD lists (blockSize * i + 0) 0 ≡ 0 → pairInRange (blockOf lists i) ≡ true
+pub cleared : (lists : List ℕ) (i : ℕ) → getD lists (planBlockSize * i + 0) 0 ≡ 0 → pairInRange (blockOf lists i) ≡ true
 unfolding pairInRange blockAt
 cleared lists i e =
-    let start : 0 + blockSize * i + 0 ≡ blockSize * i + 0 = omega arith in
-    let within : 0 < blockSize = omega arith in
+    let start : 0 + planBlockSize * i + 0 ≡ planBlockSize * i + 0 = omega arith in
+    let within : 0 < planBlockSize = omega arith in
     let mode : getD (blockOf lists i) 0 0 ≡ 0 = rw (getD-take, getD-drop, start) e in
     rw mode
 
 or-none : (a b : ℕ) → bitOr a b ≡ 0 → (a ≡ 0) × (b ≡ 0)
 or-none a b e = (omega (arith, or-add-and a b, and-le-r a b), omega (arith, or-add-and a b, and-le-l a b))
 
-pub four-cleared : (lists : List ℕ) (i n : ℕ) → i + 4 ≤ n → getD lists (blockSize * i + 0) 0 ≡ 0
-    → bitOr (bitOr (getD lists (blockSize * i + 0 + blockSize) 0) (getD lists (blockSize * i + 0 + 2 * blockSize) 0)) (getD lists (blockSize * i + 0 + 3 * blockSize) 0) ≡ 0 → FourPairs lists i n
+pub four-cleared : (lists : List ℕ) (i n : ℕ) → i + 4 ≤ n → getD lists (planBlockSize * i + 0) 0 ≡ 0
+    → bitOr (bitOr (getD lists (planBlockSize * i + 0 + planBlockSize) 0) (getD lists (planBlockSize * i + 0 + 2 * planBlockSize) 0)) (getD lists (planBlockSize * i + 0 + 3 * planBlockSize) 0) ≡ 0 → FourPairs lists i n
 four-cleared lists i n room first rest =
-    let one : blockSize * i + 0 + blockSize ≡ blockSize * (i + 1) + 0 = omega arith in
-    let two : blockSize * i + 0 + 2 * blockSize ≡ blockSize * (i + 2) + 0 = omega arith in
-    let three : blockSize * i + 0 + 3 * blockSize ≡ blockSize * (i + 3) + 0 = omega arith in
-    let second = getD lists (blockSize * i + 0 + blockSize) 0 in
-    let third = getD lists (blockSize * i + 0 + 2 * blockSize) 0 in
-    let three-none = or-none (bitOr second third) (getD lists (blockSize * i + 0 + 3 * blockSize) 0) rest in
+    let one : planBlockSize * i + 0 + planBlockSize ≡ planBlockSize * (i + 1) + 0 = omega arith in
+    let two : planBlockSize * i + 0 + 2 * planBlockSize ≡ planBlockSize * (i + 2) + 0 = omega arith in
+    let three : planBlockSize * i + 0 + 3 * planBlockSize ≡ planBlockSize * (i + 3) + 0 = omega arith in
+    let second = getD lists (planBlockSize * i + 0 + planBlockSize) 0 in
+    let third = getD lists (planBlockSize * i + 0 + 2 * planBlockSize) 0 in
+    let three-none = or-none (bitOr second third) (getD lists (planBlockSize * i + 0 + 3 * planBlockSize) 0) rest in
     let two-none = or-none second third (three-none .0) in
     record {
       room = room;

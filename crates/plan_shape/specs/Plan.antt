@@ -12,7 +12,7 @@ use Rattle.identifier.specs.Identifier.{isPgn}
 use Rattle.storage.specs.Blocks.{blockAt}
 use Rattle.entries.specs.Entries.{every}
 use Rattle.pgn_list.specs.PgnList.{listSize}
-use Rattle.filter.specs.Filter.{Filter, filterOf, permitted, modePlace, countPlace, listOf, blockSize}
+use Rattle.filter.specs.Filter.{Filter, filterOf, permitted, modePlace, countPlace, namesPlace}
 use Rattle.unit.specs.Model.{pairAt}
 use Rattle.unit.specs.Ports.{bitAt}
 
@@ -31,6 +31,10 @@ portCount = 8
 abbrev pub pairsOfUnit : ℕ
 pairsOfUnit = 56
 
+-- the words of a pair: the front of a record's block, mode, count and list. A plan has no NAME entries (proofs/Names.antt)
+abbrev pub planBlockSize : ℕ
+planBlockSize = namesPlace
+
 -- "each unit with its lists and the segment on each of eight ports, 0 if unused": eight words for each unit; a pair's block for each of its 56 pairs.
 -- How many segments there are is a number beside it, on which no path depends.
 pub record Plan : Type 0 where
@@ -46,7 +50,7 @@ abbrev pub portsLength : ℕ
 portsLength = portCount * mostUnits
 
 abbrev pub listsLength : ℕ
-listsLength = blockSize * (pairsOfUnit * mostUnits)
+listsLength = planBlockSize * (pairsOfUnit * mostUnits)
 
 -- the segment on a port of a unit
 abbrev pub segmentAt : Plan → ℕ → ℕ → ℕ
@@ -54,7 +58,7 @@ segmentAt plan unit port = getD (plan .ports) (portCount * unit + port) 0
 
 -- the words of a pair, by its place, and the filter of a unit's pair: a unit's pairs stand in order of From, then To
 abbrev pub blockOf : List ℕ → ℕ → List ℕ
-blockOf lists place = blockAt 0 blockSize place lists
+blockOf lists place = blockAt 0 planBlockSize place lists
 
 unfoldable pub pairOf : List ℕ → ℕ → ℕ → ℕ → Filter
 pairOf lists unit from to = filterOf (blockOf lists (pairsOfUnit * unit + pairAt portCount from to))

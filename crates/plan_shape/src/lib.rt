@@ -7,8 +7,8 @@ ghost use lib.ListN.{length, getD};
 ghost use lib.Dec.{leb, eqb};
 ghost use Rattle.identifier.specs.Identifier.{isPgn};
 ghost use Rattle.entries.specs.Entries.{every};
-ghost use Rattle.filter.specs.Filter.{blockSize, filterOf};
-ghost use Rattle.plan_shape.specs.Plan.{planOf, below, pairInRange, numbersInRange, inRange, blockOf, mostUnits, pairsOfUnit, portsLength, listsLength};
+ghost use Rattle.filter.specs.Filter.{filterOf};
+ghost use Rattle.plan_shape.specs.Plan.{planOf, below, pairInRange, numbersInRange, inRange, blockOf, mostUnits, pairsOfUnit, planBlockSize, portsLength, listsLength};
 ghost use Rattle.plan_shape.specs.Steps.{FourPairs, Passing};
 
 // "up to 16 segments and 16 units", "each of eight ports".
@@ -21,10 +21,13 @@ pub const PORTS: usize = 8;
 // The directed pairs of a unit.
 pub const PAIRS: usize = PORTS * (PORTS - 1);
 
+// The words of a pair: the front of a record's block, up to the NAME entries, which a plan leaves out.
+pub const BLOCK_SIZE: usize = filter::LIST_END;
+
 // The words of the segments on the ports, and of the lists.
 pub const PORTS_LENGTH: usize = PORTS * UNITS;
 
-pub const LISTS_LENGTH: usize = filter::BLOCK_SIZE * (PAIRS * UNITS);
+pub const LISTS_LENGTH: usize = BLOCK_SIZE * (PAIRS * UNITS);
 
 // The low byte of a number whose PF is below 240, which a PGN has at 0; 0 where PF is 240 and up.
 fn spare_byte(word: u64) -> u64
@@ -38,7 +41,7 @@ fn spare_byte(word: u64) -> u64
 
 // Whether every listed number of a pair is a PGN: together they have no bit from 18 on, and no spare byte. No branch for each, so that the compiler judges several at once.
 fn lists_pgns(block: &[u64]) -> bool
-    requires { ⌜ length (now block) ≡ blockSize ⌝ }
+    requires { ⌜ length (now block) ≡ planBlockSize ⌝ }
     ensures { λ r. ⌜ r ≡ every isPgn (filterOf (now (block .entry)) .entries) ⌝ }
 {
     let n = filter::count(block);
@@ -59,7 +62,7 @@ fn lists_pgns(block: &[u64]) -> bool
 
 // Whether a pair's numbers are in range.
 fn is_pair(block: &[u64]) -> bool
-    requires { ⌜ length (now block) ≡ blockSize ⌝ }
+    requires { ⌜ length (now block) ≡ planBlockSize ⌝ }
     ensures { λ r. ⌜ r ≡ pairInRange (now (block .entry)) ⌝ }
 {
     let mode = block[filter::MODE];
@@ -98,12 +101,12 @@ fn four_cleared(lists: &[u64], i: usize, n: usize) -> bool
     if n < i + 4 {
         return false;
     }
-    let at = filter::BLOCK_SIZE * i + filter::MODE;
+    let at = BLOCK_SIZE * i + filter::MODE;
     if lists[at] != filter::CLEARED {
         return false;
     }
-    let two = lists[at + filter::BLOCK_SIZE] | lists[at + 2 * filter::BLOCK_SIZE];
-    two | lists[at + 3 * filter::BLOCK_SIZE] == filter::CLEARED
+    let two = lists[at + BLOCK_SIZE] | lists[at + 2 * BLOCK_SIZE];
+    two | lists[at + 3 * BLOCK_SIZE] == filter::CLEARED
 }
 
 // A pair from `start` on before which all are cleared. Four at a time are passed over.
@@ -125,11 +128,11 @@ fn are_pairs(lists: &[u64], n: usize) -> bool
 {
     let mut i = past_cleared(lists, 0, n);
     while i < n {
-        let a = filter::BLOCK_SIZE * i;
+        let a = BLOCK_SIZE * i;
         if lists[a + filter::MODE] == filter::CLEARED {
             i = past_cleared(lists, i + 1, n);
         } else {
-            let e = a + filter::BLOCK_SIZE;
+            let e = a + BLOCK_SIZE;
             let good = is_pair(&lists[a..e]);
             if good {
                 i += 1;

@@ -2,6 +2,7 @@
 // so that a walk asks at most seven pairs of each. A link is a port of a unit; the links of a segment are chained before the walk, so that no other is looked at.
 // What is visited is marked before the walk goes on and unmarked after it, so that the marks are those of the way from the first segment: a unit that was
 // entered at a port where it stops a PGN may be entered again at another.
+use plan_shape::BLOCK_SIZE;
 use plan_shape::PAIRS;
 use plan_shape::PORTS;
 use plan_shape::PORTS_LENGTH;
@@ -32,9 +33,9 @@ fn permits(lists: &[u64], unit: usize, from: usize, to: usize, pgn: u32) -> bool
     ensures { λ r. ⌜ r ≡ permitted (pairOf (now (lists .entry)) unit from to) pgn ⌝ }
 {
     let i = pair_at(unit, from, to);
-    let a = filter::BLOCK_SIZE * i;
-    let e = a + filter::BLOCK_SIZE;
-    let asked = filter::ask(&lists[a..e], pgn);
+    let a = BLOCK_SIZE * i;
+    let e = a + BLOCK_SIZE;
+    let asked = filter::ask_list(&lists[a..e], pgn);
     let reason = asked.reason;
     reason.crosses()
 }

@@ -2,12 +2,13 @@
 use mathlib.Core.Path.{_≡_, refl, sym, ap, _∙_}
 use mathlib.Core.Logic.{_⊎_, inl, inr, ⊎-elim}
 use mathlib.Core.Bool.{Bool, true, false}
+use mathlib.Core.Option.{Option, none}
 use mathlib.Core.List.{List, []}
 use Prim.Native.Nat.{ℕ, _+_, _*_, _≤_, _<_}
 use native.Mathlib.Omega.{arith}
 use borrow.Author.Tests.{ltb-true, ltb-false}
 use lib.Dec.{ltb}
-use lib.ListN.{length, getD, set, take, drop, take-append-drop}
+use lib.ListN.{length, getD, set, take, drop, take-append-drop, List·getD-eq-default}
 use lib.Seq.{getD-take, getD-drop}
 use Rattle.storage.specs.Blocks.{blockAt}
 use Rattle.storage.proofs.Parts.{back, part-in, part-before, part-after, part-apart}
@@ -20,7 +21,8 @@ use Rattle.queue.specs.Queue.{rowOf, Queued, queueOf, idle, Joining, Taking}
 use Rattle.losses.specs.Losses.{counterLength, lossesOf}
 use Rattle.addresses.specs.declared.Place.{Place}
 use Rattle.address_claims.specs.declared.Event.{Event}
-use Rattle.addresses.specs.Table.{tableOf}
+use Rattle.addresses.specs.Table.{tableOf, nameIn, nameAt}
+use Rattle.addresses.proofs.Words.{table-length}
 use Rattle.unit.specs.Count.{pairCount}
 use Rattle.unit.specs.Model.{modelOf, tableFrom, rowsFrom, pairsFrom, lossesFrom, recordLength, pairAt, queueOn, rowAt, withQueue, withRest, withPairs, withTable, withLosses}
 use Rattle.filter_commands.specs.Changes.{Changing}
@@ -110,10 +112,23 @@ apart n k ne = go (ltb n k) refl
     go true e = inl (ltb-true n k e)
     go false e = inr (omega (arith, ltb-false n k e, ne))
 
-pub pair-asked : (ports : ℕ) (words : List ℕ) (p q pgn i : ℕ) (r : Asked) → i ≡ pairAt ports p q → i < pairCount ports → Asking (take filterLength (drop (pairsFrom ports + filterLength * i) words)) pgn r
-    → PairAsking ports words p q pgn r
+-- the first word of a part
+pub first-word : (words : List ℕ) (a k : ℕ) → 0 < k → getD (take k (drop a words)) 0 0 ≡ getD words a 0
+first-word words a k h =
+    let here : a + 0 ≡ a = omega arith in
+    getD-take k (drop a words) 0 0 h ∙ getD-drop a words 0 0 ∙ ap (λ n. getD words n 0) here
+
+-- an address past the table has no NAME
+pub name-past : (ports : ℕ) (words : List ℕ) (address : ℕ) → 254 ≤ address → none ≡ nameAt (modelOf ports words .rest .table) address
+unfolding nameAt nameIn modelOf
+name-past ports words address h =
+    let past = List·getD-eq-default (tableOf (take tableLength (drop tableFrom words))) Place.Free {n = address} (omega (arith, table-length (take tableLength (drop tableFrom words)))) in
+    rw past
+
+pub pair-asked : (ports : ℕ) (words : List ℕ) (p q pgn i : ℕ) (sender : Option ℕ) (r : Asked) → i ≡ pairAt ports p q → i < pairCount ports → Asking (take filterLength (drop (pairsFrom ports + filterLength * i) words)) pgn sender r
+    → PairAsking ports words p q pgn sender r
 unfolding modelOf blockAt
-pair-asked ports words p q pgn i r e h A = record {
+pair-asked ports words p q pgn i sender r e h A = record {
   answer = rw (← e, blocks-at filterOf filterLength (pairsFrom ports) (pairCount ports) words i clear h) (A .answer);
   small = A .small;
 }

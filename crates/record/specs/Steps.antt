@@ -5,11 +5,13 @@ use mathlib.Core.Bool.{Bool, false}
 use mathlib.Core.Logic.{_⊎_}
 use mathlib.Core.Path.{_≡_}
 use mathlib.Core.List.{List}
+use mathlib.Core.Option.{Option}
 use lib.ListN.{take, drop, getD, set}
 use Rattle.delivery.specs.Row.{room, pull, given}
 use Rattle.filter.specs.declared.Asked.{Asked}
 use Rattle.filter.specs.Filter.{Filter, clear, asked, blockSize as filterLength}
 use Rattle.pgn_list.specs.PgnList.{listSize}
+use Rattle.name_entries.specs.NameEntries.{mostNames}
 use Rattle.queue.specs.declared.Frame.{Frame}
 use Rattle.queue.specs.declared.Taken.{Taken}
 use Rattle.queue.specs.Queue.{size, priority, takenOf, joined, taking, blockLength as queueLength}
@@ -25,10 +27,10 @@ pub record TableClaiming (ports : ℕ) (before after : List ℕ) (change : List 
   pub state : modelOf ports after ≡ withRest (modelOf ports before) (withTable (modelOf ports before .rest) (change (modelOf ports before .rest .table)))
   pub event : r ≡ came (modelOf ports before .rest .table)
 
--- a pair was asked
-pub record PairAsking (ports : ℕ) (words : List ℕ) (p q pgn : ℕ) (r : Asked) : Type 0 where
-  pub answer : r ≡ asked (getD (modelOf ports words .rest .pairs) (pairAt ports p q) clear) pgn
-  pub small : r .compared ≤ listSize
+-- a pair was asked about a PGN and a sender's NAME
+pub record PairAsking (ports : ℕ) (words : List ℕ) (p q pgn : ℕ) (sender : Option ℕ) (r : Asked) : Type 0 where
+  pub answer : r ≡ asked (getD (modelOf ports words .rest .pairs) (pairAt ports p q) clear) pgn sender
+  pub small : r .compared ≤ listSize + mostNames
 
 -- a pair was changed in the record, and no word outside its block
 pub record PairChanging (ports : ℕ) (before after : List ℕ) (i : ℕ) (change : Filter → Filter) : Type 0 where

@@ -4,18 +4,23 @@ use addresses::Place;
 use filter::Asked;
 use filter_commands::pairs::Change;
 use filter_commands::pairs::Question;
+use name_entries::Sender;
 use queue::Frame;
 use queue::Taken;
 use queue::Tally;
 use unit::Unit;
 ghost use mathlib.Core.Path.{_≡_};
+ghost use mathlib.Core.Option.{Option};
 ghost use Prim.Native.Nat.{ℕ, _+_, _-_, _*_, _≤_, _<_};
 ghost use lib.ListN.{length, getD, set};
+ghost use lib.Dec.{leb};
+ghost use Rattle.addresses.specs.Table.{nameAt};
 ghost use Rattle.address_claims.specs.Claims.{claimed, claimEvent, withdrawn, withdrawEvent, othersDropped, settled};
 ghost use Rattle.filter.specs.Filter.{clear, blockSize as filterLength};
 ghost use Rattle.entries.specs.Entries.{listed, entriesOf};
 ghost use Rattle.network_message.specs.Decoding.{longest};
 ghost use Rattle.pgn_list.specs.PgnList.{listSize};
+ghost use Rattle.name_entries.specs.NameEntries.{mostNames, senderOf};
 ghost use Rattle.queue.specs.Queue.{blockLength as queueLength};
 ghost use Rattle.losses.specs.Losses.{most, oneMore, counterLength};
 ghost use Rattle.replies.specs.Replies.{listReply, addressReply, Writing};
@@ -78,23 +83,52 @@ pub fn filters_from(ports: usize, from: usize) -> usize
     filter_at(ports, i)
 }
 
-// Whether the pair whose filter begins at a word permits a PGN.
-pub fn ask_filter(words: &[u64], a: usize, pgn: u32) -> Asked
+// Whether the pair whose filter begins at a word may have NAME entries.
+pub fn has_names(words: &[u64], a: usize) -> bool
     requires { ⌜ a + filterLength ≤ length (now words) ⌝ }
-    ensures { λ r. ⌜ ((ports p q : ℕ) → pairAt ports p q < pairCount ports → a ≡ pairsFrom ports + filterLength * pairAt ports p q → PairAsking ports (now (words .entry)) p q pgn r) ⌝ }
+    ensures { λ r. ⌜ r ≡ leb 3 (getD (now (words .entry)) a 0) ⌝ }
 {
     let e = a + filter::BLOCK_SIZE;
-    filter::ask(&words[a..e], pgn)
+    filter::has_names(&words[a..e])
 }
 
-// Whether the pair from one port to another does.
-pub fn ask_pair(words: &[u64], ports: usize, from: usize, to: usize, pgn: u32) -> Asked
+// Asks the pair whose filter begins at a word, which has none, about a PGN: whoever sent it.
+pub fn ask_listed(words: &[u64], a: usize, pgn: u32) -> Asked
+    requires { ⌜ (a + filterLength ≤ length (now words)) × (getD (now words) a 0 < 3) ⌝ }
+    ensures { λ r. ⌜ ((ports p q : ℕ) (sender : Option ℕ) → pairAt ports p q < pairCount ports → a ≡ pairsFrom ports + filterLength * pairAt ports p q → PairAsking ports (now (words .entry)) p q pgn sender r) × (r .compared ≤ listSize) ⌝ }
+{
+    let e = a + filter::BLOCK_SIZE;
+    filter::ask_list(&words[a..e], pgn)
+}
+
+// Asks the pair whose filter begins at a word about a PGN from an address. The sender's NAME is looked up where the pair may have NAME entries.
+pub fn ask_filter(words: &[u64], a: usize, pgn: u32, address: u32) -> Asked
+    requires { ⌜ (rowsFrom ≤ length (now words)) × (a + filterLength ≤ length (now words)) ⌝ }
+    ensures { λ r. ⌜ ((ports p q : ℕ) → pairAt ports p q < pairCount ports → a ≡ pairsFrom ports + filterLength * pairAt ports p q → PairAsking ports (now (words .entry)) p q pgn (nameAt (modelOf ports (now (words .entry)) .rest .table) address) r) × (r .compared ≤ listSize + mostNames) ⌝ }
+{
+    if has_names(words, a) {
+        let from = sender(words, address);
+        let e = a + filter::BLOCK_SIZE;
+        return filter::ask_named(&words[a..e], pgn, from);
+    }
+    ask_listed(words, a, pgn)
+}
+
+// Asks the pair from one port to another.
+pub fn ask_pair(
+    words: &[u64],
+    ports: usize,
+    from: usize,
+    to: usize,
+    pgn: u32,
+    address: u32,
+) -> Asked
     requires { ⌜ (ports ≤ 8) × (length (now words) ≡ recordLength ports) × (from < ports) × (to < ports) × (from ≡ to → ⊥) ⌝ }
-    ensures { λ r. ⌜ PairAsking ports (now (words .entry)) from to pgn r ⌝ }
+    ensures { λ r. ⌜ PairAsking ports (now (words .entry)) from to pgn (nameAt (modelOf ports (now (words .entry)) .rest .table) address) r ⌝ }
 {
     let i = pair_at(ports, from, to);
     let a = filter_at(ports, i);
-    ask_filter(words, a, pgn)
+    ask_filter(words, a, pgn, address)
 }
 
 // Whether the list of pair i holds a PGN.
@@ -215,6 +249,20 @@ pub fn holder(words: &[u64], address: usize) -> Place
     let a = Unit::TABLE_AT;
     let e = Unit::QUEUES_AT;
     addresses::holder(&words[a..e], address)
+}
+
+// The NAME that the table gives a sender's address.
+fn sender(words: &[u64], address: u32) -> Sender
+    requires { ⌜ rowsFrom ≤ length (now words) ⌝ }
+    ensures { λ r. ⌜ ((ports : ℕ) → senderOf r ≡ nameAt (modelOf ports (now (words .entry)) .rest .table) address) ⌝ }
+{
+    if 253 < address {
+        return Sender::Unknown;
+    }
+    match holder(words, address as usize) {
+        Place::Free => Sender::Unknown,
+        Place::Held { port: _, name } => Sender::Known(name),
+    }
 }
 
 // An address becomes free.

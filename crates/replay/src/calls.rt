@@ -14,6 +14,8 @@ use std::num::wrapping_add_u64;
 use unit::Unit;
 ghost use Prim.Native.Nat.{_≤_, _<_};
 ghost use lib.ListN.{length};
+ghost use mathlib.Core.Path.{_≡_};
+ghost use Rattle.unit.specs.Model.{recordLength};
 
 // The words of a run: what is counted, then the record, with room for that of the largest unit, one of eight ports.
 pub const STATE_WORDS: usize = tally::LENGTH
@@ -29,6 +31,16 @@ const MOST_TOLD: usize = COUNTS_WORDS;
 const FRAME_BYTES: usize = 8;
 
 const REPLY_BYTES: usize = 1785;
+
+// Add by NAME, and the length of its payload.
+const ADD_BY_NAME: u8 = 7;
+
+const NAME_BYTES: usize = 23;
+
+// The reasons of a frame that counts as listed.
+const LISTED_IN_PASS: u64 = 3;
+
+const STOPPED_AS_LISTED: u64 = 5;
 
 // ---- the call
 // Power-on.
@@ -265,6 +277,50 @@ fn tell_message(
     wrong_entry(out, next, number, told)
 }
 
+fn wide(byte: u8) -> u64 {
+    byte as u64
+}
+
+// The pair and the entry of an Add by NAME.
+fn tell_entry(out: &mut [u8], at: usize, payload: &[u8]) -> usize
+    requires { ⌜ at ≤ length (now out) ⌝ }
+    ensures { λ r. ⌜ r ≤ length (now (out .entry)) ⌝ }
+{
+    if payload.len() != NAME_BYTES {
+        return at;
+    }
+    if payload[0] != ADD_BY_NAME {
+        return at;
+    }
+    let pair = wide(payload[1]);
+    let told = [
+        pair / 16,
+        pair % 16,
+        storage::pack(&payload[2..5]),
+        storage::pack(&payload[5..13]),
+        storage::pack(&payload[13..21]),
+    ];
+    form::fill(
+        out,
+        at,
+        b"  pair %d0 to %d1: PGN %d2, NAME %X3, mask %X4",
+        &told,
+    )
+}
+
+// The same of a line's message, where it was done.
+fn name_entry(out: &mut [u8], at: usize, line: &[u8], number: u32) -> usize
+    requires { ⌜ at ≤ length (now out) ⌝ }
+    ensures { λ r. ⌜ r ≤ length (now (out .entry)) ⌝ }
+{
+    if number != 0 {
+        return at;
+    }
+    let mut space = [0u8; 2048];
+    let n = script::read_bytes(line, &mut space);
+    tell_entry(out, at, &space[0..n])
+}
+
 // A call that was done, behind its letter.
 fn tell_done(
     out: &mut [u8],
@@ -310,6 +366,88 @@ fn tell(
     tell_done(out, next, letter, told, bytes, ports)
 }
 
+// ---- who lists a frame
+// 1 where a frame counts as listed at a port, both counted from 0, and the pair's list has not its PGN, so that a NAME entry lists it; else 0.
+fn named_bit(words: &[u64], ports: usize, from: usize, to: usize, pgn: u32, reason: u64) -> u64
+    requires { ⌜ (ports ≤ 8) × (length (now words) ≡ recordLength ports) ⌝ }
+{
+    if reason != LISTED_IN_PASS && reason != STOPPED_AS_LISTED {
+        return 0;
+    }
+    if from == to || ports <= from || ports <= to {
+        return 0;
+    }
+    let i = record::pair_at(ports, from, to);
+    if record::lists(words, ports, i, pgn as u64) {
+        return 0;
+    }
+    1
+}
+
+// The ports where a NAME entry lists a frame, as a mask.
+fn named(words: &[u64], ports: usize, from: usize, pgn: u32, reasons: u64) -> u64
+    requires { ⌜ (ports ≤ 8) × (length (now words) ≡ recordLength ports) ⌝ }
+{
+    let mut mask = 0;
+    let mut left = ports as u32;
+    while 0 < left {
+        left -= 1;
+        mask = (mask << 1)
+            | named_bit(
+                words,
+                ports,
+                from,
+                left as usize,
+                pgn,
+                (reasons >> (4 * left)) % 16,
+            );
+    }
+    mask
+}
+
+// The same on that part of the state which is the record.
+fn named_on_record(state: &[u64], ports: usize, from: usize, pgn: u32, reasons: u64) -> u64
+    requires { ⌜ (2 ≤ ports) × (ports ≤ 8) ⌝ }
+{
+    let n = Unit::record_length(ports);
+    if state.len() < tally::LENGTH {
+        return 0;
+    }
+    if state.len() - tally::LENGTH < n {
+        return 0;
+    }
+    let end = tally::LENGTH + n;
+    named(&state[tally::LENGTH..end], ports, from, pgn, reasons)
+}
+
+// The ports where a NAME entry lists a line's frame; nothing where there are none.
+fn tell_named(
+    state: &[u64],
+    line: &[u8],
+    number: u32,
+    reasons: u64,
+    ports: usize,
+    out: &mut [u8],
+    at: usize,
+) -> usize
+    requires { ⌜ (2 ≤ ports) × (ports ≤ 8) × (at ≤ length (now out)) ⌝ }
+    ensures { λ r. ⌜ r ≤ length (now (out .entry)) ⌝ }
+{
+    let port = script::decimal_at(line, 1);
+    if number != 0 {
+        return at;
+    }
+    if port == 0 {
+        return at;
+    }
+    let pgn = identifier::pgn(script::identifier(line));
+    let told = [named_on_record(state, ports, port as usize - 1, pgn, reasons)];
+    if told[0] == 0 {
+        return at;
+    }
+    form::fill(out, at, b"  by NAME: %p0", &told)
+}
+
 // ---- all of it
 // A line that is no call, or a call without a unit: its number and why.
 fn no_call(counts: &mut [u64], why: u64, out: &mut [u8], at: usize) -> usize
@@ -319,6 +457,27 @@ fn no_call(counts: &mut [u64], why: u64, out: &mut [u8], at: usize) -> usize
     tally::no_call(counts);
     let told = [tally::get(counts, tally::LINES), why];
     form::fill(out, at, b"? line %d0: %w1", &told)
+}
+
+// What a line goes on with behind its answer: where a NAME entry listed a frame, or the NAME entry that was added.
+fn tell_names(
+    state: &[u64],
+    line: &[u8],
+    letter: u8,
+    number: u32,
+    reasons: u64,
+    ports: usize,
+    out: &mut [u8],
+    at: usize,
+) -> usize
+    requires { ⌜ (2 ≤ ports) × (ports ≤ 8) × (at ≤ length (now out)) ⌝ }
+    ensures { λ r. ⌜ r ≤ length (now (out .entry)) ⌝ }
+{
+    match letter {
+        b'M' => name_entry(out, at, line, number),
+        b'F' => tell_named(state, line, number, reasons, ports, out, at),
+        _ => at,
+    }
 }
 
 // The answer to a line that is a call.
@@ -332,7 +491,8 @@ fn made(state: &mut [u64], line: &[u8], letter: u8, out: &mut [u8], at: usize) -
     let number = make_on_record(state, ports, line, letter, &mut told, &mut bytes);
     tally::unit(state, ports);
     count(state, letter, number, &told, ports);
-    tell(out, at, letter, number, &told, &bytes, ports)
+    let next = tell(out, at, letter, number, &told, &bytes, ports);
+    tell_names(state, line, letter, number, told[7], ports, out, next)
 }
 
 // Why a line is no call here: before the first power-on there is no unit to call.

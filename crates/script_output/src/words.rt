@@ -28,7 +28,7 @@ pub fn refusal(out: &mut [u8], at: usize, number: u64) -> usize
           Create mode not 0 or 1|\
           Create: a named pair not cleared|\
           Add, Delete: a named pair cleared|\
-          a named pair would pass 32 PGNs|\
+          a named pair would pass 32 PGNs or 8 NAME entries|\
           Delete: a PGN absent from a named pair|\
           Start not in Unstarted, Quiet not in Claiming||||\
           an entry is no PGN|\

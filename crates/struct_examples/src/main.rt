@@ -186,7 +186,7 @@ fn refused(lists: &[u64]) {
     ask(lists, b"ring", link(2, 3, 1), 1, 65097);
     ask(lists, b"two ports on 3", link(2, 3, 3), 1, 65097);
     ask(lists, b"ring, 61185 asked", link(2, 3, 1), 1, 61185);
-    let short = [0u64; filter::BLOCK_SIZE];
+    let short = [0u64; plan_shape::BLOCK_SIZE];
     ask(&short, b"lists of 34 words", link(2, 3, 4), 1, 65097);
 }
 

@@ -11,6 +11,8 @@ use reference::generate::{generate, storms, Random};
 use reference::layout::*;
 use reference::linked::*;
 use reference::message::LONGEST_MESSAGE;
+use reference::names::NameEntry;
+use reference::pair::Pair;
 use reference::script::{print_answer, write_call, Answer, Call};
 use reference::unit::{FrameAnswer, Unit, USUAL_PORTS};
 
@@ -118,6 +120,9 @@ impl Both {
         if !self.in_storm && self.random.once_in(500) {
             self.change_losses();
         }
+        if self.random.once_in(500) {
+            self.reword_pairs();
+        }
         let before = self.reference.clone();
         let words = self.record.contents().to_vec();
         let answer = match call {
@@ -132,10 +137,10 @@ impl Both {
         };
         let after = self.record.contents();
         if answer.number() != 0 && answer.number() != 27 && after != words {
-            return Err(format!("{}: the record changed", print_answer(&answer)));
+            return Err(format!("{}: the record changed", print_answer(call, &answer)));
         }
         if let Some(difference) = difference(after, &self.reference) {
-            return Err(format!("{}: {difference}", print_answer(&answer)));
+            return Err(format!("{}: {difference}", print_answer(call, &answer)));
         }
         check(self.record.guards_hold(), "a guard of the record changed")?;
         check(self.has_lost_counts || self.reference.counts_hold(), "the reference's counts are no recount")?;
@@ -212,6 +217,19 @@ impl Both {
         let words = loss_words(losses);
         self.record.contents()[losses_at(self.reference.ports as usize)..][..words.len()].copy_from_slice(&words);
         self.count("records whose counters of losses were made any words");
+    }
+
+    /// The words of some pairs are others that mean the same: any above pass with NAME entries, with none of them too, counts above their size, and any words where they
+    /// mean nothing.
+    fn reword_pairs(&mut self) {
+        let (ports, unit) = (self.reference.ports as usize, &self.reference);
+        let blocks = self.record.contents()[pairs_at(ports)..losses_at(ports)].chunks_mut(PAIR_WORDS);
+        for ((block, pair), names) in blocks.zip(unit.pairs.values()).zip(unit.names.values()) {
+            if self.random.once_in(2) {
+                reword(&mut self.random, block, pair, names);
+            }
+        }
+        self.count("records whose pairs were made other words of the same meaning");
     }
 
     fn start(&mut self) -> Result<Answer, String> {
@@ -449,6 +467,29 @@ fn frame_words(answer: &FrameAnswer) -> Vec<u64> {
     let (consumed, compared) = (u64::from(answer.consumed), answer.compared as u64);
     let [accepted, lost, own_lost] = [&answer.accepted, &answer.lost, &answer.own_lost].map(|ports| mask(ports));
     vec![consumed, accepted, lost, event, old_name, own_lost, compared, answer.reason_word()]
+}
+
+/// Words of a pair that mean what it is. The pairs are in the order of the record.
+fn reword(random: &mut Random, block: &mut [u64], pair: &Pair, names: &[NameEntry]) {
+    let (any, above) = (random.number(), random.pick(&[PASS_NAMED, 5, 1 << 32, u64::MAX - 1, u64::MAX]));
+    let is_named = !names.is_empty() || random.once_in(4);
+    block.fill_with(|| random.number() >> random.below(64));
+    block[0] = match (pair, is_named) {
+        (Pair::Cleared, _) => return block[0] = 0,
+        (Pair::Block(_), false) => BLOCK,
+        (Pair::Block(_), true) => BLOCK_NAMED,
+        (Pair::Pass(_), false) => PASS,
+        (Pair::Pass(_), true) => above,
+    };
+    let size = |count: usize, size: usize| if count == size { any.max(size as u64) } else { count as u64 };
+    block[1] = size(pair.entries().len(), LIST);
+    block[2..].iter_mut().zip(pair.entries()).for_each(|(word, &pgn)| *word = pgn.into());
+    if is_named {
+        block[NAMES_AT] = size(names.len(), NAMES);
+        for (words, entry) in block[NAMES_AT + 1..].chunks_mut(NAME_WORDS).zip(names) {
+            words.copy_from_slice(&[entry.pgn.into(), entry.name, entry.mask]);
+        }
+    }
 }
 
 /// The address is 254 for none.

@@ -6,7 +6,7 @@ use native.Mathlib.Nat.{zero-add}
 use native.Mathlib.Omega.{arith}
 use lib.ListN.{length}
 use Rattle.filter.specs.Filter.{listOf, blockSize}
-use Rattle.filter.proofs.Meaning.{list-long, list-at}
+use Rattle.filter.proofs.Meaning.{list-whole, list-at}
 use Rattle.pgn_list.specs.PgnList.{listSize}
 use Rattle.storage.proofs.Copy.{Copied, copied-none, copied-one, copied-all}
 use Rattle.filter_commands.proofs.copied.Statement.{statement}
@@ -19,7 +19,7 @@ abbrev μ-loop : tie.MeasureT-loop
 μ-loop block list₀ i₀ list i = listSize - i
 
 fits : (words : List ℕ) → length words ≡ blockSize → 0 + length (listOf words) ≡ listSize
-fits words long = omega (arith, list-long words long)
+fits words long = omega (arith, list-whole words long)
 
 loop-holds : tie.Need-loop-holds Inv-loop μ-loop
 loop-holds c = copied-none
@@ -50,13 +50,13 @@ loop-again c =
     let at = c .before .before in
     let words = at .before .args .block .now in
     let i = at .loop .i in
-    let k = copied-one (fits words (at .before .pre)) (at .loop .inv) (omega (arith, list-long words (at .before .pre))) in
+    let k = copied-one (fits words (at .before .pre)) (at .loop .inv) (omega (arith, list-whole words (at .before .pre))) in
     rw (list-at words i (omega arith), zero-add i) at k
 
 returns : tie.Need-returns Inv-loop μ-loop
 returns c =
     let words = c .before .before .args .block .now in
-    copied-all (fits words (c .before .before .pre)) (c .before .loop .inv) (omega (arith, list-long words (c .before .before .pre)))
+    copied-all (fits words (c .before .before .pre)) (c .before .loop .inv) (omega (arith, list-whole words (c .before .before .pre)))
 
 pub copied-spec : {M : Type 1} → statement M
 copied-spec =

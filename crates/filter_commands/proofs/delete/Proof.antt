@@ -1,7 +1,7 @@
 -- `filter_commands::delete` meets its contract: refused on a cleared pair and where an entry is absent, else the list closes up. Assumes nothing.
 use mathlib.Core.Path.{sym, _∙_}
 use Rattle.entries.specs.Entries.{entriesOf}
-use Rattle.filter.proofs.Meaning.{list-long}
+use Rattle.filter.proofs.Meaning.{list-whole}
 use Rattle.filter_commands.proofs.Commands.{only-one, delete-cleared, delete-lacking, delete-done}
 use borrow.Author.Needs.{needs}
 use Rattle.filter_commands.proofs.delete.Statement.{statement}
@@ -82,7 +82,7 @@ returns-4 c =
     let else1 = at-count .before .before in
     let cleared = else1 .before in
     let start = cleared .before .before .before .before in
-    delete-done _ _ (start .pre) (sym (cleared .is-cleared .ensures) ∙ else1 .if1 .left) (sym (at-lacks .lacks .ensures) ∙ else3 .if3 .left) (at-count .count .ensures) (at-keep .keep-others .kept .0 ∙ list-long (start .args .block .now) (start .pre)) (at-keep .keep-others .ensures)
+    delete-done _ _ (start .pre) (sym (cleared .is-cleared .ensures) ∙ else1 .if1 .left) (sym (at-lacks .lacks .ensures) ∙ else3 .if3 .left) (at-count .count .ensures) (at-keep .keep-others .kept .0 ∙ list-whole (start .args .block .now) (start .pre)) (at-keep .keep-others .ensures)
 
 pub delete-spec : {M : Type 1} → statement M
 delete-spec =

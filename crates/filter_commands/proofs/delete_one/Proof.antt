@@ -1,6 +1,6 @@
 -- `filter_commands::delete_one` meets its contract: refused where the search finds nothing, else the list closes up. Assumes nothing.
 use mathlib.Core.Path.{_∙_}
-use Rattle.filter.proofs.Meaning.{list-long}
+use Rattle.filter.proofs.Meaning.{list-whole}
 use Rattle.filter_commands.proofs.Commands.{one-absent, one-listed, delete-lacking, delete-done}
 use borrow.Author.Needs.{needs}
 use Rattle.filter_commands.proofs.delete_one.Statement.{statement}
@@ -52,7 +52,7 @@ returns-2 c =
     let at-find = else1 .before in
     let start = at-find .before .before .before .before in
     let pre = start .pre in
-    delete-done _ _ (pre .0) (pre .2) (one-listed (pre .0) (pre .1) (at-find .find .ensures) (else1 .if1 .left)) (pre .1) (at-close .close-up .kept .0 ∙ list-long (start .args .block .now) (pre .0)) (at-close .close-up .ensures)
+    delete-done _ _ (pre .0) (pre .2) (one-listed (pre .0) (pre .1) (at-find .find .ensures) (else1 .if1 .left)) (pre .1) (at-close .close-up .kept .0 ∙ list-whole (start .args .block .now) (pre .0)) (at-close .close-up .ensures)
 
 pub delete-one-spec : {M : Type 1} → statement M
 delete-one-spec =

@@ -1,7 +1,7 @@
 -- `filter_commands::grow` meets its contract: in place where the entries are few, else by a copy that is stored if it holds them. Assumes nothing.
 use mathlib.Core.Path.{_∙_}
 use native.Mathlib.Omega.{arith}
-use Rattle.filter.proofs.Meaning.{list-long}
+use Rattle.filter.proofs.Meaning.{list-whole}
 use Rattle.filter_commands.proofs.Commands.{grow-part, grow-over, grow-put}
 use borrow.Author.Needs.{needs}
 use Rattle.filter_commands.proofs.grow.Statement.{statement}
@@ -34,7 +34,7 @@ same-length c = search needs
 returns : tie.Need-returns
 returns c =
     let start = c .before .before .before .before .before .before .before .before in
-    grow-part (start .pre .0) (start .pre .1) (omega arith) (c .before .before .extend .kept .0 ∙ list-long (start .args .block .now) (start .pre .0)) (c .before .before .extend .ensures)
+    grow-part (start .pre .0) (start .pre .1) (omega arith) (c .before .before .extend .kept .0 ∙ list-whole (start .args .block .now) (start .pre .0)) (c .before .before .extend .ensures)
 
 copied-requires : tie.Need-copied-requires
 copied-requires c κs = search needs
@@ -78,7 +78,7 @@ returns-3 : tie.Need-returns-3
 returns-3 c =
     let if2 = c .before .before .before .before .before in
     let start = if2 .before .before .before .before .before .before .before .before .before .before in
-    grow-put (start .pre .0) (start .pre .1) (if2 .before .before .before .before .copied .ensures) (if2 .before .before .extend2 .ensures) (c .before .before .put .ensures) (c .before .before .put .kept .0 ∙ list-long (start .args .block .now) (start .pre .0)) (if2 .if2 .left)
+    grow-put (start .pre .0) (start .pre .1) (if2 .before .before .before .before .copied .ensures) (if2 .before .before .extend2 .ensures) (c .before .before .put .ensures) (c .before .before .put .kept .0 ∙ list-whole (start .args .block .now) (start .pre .0)) (if2 .if2 .left)
 
 pub grow-spec : {M : Type 1} → statement M
 grow-spec =

@@ -1,7 +1,7 @@
 -- `filter_commands::grow_by_one` meets its contract: the list with the entry, or as it was where it does not hold it. Assumes nothing.
 use mathlib.Core.Path.{refl, _∙_}
 use native.Mathlib.Omega.{arith}
-use Rattle.filter.proofs.Meaning.{list-long}
+use Rattle.filter.proofs.Meaning.{list-whole}
 use Rattle.filter_commands.proofs.Commands.{grow-not, grow-put}
 use borrow.Author.Needs.{needs}
 use Rattle.filter_commands.proofs.grow_by_one.Statement.{statement}
@@ -39,7 +39,7 @@ returns-2 : tie.Need-returns-2
 returns-2 c =
     let extended = c .before .before .before in
     let start = extended .before .before .before in
-    grow-put (start .pre .0) (start .pre .1) refl (extended .extend-by-one .ensures .0) refl (extended .extend-by-one .kept .0 ∙ list-long (start .args .block .now) (start .pre .0)) (c .if1 .left)
+    grow-put (start .pre .0) (start .pre .1) refl (extended .extend-by-one .ensures .0) refl (extended .extend-by-one .kept .0 ∙ list-whole (start .args .block .now) (start .pre .0)) (c .if1 .left)
 
 pub grow-by-one-spec : {M : Type 1} → statement M
 grow-by-one-spec =

@@ -1,5 +1,6 @@
 -- `forwarding::forward` meets its contract: what was lost on the way is counted, where there is any. Assumes nothing.
 use native.Mathlib.Omega.{arith}
+use Rattle.identifier.specs.Identifier.{saOf}
 use Rattle.forwarding.proofs.Sends.{verdict-home}
 use Rattle.forwarding.proofs.Loop.{lost-home, forwarded-none, forwarded-lost}
 use Rattle.unit.specs.Model.{modelOf}
@@ -14,7 +15,7 @@ count-losses-requires : tie.Need-count-losses-requires
 count-losses-requires c κs =
     let at-offer = c .before .before .before .before .before in
     let start = at-offer .before .before .before in
-    (start .pre .0, omega arith, start .pre .2, lost-home (at-offer .offer .ensures) (start .pre .2) (verdict-home (start .args .ports) (modelOf (start .args .ports) (start .args .words .now) .rest .pairs) (start .args .from) (start .args .pgn)))
+    (start .pre .0, omega arith, start .pre .2, lost-home (at-offer .offer .ensures) (start .pre .2) (verdict-home (start .args .ports) (modelOf (start .args .ports) (start .args .words .now) .rest) (start .args .from) (start .args .pgn) (saOf (start .args .f .id))))
 
 same-length : tie.Need-same-length
 same-length c = search needs

@@ -51,9 +51,12 @@ cast-ask-pair c = search needs
 pgn-requires : tie.Need-pgn-requires
 pgn-requires c κs = search needs
 
+sa-requires : tie.Need-sa-requires
+sa-requires c κs = search needs
+
 ask-pair-requires : tie.Need-ask-pair-requires
 ask-pair-requires c κs =
-    let at-else = c .before in
+    let at-else = c .before .before in
     let at = at-else .before .before in
     let ports = at .before in
     let args = ports .before .before .args in
@@ -62,14 +65,15 @@ ask-pair-requires c κs =
 
 returns-3 : tie.Need-returns-3
 returns-3 c =
-    let at-pgn = c .before in
+    let at-sa = c .before in
+    let at-pgn = at-sa .before in
     let at-else = at-pgn .before in
     let at = at-else .before .before in
     let ports = at .before in
     let args = ports .before .before .args in
     let G = pair-goes (ports .ports-of .result) (length (args .words .now)) (args .from) (args .to) (args .id) 0 (sym (at .pair-refusal .ensures) ∙ at-else .before .if1 .left) in
     rw (← (ports .ports-of .ensures .count))
-    (ask-pair (args .words .now) (args .from) (args .to) (args .id) (at .pair-refusal .ensures) (at-else .before .if1 .left) (λ s. at-else .if2 .left (omega (arith, s, G .1, G .3))) (at-pgn .pgn .ensures) (c .ask-pair .ensures))
+    (ask-pair (args .words .now) (args .from) (args .to) (args .id) (at .pair-refusal .ensures) (at-else .before .if1 .left) (λ s. at-else .if2 .left (omega (arith, s, G .1, G .3))) (at-pgn .pgn .ensures) (at-sa .sa .ensures) (c .ask-pair .ensures))
 
 pub ask-spec : {M : Type 1} → statement M
 ask-spec =
@@ -83,5 +87,6 @@ ask-spec =
     sub-q
     cast-ask-pair
     pgn-requires
+    sa-requires
     ask-pair-requires
     returns-3)

@@ -1,7 +1,7 @@
 -- `network_message::command_of` meets its contract: by the arm that the function takes. Assumes nothing.
 use borrow.Author.Tests.{ne-eqb}
-use borrow.Author.Needs.{needs}
 use Rattle.network_message.specs.Decoding.{commandOf}
+use borrow.Author.Needs.{needs}
 use Rattle.network_message.proofs.command_of.Statement.{statement}
 use Rattle.network_message.proofs.command_of.Tie as tie
 
@@ -16,6 +16,9 @@ shared-slice-read-t9 c = search needs
 
 with-entries-requires-3 : tie.Need-with-entries-requires-3
 with-entries-requires-3 c κs = search needs
+
+add-by-name-requires : tie.Need-add-by-name-requires
+add-by-name-requires c κs = search needs
 
 parameter-of-requires : tie.Need-parameter-of-requires
 parameter-of-requires c κs = search needs
@@ -45,25 +48,30 @@ returns-5 c = rw (c .before .before .match .keys5) (rw (c .before .before .match
 
 returns-6 : tie.Need-returns-6
 unfolding commandOf
-returns-6 c = rw (c .match .keys6)
+returns-6 c = rw (c .before .match .keys6) (c .add-by-name .ensures)
 
 returns-7 : tie.Need-returns-7
 unfolding commandOf
-returns-7 c = rw (c .before .match .keys7, c .parameter-of .ensures)
+returns-7 c = rw (c .match .keys7)
 
 returns-8 : tie.Need-returns-8
 unfolding commandOf
-returns-8 c = rw (c .match .keys8)
+returns-8 c = rw (c .before .match .keys8, c .parameter-of .ensures)
 
 returns-9 : tie.Need-returns-9
 unfolding commandOf
-returns-9 c = rw (c .before .match .keys9, c .parameter-of2 .ensures)
+returns-9 c = rw (c .match .keys9)
 
 returns-10 : tie.Need-returns-10
 unfolding commandOf
-returns-10 c =
+returns-10 c = rw (c .before .match .keys10, c .parameter-of2 .ensures)
+
+returns-11 : tie.Need-returns-11
+unfolding commandOf
+returns-11 c =
     let rest = c .match .rest in
     simp (
+      ne-eqb _ _ (rest .0 .0 .0 .0 .0 .0 .0 .0 .0 .1),
       ne-eqb _ _ (rest .0 .0 .0 .0 .0 .0 .0 .0 .1),
       ne-eqb _ _ (rest .0 .0 .0 .0 .0 .0 .0 .1),
       ne-eqb _ _ (rest .0 .0 .0 .0 .0 .0 .1),
@@ -83,6 +91,7 @@ command-of-spec =
     with-entries-requires-2
     shared-slice-read-t9
     with-entries-requires-3
+    add-by-name-requires
     parameter-of-requires
     parameter-of-requires-2
     returns
@@ -94,4 +103,5 @@ command-of-spec =
     returns-7
     returns-8
     returns-9
-    returns-10)
+    returns-10
+    returns-11)

@@ -17,7 +17,7 @@ returns c =
     let at-i = c .before .before in
     let args = at-i .before .before .args in
     let e = at-i .pair-at .ensures in
-    c .ask-filter .ensures (args .ports) (args .from) (args .to) (rw (e .0) at (e .1)) (rw (e .0) at (c .before .filter-at .ensures))
+    c .ask-filter .ensures .0 (args .ports) (args .from) (args .to) (rw (e .0) at (e .1)) (rw (e .0) at (c .before .filter-at .ensures))
 
 pub ask-pair-spec : {M : Type 1} → statement M
 ask-pair-spec = tie.close (tie.spec pair-at-requires filter-at-requires ask-filter-requires returns)

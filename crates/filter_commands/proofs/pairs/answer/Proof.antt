@@ -28,6 +28,15 @@ enum-told-4 c = search needs
 lacks-requires : tie.Need-lacks-requires
 lacks-requires c κs = search needs
 
+enum-known-question : tie.Need-enum-known-question
+enum-known-question c = search needs
+
+first-entry-requires : tie.Need-first-entry-requires
+first-entry-requires c κs = search needs
+
+names-full-requires : tie.Need-names-full-requires
+names-full-requires c κs = search needs
+
 returns : tie.Need-returns
 unfolding holdsOf
 returns c = rw (c .before .enum-told .given .1) (c .is-cleared .ensures)
@@ -44,6 +53,10 @@ returns-4 : tie.Need-returns-4
 unfolding holdsOf
 returns-4 c = rw (c .before .enum-told4 .given .1) (c .lacks .ensures)
 
+returns-5 : tie.Need-returns-5
+unfolding holdsOf
+returns-5 c = rw (c .before .before .before .question .given .1, ← (c .before .first-entry .ensures)) (c .names-full .ensures)
+
 pub answer-spec : {M : Type 1} → statement M
 answer-spec =
     tie.close
@@ -56,7 +69,11 @@ answer-spec =
     would-pass-requires
     enum-told-4
     lacks-requires
+    enum-known-question
+    first-entry-requires
+    names-full-requires
     returns
     returns-2
     returns-3
-    returns-4)
+    returns-4
+    returns-5)

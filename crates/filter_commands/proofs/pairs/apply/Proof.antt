@@ -22,6 +22,15 @@ enum-known-change c = search needs
 create-requires : tie.Need-create-requires
 create-requires c κs = search needs
 
+enum-known-change-2 : tie.Need-enum-known-change-2
+enum-known-change-2 c = search needs
+
+first-entry-requires : tie.Need-first-entry-requires
+first-entry-requires c κs = search needs
+
+add-name-requires : tie.Need-add-name-requires
+add-name-requires c κs = search needs
+
 same-length : tie.Need-same-length
 same-length c = search needs
 
@@ -43,6 +52,13 @@ returns-3 : tie.Need-returns-3
 unfolding mayOf changeOf
 returns-3 c = let at = c .before .before in rw (at .before .before .before .change .given .1) (at .create .ensures)
 
+same-length-4 : tie.Need-same-length-4
+same-length-4 c = search needs
+
+returns-4 : tie.Need-returns-4
+unfolding mayOf changeOf
+returns-4 c = let at = c .before .before in rw (at .before .before .before .before .change2 .given .1, ← (at .before .first-entry .ensures)) (at .add-name .ensures)
+
 pub apply-spec : {M : Type 1} → statement M
 apply-spec =
     tie.close
@@ -53,9 +69,14 @@ apply-spec =
     delete-requires
     enum-known-change
     create-requires
+    enum-known-change-2
+    first-entry-requires
+    add-name-requires
     same-length
     returns
     same-length-2
     returns-2
     same-length-3
-    returns-3)
+    returns-3
+    same-length-4
+    returns-4)

@@ -48,9 +48,14 @@ returns-10 c = rw (c .match .keys10)
 
 returns-11 : tie.Need-returns-11
 unfolding isKnown listed
-returns-11 c =
+returns-11 c = rw (c .match .keys11)
+
+returns-12 : tie.Need-returns-12
+unfolding isKnown listed
+returns-12 c =
     let rest = c .match .rest in
     simp (
+      ne-eqb _ _ (λ e. rest .0 .0 .0 .0 .0 .0 .0 .0 .0 .0 .1 (sym e)),
       ne-eqb _ _ (λ e. rest .0 .0 .0 .0 .0 .0 .0 .0 .0 .1 (sym e)),
       ne-eqb _ _ (λ e. rest .0 .0 .0 .0 .0 .0 .0 .0 .1 (sym e)),
       ne-eqb _ _ (λ e. rest .0 .0 .0 .0 .0 .0 .0 .1 (sym e)),
@@ -77,4 +82,5 @@ is-known-spec =
     returns-8
     returns-9
     returns-10
-    returns-11)
+    returns-11
+    returns-12)

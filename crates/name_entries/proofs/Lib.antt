@@ -1,0 +1,3 @@
+mod Bits
+pub mod Matching
+mod Holding
