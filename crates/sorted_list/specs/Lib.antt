@@ -1,0 +1,2 @@
+pub mod SortedList
+pub mod Steps
