@@ -51,11 +51,24 @@ static void print_names(const uint64_t *pair)
     }
 }
 
+/* The list as it is looked up, where that is another order than the one of addition. */
+static void print_rising(const uint64_t *pair, uint64_t count)
+{
+    const uint64_t *rising = pair + DEORASAENG_PAIR_RISING;
+    if (memcmp(rising, pair + DEORASAENG_PAIR_PGNS, count * sizeof *rising) == 0)
+        return;
+    printf(", looked up as");
+    for (uint64_t i = 0; i < count; i++)
+        printf(" %" PRIu64, rising[i]);
+}
+
 static void print_pair(const uint64_t *words, unsigned from, unsigned to)
 {
     uint32_t n = ports_of(words);
     const uint64_t *pair = words + DEORASAENG_PAIR_AT(n, from, to);
     uint64_t lost = words[DEORASAENG_LOSS_AT(n, from, to)], count = pair[DEORASAENG_PAIR_COUNT];
+    if (count > DEORASAENG_LIST_PGNS)
+        count = DEORASAENG_LIST_PGNS;
     if (pair[DEORASAENG_PAIR_MODE] == 0 && lost == 0)
         return;
     printf("from %u to %u: ", from, to);
@@ -63,8 +76,9 @@ static void print_pair(const uint64_t *words, unsigned from, unsigned to)
         printf("cleared");
     } else {
         printf("%s", pair[DEORASAENG_PAIR_MODE] == 1 || pair[DEORASAENG_PAIR_MODE] == DEORASAENG_BLOCK_WITH_NAMES ? "block" : "pass");
-        for (uint64_t i = 0; i < count && i < DEORASAENG_LIST_PGNS; i++)
+        for (uint64_t i = 0; i < count; i++)
             printf(" %" PRIu64, pair[DEORASAENG_PAIR_PGNS + i]);
+        print_rising(pair, count);
         print_names(pair);
     }
     printf(", lost %" PRIu64 "\n", lost);
@@ -88,7 +102,7 @@ static void make_record(void)
 {
     uint64_t answer[DEORASAENG_FRAME_ANSWER];
     uint8_t bytes[DEORASAENG_FRAME_BYTES] = {0x23, 0, 0, 0, 0, 0, 0, 0xA0}, reply[DEORASAENG_REPLY_BYTES];
-    const uint8_t create[8] = {6, 0x12, 1, 0xF1, 0xFE, 0, 0xFF, 0xFF};
+    const uint8_t create[9] = {6, 0x12, 1, 0xF1, 0xFE, 0, 0x05, 0xF0, 0};
     const uint8_t by_name[23] = {7, 0x12, 0x00, 0xEF, 0, 0x23, 0, 0, 0, 0, 0, 0, 0xA0, 0xFF, 0, 0, 0, 0, 0, 0, 0x80};
     deorasaeng_power_on(record, DEORASAENG_RECORD_WORDS, 0x20001C000AC00123, 128);
     deorasaeng_start(record, DEORASAENG_RECORD_WORDS, answer, DEORASAENG_START_ANSWER);

@@ -26,7 +26,8 @@
 #define DEORASAENG_QUEUE_DEPTH 32
 
 /* A pair: mode (0 cleared, 1 block, 2 pass; 3 block and 4 and up pass, with NAME entries), how many PGNs, the PGNs in order of addition; behind them how many NAME
-   entries, and for each its PGN, NAME and mask, which mean something with a mode from 3 on alone. */
+   entries, and for each its PGN, NAME and mask, which mean something with a mode from 3 on alone; behind those the same PGNs in rising order, as many, which a frame's
+   PGN is looked up in. */
 #define DEORASAENG_PAIR_MODE 0
 #define DEORASAENG_PAIR_COUNT 1
 #define DEORASAENG_PAIR_PGNS 2
@@ -36,6 +37,7 @@
 #define DEORASAENG_NAME_ENTRIES 8
 #define DEORASAENG_NAME_ENTRY_WORDS 3
 #define DEORASAENG_NAME_ENTRY_AT(i) (DEORASAENG_PAIR_NAMES + 1 + DEORASAENG_NAME_ENTRY_WORDS * (i))
+#define DEORASAENG_PAIR_RISING DEORASAENG_NAME_ENTRY_AT(DEORASAENG_NAME_ENTRIES)
 #define DEORASAENG_PAIRS_OF(n) ((n) * ((n) - 1))
 #define DEORASAENG_PAIR_NUMBER(n, from, to) (((n) - 1) * ((from) - 1) + ((to) < (from) ? (to) - 1 : (to) - 2))
 #define DEORASAENG_PAIRS_AT(n) (DEORASAENG_QUEUES_AT + DEORASAENG_QUEUE_WORDS * (n))
@@ -51,7 +53,7 @@
 typedef char deorasaeng_layout_fits[DEORASAENG_FITS(2) && DEORASAENG_FITS(3) && DEORASAENG_FITS(4) && DEORASAENG_FITS(5) && DEORASAENG_FITS(6) &&
                                     DEORASAENG_FITS(7) && DEORASAENG_FITS(8) &&
                                     DEORASAENG_PLACE_AT(DEORASAENG_TABLE_PLACES) == DEORASAENG_QUEUES_AT &&
-                                    DEORASAENG_NAME_ENTRY_AT(DEORASAENG_NAME_ENTRIES) == DEORASAENG_RECORD_PAIR_WORDS &&
+                                    DEORASAENG_PAIR_RISING + DEORASAENG_LIST_PGNS == DEORASAENG_RECORD_PAIR_WORDS &&
                                     DEORASAENG_QUEUE_FRAMES + 2 * DEORASAENG_QUEUE_DEPTH == DEORASAENG_QUEUE_WORDS ? 1 : -1];
 
 #endif

@@ -11,8 +11,8 @@ enum { USUAL_PORTS = 4, FEWEST_PORTS = DEORASAENG_FEWEST_PORTS, MOST_PORTS = DEO
 enum { MOST_LOSSES = 64255 };
 
 /* The unit's own words are its claim state, address, preferred address, NAME and number of ports. A place of the table is its port and its NAME; a queue how
-   many wait, what the port counts and two words for each frame; a pair its mode, its count and its list, and behind that how many NAME entries it has, and for each its PGN,
-   NAME and mask. */
+   many wait, what the port counts and two words for each frame; a pair its mode, its count and its list, and behind that how many NAME entries it has, for each its PGN,
+   NAME and mask, and the list in rising order. */
 enum {
     PORTS_AT = 4,
     TABLE_AT = 5,
@@ -23,11 +23,12 @@ enum {
     FRAMES_AT = COUNTS_AT + DEORASAENG_COUNTS_ANSWER,
     NAMES_AT = 2 + LIST, /* in a pair */
     NAME_WORDS = 3,
-    PAIR_WORDS = NAMES_AT + 1 + NAME_WORDS * NAMES,
+    RISING_AT = NAMES_AT + 1 + NAME_WORDS * NAMES,
+    PAIR_WORDS = RISING_AT + LIST,
     MOST_WORDS = DEORASAENG_RECORD_WORDS_FOR(MOST_PORTS)
 };
 
-/* The mode word of a pair: from 3 on it has NAME entries, 3 block and all above it pass. Below 3 the words behind the list mean nothing. */
+/* The mode word of a pair: from 3 on it has NAME entries, 3 block and all above it pass. Below 3 the words of NAME entries mean nothing. */
 enum { CLEARED, BLOCK, PASS, BLOCK_NAMED, PASS_NAMED };
 
 /* A plan: for each of its units eight ports, a word each, and 56 pairs, which have a list alone and modes 0 to 2. */

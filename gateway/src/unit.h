@@ -10,7 +10,7 @@
 
 /* The interface that this program is written for. Another version may have functions, numbers, events or reasons that it does not know: look them through in this
    folder, then change it here. */
-_Static_assert(DEORASAENG_VERSION == 10, "gateway/ was read against version 10 of include/deorasaeng.h");
+_Static_assert(DEORASAENG_VERSION == 11, "gateway/ was read against version 11 of include/deorasaeng.h");
 
 /* What arrays are sized by: the highest number that refuses a call, the addresses that can be claimed, the ranks of a frame. */
 #define UNIT_NUMBERS 29

@@ -48,7 +48,7 @@ static void gateway_words(void)
 {
     CHECK(run("deorasaeng-gateway", "-h") == 0 && says("usage: deorasaeng-gateway") && says("--version"));
     CHECK(run("deorasaeng-gateway", "--help") == 0 && says("usage: deorasaeng-gateway"));
-    CHECK(run("deorasaeng-gateway", "--version") == 0 && says("deorasaeng-gateway 1.0, interface 10 of the unit\n"));
+    CHECK(run("deorasaeng-gateway", "--version") == 0 && says("deorasaeng-gateway 1.0, interface 11 of the unit\n"));
     CHECK(run("deorasaeng-gateway", "--name 1 --address 010 a b") == 2 && says("--address 010: not 0 to 253, decimal or 0x hex"));
     CHECK(run("deorasaeng-gateway", "--name 1 --address 8 --lists none a b") == 2 && says("none: no such file"));
     CHECK(run("deorasaeng-gateway", "--name 1 --address 8 no-such-bus-a no-such-bus-b") == 2 && says("no-such-bus-a: "));

@@ -25,25 +25,27 @@ struct row {
     uint32_t number;
     /* How many ports the unit has, four unless said. */
     uint32_t ports;
-    /* Every pair: its mode, how many PGNs it lists, where the frame's PGN stands among them, from 1; how many NAME entries it has, all of the frame's PGN, and which of them
-       has the sender's NAME, from 1. Every queue: how many wait, and whether they are of lower rank than the frame. Addresses held. */
-    int mode, entries, at, names, name_at, waiting, lower, held;
+    /* Every pair: its mode, how many PGNs it lists, where the frame's PGN stands among them, from 1, and how many of them are below it; whether they are far apart; how many
+       NAME entries it has, all of the frame's PGN, and which of them has the sender's NAME, from 1. Every queue: how many wait, and whether they are of lower rank than the
+       frame. Addresses held. */
+    int mode, entries, at, below, apart, names, name_at, waiting, lower, held;
     /* A frame: identifier, length (8 for a frame with its takes, unless said) and bytes. */
     uint32_t id;
     size_t len;
     uint64_t bytes;
     /* A message: function, pair byte, parameter; how many entries, how many of them different, the first one's place among the PGNs, or that of the NAME among the NAMEs, the
-       last one's; backwards or not. */
+       last one's; backwards or in any order. */
     uint8_t function, pair, parameter;
-    int named, different, first, last, backwards;
+    int named, different, first, last, backwards, mixed;
     /* A plan: how many units it has, and whether they close a ring; its lists are as every pair's above, and the last word of the last is wrong where the number is 28. */
     uint32_t units;
     int ring;
-    /* Words that every call finds as they were: at, value. */
+    /* How many pairs from port 1, and which words, every call finds as they were: at, value. */
+    int whole;
     uint64_t resets[6][2];
 };
 
-static uint64_t w[MOST_WORDS];
+static uint64_t w[MOST_WORDS], made[MOST_WORDS];
 static uint32_t ports;
 static size_t record_len;
 static struct lent lent;
@@ -57,6 +59,24 @@ static uint32_t listed(int i)
     return 0xFE00 + i;
 }
 
+/* One that is below the frame's. */
+static uint32_t listed_below(int i)
+{
+    return 0x100 * (i + 1);
+}
+
+/* One that has room for others on either side. */
+static uint32_t listed_apart(int i)
+{
+    return 0xF020 + 0x40 * i;
+}
+
+/* Places up to 32 in any order. */
+static int mixed(int i)
+{
+    return (19 * i + 7) % LIST;
+}
+
 /* The NAME of an entry that is not the sender's; the sender has NAME 1. */
 static uint64_t named(int i)
 {
@@ -65,6 +85,8 @@ static uint64_t named(int i)
 
 static void restore(const struct row *r)
 {
+    if (r->whole)
+        memcpy(w + MODE(0), made + MODE(0), 8 * PAIR_WORDS * r->whole);
     for (int i = 0; r->resets[i][0]; i++)
         w[r->resets[i][0]] = r->resets[i][1];
 }
@@ -86,7 +108,7 @@ static void make_payload(const struct row *r)
                 payload[n++] = words[i] >> 8 * b;
     }
     for (int i = 0; i < r->named; i++) {
-        int k = i % r->different;
+        int k = r->mixed ? mixed(i % r->different) : i % r->different;
         uint32_t pgn = listed(r->last && i == r->named - 1 ? r->last : r->first + (r->backwards ? r->different - 1 - k : k));
         for (int b = 0; b < 3; b++)
             payload[n++] = pgn >> 8 * b;
@@ -123,6 +145,23 @@ static void make_plan(const struct row *r)
     make_links(&plan);
 }
 
+/* The list, and behind the NAME entries once more in rising order; an earlier record, on which `beside` runs the same rows, ends there. */
+static void make_list(const struct row *r, uint64_t *pair)
+{
+    enum { RISING = NAMES_AT + 1 + NAME_WORDS * NAMES };
+    uint64_t *rising = pair + RISING;
+    pair[1] = r->entries;
+    for (int j = 0; j < r->entries; j++)
+        pair[2 + j] = j + 1 == r->at ? PGN : r->apart ? listed_apart(j) : j < r->below ? listed_below(j) : listed(j);
+    for (int j = 0; j < r->entries && PAIR_WORDS > RISING; j++) {
+        uint64_t x = pair[2 + j];
+        int k = j;
+        for (; k > 0 && rising[k - 1] > x; k--)
+            rising[k] = rising[k - 1];
+        rising[k] = x;
+    }
+}
+
 static void make(const struct row *r)
 {
     if (r->units)
@@ -137,9 +176,7 @@ static void make(const struct row *r)
     for (uint32_t i = 0; i < ports * (ports - 1); i++) {
         uint64_t *pair = w + PAIRS_AT(ports) + PAIR_WORDS * i, *name = pair + NAMES_AT + 1;
         pair[0] = r->mode;
-        pair[1] = r->entries;
-        for (int j = 0; j < r->entries; j++)
-            pair[2 + j] = j + 1 == r->at ? PGN : listed(j);
+        make_list(r, pair);
         pair[NAMES_AT] = r->names;
         for (int j = 0; j < r->names; j++, name += NAME_WORDS) {
             name[0] = PGN;
@@ -158,6 +195,7 @@ static void make(const struct row *r)
             w[HOLDER(i)] = 2;
             w[HOLDER(i) + 1] = ++n;
         }
+    memcpy(made, w, sizeof w);
     restore(r);
     make_payload(r);
 }
@@ -185,6 +223,28 @@ static uint32_t frames(const struct side *side, const struct row *r, long calls)
     return number;
 }
 
+/* Identifiers at random, of PGNs that a list far apart has, and of PGNs below, between and above them. Those of a round go on where the last one's ended. */
+static uint32_t drawn[2][1 << 16];
+static size_t draws;
+
+static void draw(void)
+{
+    for (size_t i = 0; i < sizeof drawn[0] / sizeof *drawn[0]; i++) {
+        drawn[0][i] = (DATA & ~0x3FFFF00u) | listed_apart(next() % LIST) << 8;
+        drawn[1][i] = (DATA & ~0x3FFFF00u) | (listed_apart(next() % (LIST + 1)) - 0x20 + next() % 0x20) << 8;
+    }
+}
+
+/* Frames that every list stops: of listed PGNs in block mode, of absent ones in pass mode. */
+static uint32_t frames_at_random(const struct side *side, const struct row *r, long calls)
+{
+    const uint32_t *ids = drawn[r->mode == PASS];
+    uint32_t number = 0;
+    for (long k = 0; k < calls; k++)
+        number = side->frame(w, record_len, 1, ids[draws++ % (sizeof drawn[0] / sizeof *drawn[0])], (const uint8_t *)&r->bytes, 8, lent.answer, DEORASAENG_FRAME_ANSWER);
+    return number;
+}
+
 static uint32_t takes(const struct side *side, const struct row *r, long calls)
 {
     uint32_t number = 0;
@@ -200,6 +260,21 @@ static uint32_t messages(const struct side *side, const struct row *r, long call
     for (long k = 0; k < calls; k++) {
         restore(r);
         number = side->message(w, record_len, 1, 0x21, payload, payload_len, lent.reply, LONGEST, lent.answer, DEORASAENG_MESSAGE_ANSWER);
+    }
+    return number;
+}
+
+/* The entries of a message, each in one of its own. */
+static uint32_t one_by_one(const struct side *side, const struct row *r, long calls)
+{
+    uint8_t one[8] = {r->function, r->pair, 0, 0, 0, 0xFF, 0xFF, 0xFF};
+    uint32_t number = 0;
+    for (long k = 0; k < calls; k++) {
+        restore(r);
+        for (int i = 0; i < r->named; i++) {
+            memcpy(one + 2, payload + 2 + 3 * i, 3);
+            number = side->message(w, record_len, 1, 0x21, one, sizeof one, lent.reply, LONGEST, lent.answer, DEORASAENG_MESSAGE_ANSWER);
+        }
     }
     return number;
 }
@@ -275,13 +350,17 @@ static uint32_t plans_by_links(const struct side *side, const struct row *r, lon
 #define NOTHING_WAITS {{WAITING(1), 0}, {WAITING(2), 0}, {WAITING(3), 0}, {WAITING(4), 0}}
 #define MODES(mode) {{MODE(0), mode}, {MODE(1), mode}, {MODE(2), mode}}
 
-enum { OTHER = 9 };
+/* A NAME; the place of a PGN that is below all that are listed. */
+enum { OTHER = 9, IN_FRONT = -0xE00 };
 
 static const struct row frame_rows[] = {
     {"frame and 3 takes, cleared, depth 1", frame_and_takes, .mode = 0},
     {"frame and 3 takes, 32 PGNs, found first, depth 1", frame_and_takes, .mode = 2, .entries = 32, .at = 1},
     {"frame and 3 takes, 32 PGNs, found last, depth 1", frame_and_takes, .mode = 2, .entries = 32, .at = 32},
     {"frame and 3 takes, 32 PGNs, absent, depth 1", frame_and_takes, .mode = 1, .entries = 32},
+    {"frame and 3 takes, 32 PGNs, found by the first probe, depth 1", frame_and_takes, .mode = 2, .entries = 32, .at = 16, .below = 15},
+    {"frame and 3 takes, 32 PGNs, found by the sixth, depth 1", frame_and_takes, .mode = 2, .entries = 32, .at = 32, .below = 31},
+    {"frame and 3 takes, 32 PGNs, absent, above all, depth 1", frame_and_takes, .mode = 1, .entries = 32, .below = 32},
     {"frame of 3 bytes and 3 takes, cleared, depth 1", frame_and_takes, .len = 3},
     {"frame and 3 takes, cleared, depth 32", frame_and_takes, .waiting = 31},
     {"frame and 3 takes, cleared, depth 32, others of lower rank", frame_and_takes, .waiting = 31, .lower = 1},
@@ -291,6 +370,10 @@ static const struct row frame_rows[] = {
     {"frame lost at 3 full queues", frames, .waiting = 32, .id = DATA, .len = 8},
     {"frame stopped by 3 empty pass lists", frames, .mode = 2, .id = DATA, .len = 8},
     {"frame stopped by 3 pass lists of 32", frames, .mode = 2, .entries = 32, .id = DATA, .len = 8},
+    {"frame of a PGN at random of 32, stopped by the block list, 2 ports", frames_at_random, .ports = 2, .mode = BLOCK, .entries = 32, .apart = 1},
+    {"frame of a PGN at random that is absent, stopped by the pass list of 32, 2 ports", frames_at_random, .ports = 2, .mode = PASS, .entries = 32, .apart = 1},
+    {"frame of a PGN at random of 32, stopped by 3 block lists", frames_at_random, .mode = BLOCK, .entries = 32, .apart = 1},
+    {"frame of a PGN at random that is absent, stopped by 3 pass lists of 32", frames_at_random, .mode = PASS, .entries = 32, .apart = 1},
     {"frame and 3 takes, 3 pass pairs, by the 1st of 8 NAME entries", frame_and_takes, .mode = PASS_NAMED, .names = 8, .name_at = 1, .held = 1},
     {"frame and 3 takes, 3 pass pairs, by the 8th of 8 NAME entries", frame_and_takes, .mode = PASS_NAMED, .names = 8, .name_at = 8, .held = 1},
     {"frame stopped by 3 pass pairs, by none of 8 NAME entries", frames, .mode = PASS_NAMED, .names = 8, .held = 1, .id = DATA, .len = 8},
@@ -319,6 +402,12 @@ static const struct row message_rows[] = {
     {"Request of 1 PGN", messages, .mode = 1, .entries = 1, .pair = 0x12},
     {"Request of 32 PGNs", messages, .mode = 1, .entries = 32, .pair = 0x12},
     {"Add of 1 to 31", messages, .mode = 1, .entries = 31, .function = 2, .pair = 0x12, .named = 1, .different = 1, .first = 31, .resets = {{COUNT(0), 31}}},
+    {"Add of 1 to 31, in front of them", messages, .mode = 1, .entries = 31, .function = 2, .pair = 0x12, .named = 1, .different = 1, .first = IN_FRONT, .whole = 1},
+    {"32 Adds of 1, from none to 32, rising", one_by_one, .mode = 1, .function = 2, .pair = 0x12, .named = 32, .different = 32, .resets = {{COUNT(0), 0}}},
+    {"32 Adds of 1, from none to 32, falling", one_by_one, .mode = 1, .function = 2, .pair = 0x12, .named = 32, .different = 32, .backwards = 1, .resets = {{COUNT(0), 0}}},
+    {"32 Adds of 1, from none to 32, in any order", one_by_one, .mode = 1, .function = 2, .pair = 0x12, .named = 32, .different = 32, .mixed = 1, .resets = {{COUNT(0), 0}}},
+    {"32 Deletes of 1, from 32 to none, rising", one_by_one, .mode = 1, .entries = 32, .function = 3, .pair = 0x12, .named = 32, .different = 32, .whole = 1},
+    {"32 Deletes of 1, from 32 to none, falling", one_by_one, .mode = 1, .entries = 32, .function = 3, .pair = 0x12, .named = 32, .different = 32, .backwards = 1, .whole = 1},
     {"Add of 32 to none, 3 pairs", messages, .mode = 1, .function = 2, .pair = 0x1F, .named = 32, .different = 32,
      .resets = {{COUNT(0), 0}, {COUNT(1), 0}, {COUNT(2), 0}}},
     {"Add of 594, 32 different, to none", messages, .mode = 1, .function = 2, .pair = 0x12, .named = 594, .different = 32, .resets = {{COUNT(0), 0}}},
@@ -328,18 +417,21 @@ static const struct row message_rows[] = {
     {"Add of 594, refused (16) by the last", messages, .number = 16, .mode = 1, .entries = 32, .function = 2, .pair = 0x12, .named = 594, .different = 32, .last = 33},
     {"Add of 594 different, refused (16)", messages, .number = 16, .mode = 1, .function = 2, .pair = 0x12, .named = 594, .different = 200},
     {"Add of 594, refused (22) by the last", messages, .number = 22, .mode = 1, .entries = 32, .function = 2, .pair = 0x12, .named = 594, .different = 32, .last = 0x40000},
-    {"Delete of 1 of 32", messages, .mode = 1, .entries = 32, .function = 3, .pair = 0x12, .named = 1, .different = 1, .first = 31, .resets = {{COUNT(0), 32}}},
-    {"Delete of 32 of 32", messages, .mode = 1, .entries = 32, .function = 3, .pair = 0x12, .named = 32, .different = 32, .resets = {{COUNT(0), 32}}},
-    {"Delete of 32 of 32, backwards", messages, .mode = 1, .entries = 32, .function = 3, .pair = 0x12, .named = 32, .different = 32, .backwards = 1,
-     .resets = {{COUNT(0), 32}}},
-    {"Delete of 32 of 32, 3 pairs", messages, .mode = 1, .entries = 32, .function = 3, .pair = 0x1F, .named = 32, .different = 32,
-     .resets = {{COUNT(0), 32}, {COUNT(1), 32}, {COUNT(2), 32}}},
+    {"Delete of the first of 32", messages, .mode = 1, .entries = 32, .function = 3, .pair = 0x12, .named = 1, .different = 1, .first = 0, .whole = 1},
+    {"Delete of the last of 32", messages, .mode = 1, .entries = 32, .function = 3, .pair = 0x12, .named = 1, .different = 1, .first = 31, .whole = 1},
+    {"Delete of 32 of 32", messages, .mode = 1, .entries = 32, .function = 3, .pair = 0x12, .named = 32, .different = 32, .whole = 1},
+    {"Delete of 32 of 32, backwards", messages, .mode = 1, .entries = 32, .function = 3, .pair = 0x12, .named = 32, .different = 32, .backwards = 1, .whole = 1},
+    {"Delete of 32 of 32, 3 pairs", messages, .mode = 1, .entries = 32, .function = 3, .pair = 0x1F, .named = 32, .different = 32, .whole = 3},
     {"Delete of 32 of 32, refused (17) by the last of 3 pairs", messages, .number = 17, .mode = 1, .entries = 32, .function = 3, .pair = 0x1F, .named = 32, .different = 32,
      .resets = {{COUNT(2), 31}}},
     {"Clear of 3 pairs", messages, .mode = 1, .entries = 32, .function = 4, .pair = 0x1F, .resets = MODES(1)},
     {"Create of 1", messages, .function = 6, .pair = 0x12, .named = 1, .different = 1, .resets = MODES(0)},
     {"Create of 32", messages, .function = 6, .pair = 0x12, .named = 32, .different = 32, .resets = MODES(0)},
+    {"Create of 32, falling", messages, .function = 6, .pair = 0x12, .named = 32, .different = 32, .backwards = 1, .resets = MODES(0)},
+    {"Create of 32, in any order", messages, .function = 6, .pair = 0x12, .named = 32, .different = 32, .mixed = 1, .resets = MODES(0)},
     {"Create of 32, 3 pairs", messages, .function = 6, .pair = 0x1F, .named = 32, .different = 32, .resets = MODES(0)},
+    {"Create of 32, falling, 3 pairs", messages, .function = 6, .pair = 0x1F, .named = 32, .different = 32, .backwards = 1, .resets = MODES(0)},
+    {"Create of 32, in any order, 3 pairs", messages, .function = 6, .pair = 0x1F, .named = 32, .different = 32, .mixed = 1, .resets = MODES(0)},
     {"Add by NAME, to 7", messages, .mode = PASS_NAMED, .names = 7, .function = 7, .pair = 0x12, .first = 7, .resets = {{NAMED(0), 7}}},
     {"Add by NAME, already there, the 8th", messages, .mode = PASS_NAMED, .names = 8, .function = 7, .pair = 0x12, .first = 7},
     {"Add by NAME, refused (16)", messages, .number = 16, .mode = PASS_NAMED, .names = 8, .function = 7, .pair = 0x12, .first = 8},
@@ -359,6 +451,15 @@ static const struct row list_rows[] = {
     {"8", frame_and_takes, .mode = 1, .entries = 8},
     {"16", frame_and_takes, .mode = 1, .entries = 16},
     {"32", frame_and_takes, .mode = 1, .entries = 32},
+};
+
+static const struct row found_rows[] = {
+    {"1", frame_and_takes, .mode = 2, .entries = 1, .at = 1, .below = 0},
+    {"2", frame_and_takes, .mode = 2, .entries = 2, .at = 2, .below = 1},
+    {"4", frame_and_takes, .mode = 2, .entries = 4, .at = 4, .below = 3},
+    {"8", frame_and_takes, .mode = 2, .entries = 8, .at = 8, .below = 7},
+    {"16", frame_and_takes, .mode = 2, .entries = 16, .at = 16, .below = 15},
+    {"32", frame_and_takes, .mode = 2, .entries = 32, .at = 32, .below = 31},
 };
 
 static const struct row depth_rows[] = {
@@ -406,6 +507,7 @@ static const struct table {
     {"Frames, takes, Start, Quiet, the unit, counts, power-on", "call", frame_rows, sizeof frame_rows / sizeof *frame_rows},
     {"Network messages, from port 1", "message", message_rows, sizeof message_rows / sizeof *message_rows},
     {"Growth with the lists: frame and 3 takes, depth 1, a PGN that is absent", "PGNs in each list", list_rows, sizeof list_rows / sizeof *list_rows},
+    {"Growth with the lists: frame and 3 takes, depth 1, the highest PGN of each list, its last probe", "PGNs in each list, listed", found_rows, sizeof found_rows / sizeof *found_rows},
     {"Growth with the queues: frame and 3 takes, cleared pairs, equal ranks", "depth", depth_rows, sizeof depth_rows / sizeof *depth_rows},
     {"Growth with the ports: frame that joins every other queue, and a take at each, cleared pairs, depth 1", "ports", port_rows,
      sizeof port_rows / sizeof *port_rows},
@@ -437,6 +539,7 @@ static void check_row(const struct row *r)
     for (int s = 0; s < SIDES; s++) {
         make(r);
         memset(&lent, 0, sizeof lent);
+        draws = 0;
         uint32_t number = r->run(&sides[s], r, 3);
         if (number != r->number || (s > 0 && (!same_record(first, w) || memcmp(answer, lent.answer, sizeof answer)))) {
             printf("%s: %s gives %u, or not what the others give\n", r->label, sides[s].name, (unsigned)number);
@@ -453,15 +556,15 @@ struct figures {
     double least[SIDES];
 };
 
-static struct figures timed[128];
+static struct figures timed[160];
 static size_t timed_count;
 
 static int same_case(const struct row *a, const struct row *b)
 {
-    return a->run == b->run && a->number == b->number && a->ports == b->ports && a->mode == b->mode && a->entries == b->entries && a->at == b->at && a->names == b->names && a->name_at == b->name_at && a->waiting == b->waiting &&
+    return a->run == b->run && a->number == b->number && a->ports == b->ports && a->mode == b->mode && a->entries == b->entries && a->at == b->at && a->below == b->below && a->apart == b->apart && a->names == b->names && a->name_at == b->name_at && a->waiting == b->waiting &&
            a->lower == b->lower && a->held == b->held && a->id == b->id && a->len == b->len && a->bytes == b->bytes && a->function == b->function &&
            a->pair == b->pair && a->parameter == b->parameter && a->units == b->units && a->ring == b->ring && a->named == b->named && a->different == b->different && a->first == b->first && a->last == b->last &&
-           a->backwards == b->backwards && memcmp(a->resets, b->resets, sizeof a->resets) == 0;
+           a->backwards == b->backwards && a->mixed == b->mixed && a->whole == b->whole && memcmp(a->resets, b->resets, sizeof a->resets) == 0;
 }
 
 static const double *figures_of(const struct row *r, int rounds)
@@ -479,6 +582,7 @@ static const double *figures_of(const struct row *r, int rounds)
     long calls = 30000 / time_of(&sides[1], r, 20) + 20;
     for (int k = 0; k < rounds; k++)
         for (int s = 0; s < SIDES; s++) {
+            draws = k * calls;
             double x = time_of(&sides[s], r, calls);
             f->least[s] = x < f->least[s] ? x : f->least[s];
         }
@@ -572,6 +676,7 @@ static void run_rows_once(void)
                 make(r);
                 r->run(side, r, 1);
                 make(r);
+                draws = 0;
                 measured(side, r, 16);
                 printf("%s: %s|%s\n", t->column, r->label, side->name);
             }
@@ -579,6 +684,7 @@ static void run_rows_once(void)
 
 int main(int argc, char **argv)
 {
+    draw();
     if (argc > 1 && !strcmp(argv[1], "count")) {
         run_rows_once();
         return 0;

@@ -323,6 +323,7 @@ static void meaning(const uint64_t *record, uint64_t *out)
         memset(pair + 2 + n, 0, 8 * (LIST - n));
         names[0] = named;
         memset(names + 1 + NAME_WORDS * named, 0, 8 * NAME_WORDS * (NAMES - named));
+        memset(pair + RISING_AT + n, 0, 8 * (LIST - n));
     }
     for (uint32_t port = 1; port <= ports; port++) {
         uint64_t *queue = out + DEORASAENG_QUEUE_AT(port);

@@ -15,10 +15,11 @@ struct name_entry {
     uint64_t pgn, name, mask;
 };
 
-/* From BLOCK_NAMED on there are NAME entries, below it what stands behind the list means nothing. */
+/* From BLOCK_NAMED on there are NAME entries, below it their words mean nothing. `rising` has the PGNs once more, in rising order. */
 struct pair {
     uint64_t mode, count, pgns[LIST], names;
     struct name_entry named[NAMES];
+    uint64_t rising[LIST];
 };
 
 /* A pair in a plan. */
@@ -124,6 +125,45 @@ static uint64_t find(const uint64_t *list, uint64_t n, uint64_t x)
     return i;
 }
 
+/* Whether a list in rising order has x; and how many probes of the middle place, the lower of two, that took, which are added. Which half is left is no jump: of a PGN at
+   random it would be guessed wrong every other time. */
+static bool is_listed(const uint64_t *rising, uint64_t n, uint64_t x, uint64_t *probes)
+{
+    uint64_t made = 0;
+    bool listed = false;
+    while (n > 0) {
+        uint64_t below = (n - 1) / 2, y = rising[below], is_above = -(uint64_t)(y < x);
+        made++;
+        if (y == x) {
+            listed = true;
+            break;
+        }
+        rising += is_above & (below + 1);
+        n = below + (is_above & (n / 2 - below));
+    }
+    *probes += made;
+    return listed;
+}
+
+/* Puts x into a list of n in rising order. */
+static void insert(uint64_t *rising, uint64_t n, uint64_t x)
+{
+    for (; n > 0 && rising[n - 1] > x; n--)
+        rising[n] = rising[n - 1];
+    rising[n] = x;
+}
+
+/* What is left of a list without the places that a mask has. */
+static uint64_t squeeze(uint64_t *list, uint64_t n, uint32_t gone)
+{
+    uint64_t kept = 0;
+    for (uint64_t i = 0; i < n; i++) {
+        list[kept] = list[i];
+        kept += !(gone >> i & 1);
+    }
+    return kept;
+}
+
 static bool passes(uint64_t mode)
 {
     return mode == PASS || mode == PASS_NAMED;
@@ -154,9 +194,7 @@ static void forward(struct unit *u, uint32_t ports, uint32_t from, uint32_t pgn,
             continue;
         uint64_t reason = permanent ? DEORASAENG_REASON_PERMANENT : DEORASAENG_REASON_CLEARED;
         if (!permanent && p->mode != CLEARED) {
-            uint64_t i = find(p->pgns, p->count, pgn);
-            bool listed = i < p->count;
-            compared += i + listed;
+            bool listed = is_listed(p->rising, p->count, pgn, &compared);
             if (p->mode >= BLOCK_NAMED && !listed)
                 listed = is_named(p, pgn, &u->table[head & 255], &compared);
             if (passes(p->mode))
@@ -386,19 +424,22 @@ static uint32_t add(struct pair *pairs, int named, const uint8_t *bytes, size_t 
     if (m > LIST)
         return 16;
     for (int k = 0; k < named; k++) {
-        uint64_t count = pairs[k].count;
+        const struct pair *p = &pairs[k];
         fresh[k] = 0;
         for (uint64_t i = 0; i < m; i++)
-            if (find(pairs[k].pgns, pairs[k].count, pgns[i]) == pairs[k].count) {
+            if (find(p->pgns, p->count, pgns[i]) == p->count)
                 fresh[k] |= 1u << i;
-                count++;
-            }
-        if (count > LIST)
+        if (p->count + __builtin_popcount(fresh[k]) > LIST)
             return 16;
     }
-    for (int k = 0; k < named; k++)
-        for (uint32_t left = fresh[k]; left; left &= left - 1)
-            pairs[k].pgns[pairs[k].count++] = pgns[__builtin_ctz(left)];
+    for (int k = 0; k < named; k++) {
+        struct pair *p = &pairs[k];
+        for (uint32_t left = fresh[k]; left; left &= left - 1) {
+            uint64_t x = pgns[__builtin_ctz(left)];
+            insert(p->rising, p->count, x);
+            p->pgns[p->count++] = x;
+        }
+    }
     return 0;
 }
 
@@ -409,39 +450,45 @@ static uint32_t delete(struct pair *pairs, int named, uint32_t from, uint32_t to
     for (int k = 0; k < named; k++)
         if (pairs[k].mode == CLEARED)
             return 15;
-    for (int k = 0; k < named; k++)
+    for (int k = 0; k < named; k++) {
+        const struct pair *p = &pairs[k];
         for (size_t i = 0; i < n; i++) {
-            uint64_t at = find(pairs[k].pgns, pairs[k].count, entry(bytes + 3 * i));
-            if (at == pairs[k].count) {
+            uint64_t x = entry(bytes + 3 * i), at = find(p->pgns, p->count, x);
+            if (at == p->count) {
                 uint32_t other = (uint32_t)k + 1;
-                *wrong = (struct wrong){i + 1, to != ALL ? to : other + (other >= from), entry(bytes + 3 * i)};
+                *wrong = (struct wrong){i + 1, to != ALL ? to : other + (other >= from), x};
                 return 17;
             }
             gone[k] |= 1u << at;
         }
+    }
     for (int k = 0; k < named; k++) {
-        uint64_t kept = 0;
-        for (uint64_t i = 0; i < pairs[k].count; i++)
-            if (!(gone[k] >> i & 1))
-                pairs[k].pgns[kept++] = pairs[k].pgns[i];
-        pairs[k].count = kept;
+        struct pair *p = &pairs[k];
+        uint32_t sorted = 0;
+        for (uint32_t left = gone[k]; left; left &= left - 1)
+            sorted |= 1u << find(p->rising, p->count, p->pgns[__builtin_ctz(left)]);
+        squeeze(p->rising, p->count, sorted);
+        p->count = squeeze(p->pgns, p->count, gone[k]);
     }
     return 0;
 }
 
 static uint32_t create(struct pair *pairs, int named, uint64_t mode, const uint8_t *bytes, size_t n)
 {
-    uint64_t pgns[LIST];
+    uint64_t pgns[LIST], rising[LIST];
     for (int k = 0; k < named; k++)
         if (pairs[k].mode != CLEARED)
             return 14;
     uint64_t m = different(bytes, n, pgns);
     if (m > LIST)
         return 16;
+    for (uint64_t i = 0; i < m; i++)
+        insert(rising, i, pgns[i]);
     for (int k = 0; k < named; k++) {
         pairs[k].mode = mode;
         pairs[k].count = m;
         memcpy(pairs[k].pgns, pgns, 8 * m);
+        memcpy(pairs[k].rising, rising, 8 * m);
     }
     return 0;
 }

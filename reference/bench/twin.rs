@@ -53,7 +53,8 @@ const LIST_SIZE: u8 = 2;
 const ENTRIES: u8 = 3;
 const LOSSES: u8 = 9;
 
-/// The mode, the count, the PGNs; behind them how many NAME entries, where the mode says that there are some, and each one's PGN, NAME and mask.
+/// The mode, the count, the PGNs; behind them how many NAME entries, where the mode says that there are some, and each one's
+/// PGN, NAME and mask; then the PGNs in rising order.
 type Pair = [u64; PAIR_WORDS];
 /// The mode, the count, the PGNs.
 type PlanPair = [u64; PLAN_PAIR_WORDS];
@@ -147,9 +148,14 @@ fn entries_of(pair: &[u64]) -> &[u64] {
     }
 }
 
+/// The same PGNs in rising order, of a pair that is not cleared.
+fn rising_of(pair: &Pair) -> &[u64] {
+    &pair[RISING_AT..][..pair[1] as usize]
+}
+
 fn names_of(pair: &Pair) -> &[NameEntry] {
     match pair[0] {
-        BLOCK_NAMED.. => &pair[NAMES_AT + 1..].as_chunks().0[..pair[NAMES_AT] as usize],
+        BLOCK_NAMED.. => &pair[NAMES_AT + 1..RISING_AT].as_chunks().0[..pair[NAMES_AT] as usize],
         _ => &[],
     }
 }
@@ -166,13 +172,47 @@ fn search<T>(all: &[T], test: impl Fn(&T) -> bool) -> (bool, u64) {
     }
 }
 
+/// Whether a list in rising order has a PGN, and the probes of the middle place, the lower of two, that it takes.
+fn halve(mut left: &[u64], x: u64) -> (bool, u64) {
+    let mut probes = 0;
+    while let Some(&y) = left.get(left.len().wrapping_sub(1) / 2) {
+        probes += 1;
+        if y == x {
+            return (true, probes);
+        }
+        let (below, above) = left.split_at((left.len() - 1) / 2);
+        left = if y < x { &above[1..] } else { below };
+    }
+    (false, probes)
+}
+
+/// Puts a PGN into the first so many words, which are in rising order.
+fn insert(rising: &mut [u64], held: usize, x: u64) {
+    let mut at = held;
+    while at > 0 && rising[at - 1] > x {
+        rising[at] = rising[at - 1];
+        at -= 1;
+    }
+    rising[at] = x;
+}
+
+/// Takes the places that a mask has out of a list; how many are left.
+fn squeeze(list: &mut [u64], gone: u32) -> usize {
+    let mut kept = 0;
+    for i in 0..list.len() {
+        list[kept] = list[i];
+        kept += usize::from(gone >> i & 1 == 0);
+    }
+    kept
+}
+
 /// Why a pair lets a PGN from an address through or stops it, and the entries compared. Who is in no place of the table sends permanent PGNs alone.
 fn ask(pair: &Pair, pgn: u32, table: &[Place; PLACES], sa: usize) -> (u64, u64) {
     if pair[0] == CLEARED {
         return (reason::CLEARED, 0);
     }
     let pgn = u64::from(pgn);
-    let (mut listed, mut compared) = search(entries_of(pair), |&x| x == pgn);
+    let (mut listed, mut compared) = halve(rising_of(pair), pgn);
     if pair[0] >= BLOCK_NAMED && !listed {
         let [port, sender] = table.get(sa).copied().unwrap_or_default();
         let matches = |&[of, name, mask]: &NameEntry| of == pgn && port != 0 && (name ^ sender) & mask == 0;
@@ -260,7 +300,9 @@ fn add(pairs: &mut [Pair], body: &[u8]) -> Result<(), Refusal> {
     for (pair, fresh) in pairs.iter_mut().zip(fresh) {
         for (i, &x) in pgns.iter().enumerate() {
             if fresh >> i & 1 == 1 {
-                pair[2 + pair[1] as usize] = x;
+                let held = pair[1] as usize;
+                insert(&mut pair[RISING_AT..], held, x);
+                pair[2 + held] = x;
                 pair[1] += 1;
             }
         }
@@ -284,15 +326,14 @@ fn delete(pairs: &mut [Pair], to: impl Iterator<Item = usize>, body: &[u8]) -> R
         }
     }
     for (pair, gone) in pairs.iter_mut().zip(gone) {
-        let [_, count, list @ ..] = pair;
-        let mut kept = 0;
-        for i in 0..*count as usize {
-            if gone >> i & 1 == 0 {
-                list[kept] = list[i];
-                kept += 1;
-            }
-        }
-        *count = kept as u64;
+        let held = pair[1] as usize;
+        let (list, rising) = pair.split_at_mut(RISING_AT);
+        let (list, rising) = (&mut list[2..2 + held], &mut rising[..held]);
+        let places = (0..held).filter(|at| gone >> at & 1 == 1);
+        let sorted = places.filter_map(|at| rising.iter().position(|&x| x == list[at]));
+        let sorted = sorted.fold(0, |mask, at| mask | 1 << at);
+        squeeze(rising, sorted);
+        pair[1] = squeeze(list, gone) as u64;
     }
     Ok(())
 }
@@ -305,10 +346,15 @@ fn create(pairs: &mut [Pair], mode: u8, body: &[u8]) -> Result<(), Refusal> {
         return Err(14.into());
     }
     let (pgns, held) = different(body)?;
+    let mut rising = [0; LIST];
+    for (i, &x) in pgns[..held].iter().enumerate() {
+        insert(&mut rising, i, x);
+    }
     for pair in pairs {
         pair[0] = BLOCK + u64::from(mode);
         pair[1] = held as u64;
         pair[2..2 + held].copy_from_slice(&pgns[..held]);
+        pair[RISING_AT..][..held].copy_from_slice(&rising[..held]);
     }
     Ok(())
 }

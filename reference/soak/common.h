@@ -158,25 +158,58 @@ static int is_block(uint64_t mode)
     return mode == BLOCK || mode == BLOCK_NAMED;
 }
 
+/* The probes of a list, of whatever words: of a PGN that was absent, and of one that was found. */
+enum { MOST_PROBES = 6 };
+static uint64_t probed[2][MOST_PROBES + 1];
+
+/* Whether the halving rule finds a PGN in a pair's words in rising order, and by how many probes: each is the middle place of those left, the lower of two. */
+static int halves_to(const uint64_t *pair, uint64_t pgn, uint64_t *probes)
+{
+    uint64_t from = RISING_AT, to = RISING_AT + at_most(pair[1], LIST);
+    int found = 0;
+    *probes = 0;
+    while (from < to && !found) {
+        uint64_t middle = (from + to - 1) / 2;
+        ++*probes;
+        found = pair[middle] == pgn;
+        if (pair[middle] < pgn)
+            from = middle + 1;
+        else
+            to = middle;
+    }
+    check(*probes <= MOST_PROBES, "a list of more than 32");
+    return found;
+}
+
+static void print_probes(void)
+{
+    for (int found = 0; found < 2; found++) {
+        printf("lists looked up, the PGN %s, by probes:", found ? "found" : "absent");
+        for (int probes = 0; probes <= MOST_PROBES; probes++)
+            printf("  %d: %" PRIu64, probes, probed[found][probes]);
+        printf("\n");
+    }
+}
+
 /* How often a NAME entry listed a frame, in block and in pass; and how often one was added, was there already, and was the ninth. */
 static uint64_t by_name[2], names_added, names_there, names_ninth;
 
 /* What a pair's words and the table's say of a PGN from an address; the entries that are compared are added. */
 static enum deorasaeng_reason due_reason(const uint64_t *record, const uint64_t *pair, uint32_t pgn, uint32_t source, uint64_t *compared)
 {
-    uint64_t count = at_most(pair[1], LIST), names = names_of(pair), i = 0, j = 0;
+    uint64_t names = names_of(pair), j = 0, probes;
     const uint64_t *place = record + TABLE_AT + PLACE_WORDS * source;
     if (is_permanent(pgn))
         return DEORASAENG_REASON_PERMANENT;
     if (pair[0] == CLEARED)
         return DEORASAENG_REASON_CLEARED;
-    while (i < count && pair[2 + i] != pgn)
-        i++;
-    while (i == count && j < names && !(place[0] != 0 && name_at(pair, j)[0] == pgn && ((name_at(pair, j)[1] ^ place[1]) & name_at(pair, j)[2]) == 0))
+    int found = halves_to(pair, pgn, &probes);
+    probed[found][probes]++;
+    while (!found && j < names && !(place[0] != 0 && name_at(pair, j)[0] == pgn && ((name_at(pair, j)[1] ^ place[1]) & name_at(pair, j)[2]) == 0))
         j++;
-    int listed = i < count || j < names;
-    *compared += i < count ? i + 1 : count + (j < names ? j + 1 : names);
-    by_name[!is_block(pair[0])] += i == count && listed;
+    int listed = found || j < names;
+    *compared += probes + (found ? 0 : j < names ? j + 1 : names);
+    by_name[!is_block(pair[0])] += !found && listed;
     if (is_block(pair[0]))
         return listed ? DEORASAENG_REASON_STOPPED_AS_LISTED : DEORASAENG_REASON_NOT_LISTED_IN_BLOCK;
     return listed ? DEORASAENG_REASON_LISTED_IN_PASS : DEORASAENG_REASON_STOPPED_AS_NOT_LISTED;
@@ -436,6 +469,7 @@ static void check_name_entry(uint32_t number, const uint8_t *payload, size_t len
     names_added++;
     check(pair[0] >= BLOCK_NAMED && is_block(pair[0]) == is_block(old[0]) && names_of(pair) == names + 1, "one NAME entry more");
     check(memcmp(pair + 1, old + 1, (NAMES_AT - 1) * sizeof *pair) == 0, "function 7 changed the list");
+    check(memcmp(pair + RISING_AT, old + RISING_AT, LIST * sizeof *pair) == 0, "function 7 changed the list in rising order");
     check(memcmp(name_at(pair, 0), name_at(old, 0), NAME_WORDS * names * sizeof *pair) == 0, "function 7 changed another NAME entry");
     check(memcmp(name_at(pair, names), entry, sizeof entry) == 0, "another NAME entry than was sent");
 }

@@ -76,6 +76,20 @@ static size_t some_size(size_t right, uint32_t most)
     }
 }
 
+/* The words in rising order: those of the list, others, or left any. */
+static void fill_rising(uint64_t *pair)
+{
+    uint64_t *rising = pair + RISING_AT;
+    uint32_t kind = below(4);
+    for (int j = 0; j < LIST && kind != 0; j++) {
+        uint64_t pgn = kind == 1 ? some_pgn() : pair[2 + j];
+        int k = j;
+        for (; k > 0 && rising[k - 1] > pgn && (kind != 1 || below(16) != 0); k--)
+            rising[k] = rising[k - 1];
+        rising[k] = pgn;
+    }
+}
+
 /* A record whose claim state is one of the four, whose modes, lists, NAME entries and queues are likely or of likely lengths, of whose counts some are likely or the last before
    2^64, and of whose counters of losses some are near the most. */
 static void fill_record(uint64_t *record, uint32_t likely, size_t length)
@@ -91,11 +105,12 @@ static void fill_record(uint64_t *record, uint32_t likely, size_t length)
         for (int j = 0; j < LIST; j++)
             pair[2 + j] = some_pgn();
         pair[NAMES_AT] = below(8) ? below(NAMES + 4) : next();
-        for (uint64_t *name = pair + NAMES_AT + 1; name < pair + PAIR_WORDS; name += NAME_WORDS) {
+        for (uint64_t *name = pair + NAMES_AT + 1; name < pair + RISING_AT; name += NAME_WORDS) {
             name[0] = below(2) ? 0xF000 + below(4) : some_pgn();
             name[1] = some_near_name();
             name[2] = some_mask();
         }
+        fill_rising(pair);
     }
     for (uint32_t port = 1; port <= likely; port++) {
         uint64_t *queue = record + DEORASAENG_QUEUE_AT(port);
@@ -376,7 +391,7 @@ static void fuzz(void)
         return;
     }
     uint32_t likely = kind == POWER_ON && below(2) ? USUAL_PORTS : FEWEST_PORTS + below(7);
-    size_t length = kind == TAKE_QUEUE ? DEORASAENG_QUEUE_WORDS : some_size(DEORASAENG_RECORD_WORDS_FOR(likely), 5000);
+    size_t length = kind == TAKE_QUEUE ? DEORASAENG_QUEUE_WORDS : some_size(DEORASAENG_RECORD_WORDS_FOR(likely), 7000);
     uint64_t *record = some_record(length, likely);
     switch (kind) {
     case POWER_ON: judge(kind, deorasaeng_power_on(record, length, next(), (uint32_t)next()), 1, length == DEORASAENG_RECORD_WORDS); break;
@@ -403,6 +418,7 @@ int main(int argc, char **argv)
     print_counts();
     print_losses();
     print_names();
+    print_probes();
     printf("%" PRIu64 " buffers of no length were null\n", nulls);
     printf("%" PRIu64 " fuzzed calls from seed %s: every check held\n", calls, argc > 1 ? argv[1] : "1");
     return 0;

@@ -259,6 +259,22 @@ static void check_absent(const uint8_t *payload, size_t length)
     later_pair += (payload[1] & 15) == 15 && to > 1u + (from == 1);
 }
 
+/* The words in rising order of every pair that a command names are strictly rising and the PGNs of its list. */
+static void check_order(const uint8_t *payload)
+{
+    uint32_t from = payload[1] >> 4, named = payload[1] & 15;
+    for (uint32_t to = 1; to <= ports; to++) {
+        if (to == from || (named != 15 && named != to))
+            continue;
+        const uint64_t *pair = pair_of(record, from, to), *rising = pair + RISING_AT;
+        uint64_t probes;
+        for (uint64_t i = 0; i < pair[1] && pair[0] != CLEARED; i++) {
+            check(i == 0 || rising[i - 1] < rising[i], "a list that does not rise");
+            check(halves_to(pair, pair[2 + i], &probes), "a PGN that is not among those in rising order");
+        }
+    }
+}
+
 /* A list's command changes no counter; a message of parameters no list. */
 static void check_parameters(uint32_t number, uint32_t port, size_t length)
 {
@@ -297,6 +313,8 @@ static void message(void)
         check_name_entry(number, handed_in, length, record, before, answer);
     if (number == DEORASAENG_PGN_ABSENT)
         check_absent(handed_in, length);
+    if (number == 0 && (handed_in[0] == 2 || handed_in[0] == 3 || handed_in[0] == 6))
+        check_order(handed_in);
     if (pgn == 60672)
         check(number == 0 && written >= 8 && written <= 256, "a reply");
     else if (pgn == 59392)
@@ -396,6 +414,7 @@ int main(int argc, char **argv)
     print_counts();
     print_losses();
     print_names();
+    print_probes();
     printf("17 at an entry behind the first %" PRIu64 ", at a pair of all behind the first %" PRIu64 "\n", later_entry, later_pair);
     printf("counts of a full queue %" PRIu64 ", of an empty one %" PRIu64 "\n", counts_of_full, counts_of_none);
     printf("%" PRIu64 " calls from seed %s, %" PRIu64 " with port 1 full: every check held\n", calls, argc > 1 ? argv[1] : "1", full);

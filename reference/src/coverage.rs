@@ -6,6 +6,7 @@ use std::ops::RangeInclusive;
 use crate::address::{is_claim, is_request_for_address_claimed, name_of, ClaimState, Event, StartAnswer};
 use crate::counts::{recount, Counts};
 use crate::frame::{self, is_pgn, Frame, PERMANENT};
+use crate::halving::{probes, rising};
 use crate::message::{entries, entry_places, name_entry, MessageAnswer, WrongEntry, NAME_PAYLOAD};
 use crate::names::{first_match, NameEntry, MOST_NAMES};
 use crate::pair::{added, Pair, Reason, LONGEST_LIST};
@@ -168,6 +169,27 @@ pub const NAME_LENGTHS: RangeInclusive<usize> = 8..=30;
 pub const MASK_BITS: RangeInclusive<usize> = 0..=63;
 pub const NAME_PLACES: RangeInclusive<usize> = 1..=MOST_NAMES;
 
+/// The further rows of lists that are looked up by halving.
+pub const HALVED: [&str; 10] = [
+    "list in rising order of addition looked up",
+    "list in falling order of addition looked up",
+    "list in another order of addition looked up",
+    "absent PGN below the first of a list",
+    "absent PGN above the last of a list",
+    "absent PGN between two of a list",
+    "list that Add has grown looked up",
+    "list that Delete has shrunk looked up",
+    "absent PGN probed, then a NAME entry matches",
+    "permanent PGN at a list that is not empty",
+];
+
+/// The lengths of lists that are looked up; the places in rising order where a PGN is found, and how many are below one that is absent; the probes for either.
+pub const LIST_LENGTHS: RangeInclusive<usize> = 0..=LONGEST_LIST;
+pub const LIST_PLACES: RangeInclusive<usize> = 1..=LONGEST_LIST;
+pub const LIST_GAPS: RangeInclusive<usize> = 0..=LONGEST_LIST;
+pub const PROBES_FOUND: RangeInclusive<usize> = 1..=6;
+pub const PROBES_ABSENT: RangeInclusive<usize> = 0..=6;
+
 /// The rows that only a script reaches whose counters stay (`generate::storms`).
 pub const AT_THE_MOST: [&str; 6] = [
     "losses of a pair told at the most",
@@ -211,6 +233,9 @@ pub struct Coverage {
     losing: BTreeSet<u32>,
     /// The pairs of the unit whose NAME entries were cleared.
     emptied: BTreeSet<(u32, u32)>,
+    /// The pairs of the unit whose list has grown by an Add, or shrunk by a Delete.
+    grown: BTreeSet<(u32, u32)>,
+    shrunk: BTreeSet<(u32, u32)>,
     /// The NAMEs of the unit's table that withdrew from an address or were displaced there, by the address.
     gone: BTreeMap<u32, (u64, &'static str)>,
     longest_queue: usize,
@@ -258,6 +283,8 @@ impl Coverage {
         if matches!(call, Call::PowerOn { .. }) {
             self.losing.clear();
             self.emptied.clear();
+            self.grown.clear();
+            self.shrunk.clear();
             self.gone.clear();
         }
         let Some(before) = before else { return };
@@ -271,6 +298,7 @@ impl Coverage {
                 let frame = Frame { id: *id, bytes: bytes.clone() };
                 self.count_frame(before, *port, &frame, answer);
                 self.count_by_name(before, *port, &frame, answer);
+                self.count_look_ups(before, *port, &frame, answer);
                 self.note_gone(before, &frame, answer);
                 self.count_losses(before, *port, &answer.lost, &answer.own_lost);
             }
@@ -447,6 +475,49 @@ impl Coverage {
             let one = frame::pf(frame.id) < 240 && frame::ps(frame.id) != frame::GLOBAL;
             self.add_if(one, "listed by NAME, sent to one address");
         }
+    }
+
+    /// A frame at the pairs that have a list.
+    fn count_look_ups(&mut self, before: &Unit, port: u32, frame: &Frame, answer: &FrameAnswer) {
+        let pgn = frame::pgn(frame.id);
+        let asked = if answer.consumed { vec![] } else { before.other_ports(port) };
+        for to in asked.into_iter().filter(|to| !before.pairs[&(port, *to)].is_cleared()) {
+            let list = before.pairs[&(port, to)].entries();
+            if PERMANENT.contains(&pgn) {
+                self.add_if(!list.is_empty(), "permanent PGN at a list that is not empty");
+                continue;
+            }
+            let below = list.iter().filter(|&&listed| listed < pgn).count();
+            let made = probes(list, pgn);
+            self.add(&format!("lists looked up of length {}", list.len()));
+            if list.contains(&pgn) {
+                self.add(&format!("listed PGN found at place {}", below + 1));
+                self.add(&format!("listed PGN by probes {made}"));
+            } else {
+                self.add(&format!("absent PGN above so many {below}"));
+                self.add(&format!("absent PGN by probes {made}"));
+                self.add_if(!list.is_empty() && below == 0, "absent PGN below the first of a list");
+                self.add_if(!list.is_empty() && below == list.len(), "absent PGN above the last of a list");
+                self.add_if((1..list.len()).contains(&below), "absent PGN between two of a list");
+                self.add_if(made > 0 && answer.by_name.contains(&to), "absent PGN probed, then a NAME entry matches");
+            }
+            self.count_order(list);
+            self.add_if(self.grown.contains(&(port, to)), "list that Add has grown looked up");
+            self.add_if(self.shrunk.contains(&(port, to)), "list that Delete has shrunk looked up");
+        }
+    }
+
+    /// The order of addition of a list that is looked up.
+    fn count_order(&mut self, list: &[u32]) {
+        if list.len() < 2 {
+            return;
+        }
+        let sorted = rising(list);
+        self.add(match list {
+            _ if list == sorted => "list in rising order of addition looked up",
+            _ if list.iter().eq(sorted.iter().rev()) => "list in falling order of addition looked up",
+            _ => "list in another order of addition looked up",
+        });
     }
 
     /// A sender that no NAME entry matches, though one has the PGN.
@@ -685,6 +756,11 @@ impl Coverage {
             let (old, new) = (before.pairs[pair].entries().len(), list.entries().len());
             self.add_if(old != new && new == LONGEST_LIST, "list of exactly 32 reached");
             self.add_if(function == 3 && old != 0 && new == 0, "list emptied by Delete");
+            match function {
+                2 if old < new => self.grown.insert(*pair),
+                3 if old > new => self.shrunk.insert(*pair),
+                _ => list.is_cleared() && (self.grown.remove(pair) | self.shrunk.remove(pair)),
+            };
         }
     }
 
@@ -732,7 +808,12 @@ impl Coverage {
         lines.push(self.places_of("function 7 of length", NAME_LENGTHS, ""));
         lines.push(self.places_of("masks of bit", MASK_BITS, ""));
         lines.push(self.places_of("matched NAME entry", NAME_PLACES, ""));
-        for row in DEEP.iter().chain(&NAMED).chain(&AT_THE_MOST) {
+        lines.push(self.places_of("lists looked up of length", LIST_LENGTHS, ""));
+        lines.push(self.places_of("listed PGN found at place", LIST_PLACES, ""));
+        lines.push(self.places_of("absent PGN above so many", LIST_GAPS, ""));
+        lines.push(self.places_of("listed PGN by probes", PROBES_FOUND, ""));
+        lines.push(self.places_of("absent PGN by probes", PROBES_ABSENT, ""));
+        for row in DEEP.iter().chain(&NAMED).chain(&HALVED).chain(&AT_THE_MOST) {
             lines.push(format!("{row}: {}", self.reached(row)));
         }
         lines.push(format!("function bytes answered: {} of 256", self.functions.len()));

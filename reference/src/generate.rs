@@ -2,6 +2,7 @@
 
 use crate::address::ClaimState;
 use crate::frame::{is_pgn, HIGHEST_ADDRESS, PERMANENT};
+use crate::halving::rising;
 use crate::names::NameEntry;
 use crate::parameters::MOST_LOSSES;
 use crate::script::{apply, Call};
@@ -635,7 +636,7 @@ impl Generator {
 // Messages.
 impl Generator {
     fn message(&mut self) {
-        match self.random.below(38) {
+        match self.random.below(39) {
             0..=9 => self.command(),
             10..=11 => self.fill_list(),
             12 => self.all_pairs(),
@@ -651,6 +652,7 @@ impl Generator {
             29..=32 => self.parameters(),
             33..=35 => self.names_of_a_pair(),
             36 => self.wrong_names(),
+            37 => self.looked_up_list(),
             _ => self.absent_entries(),
         }
     }
@@ -801,6 +803,61 @@ impl Generator {
             self.hand_in(port, payload(3, byte, 0, &entries[..1]));
         }
         self.permanent(from);
+    }
+
+    /// A list of PGNs at random, added in rising, falling or any order, piece by piece from none to its length, and deleted in another order; after each piece
+    /// frames that look it up.
+    fn looked_up_list(&mut self) {
+        let from = self.some_port();
+        let to = self.some_other_port(from);
+        let (port, byte) = (self.random.pick(&[1, from, to]), pair_byte(from, to));
+        let count = self.random.pick(&[1, 2, 3, 5, 12, 31, 32, 32, 32]);
+        let mut list = self.scattered_pgns(count);
+        match self.random.below(3) {
+            0 => list.sort_unstable(),
+            1 => list.sort_unstable_by(|one, other| other.cmp(one)),
+            _ => {}
+        }
+        self.hand_in(port, payload(4, byte, 0, &[]));
+        let (mode, piece) = (self.random.pick(&[0, 1]), self.random.pick(&[1, 3, 8, 31, 32]));
+        for (place, pgns) in list.chunks(piece).enumerate() {
+            self.hand_in(port, payload(if place == 0 { 6 } else { 2 }, byte, mode, pgns));
+            (0..4).for_each(|_| self.look_up((from, to)));
+        }
+        let (turned, piece) = (self.random.below(count as u32) as usize, self.random.pick(&[1, 3, 8, 31]));
+        list.rotate_left(turned);
+        for pgns in list.chunks(piece).take(8) {
+            self.hand_in(port, payload(3, byte, 0, pgns));
+            (0..4).for_each(|_| self.look_up((from, to)));
+        }
+    }
+
+    /// So many different PGNs of the whole range, or close to one another.
+    fn scattered_pgns(&mut self, count: usize) -> Vec<u32> {
+        let (base, width) = self.random.pick(&[(0, 1 << 18), (0, 1 << 18), (0xF000, 64), (0x3FF00, 256)]);
+        let mut pgns = Vec::new();
+        while pgns.len() < count {
+            let number = base + self.random.below(width);
+            let pgn = if is_pgn(number) { number } else { number & 0x3FF00 };
+            if !pgns.contains(&pgn) {
+                pgns.push(pgn);
+            }
+        }
+        pgns
+    }
+
+    /// A frame of a PGN that the pair lists, of one beside it, below its first or above its last in rising order, or of any.
+    fn look_up(&mut self, pair: (u32, u32)) {
+        let sorted = rising(self.unit.pairs[&pair].entries());
+        let (any, ps, sa) = (self.random.below(1 << 18), self.some_ps(), self.some_sa());
+        let (first, last) = (sorted.first().copied().unwrap_or(any), sorted.last().copied().unwrap_or(any));
+        let listed = if sorted.is_empty() { any } else { self.random.pick(&sorted) };
+        let (below, above) = (self.random.below(first + 1), last + self.random.below((1 << 18) - last));
+        let beside = self.random.pick(&[listed.saturating_sub(1), (listed + 1).min(0x3FFFF)]);
+        let number = self.random.pick(&[listed, listed, listed, beside, beside, below, above, last, any]);
+        let pgn = if is_pgn(number) { number } else { number & 0x3FF00 };
+        let priority = self.random.below(8);
+        self.send(pair.0, priority, pgn, ps, sa, vec![]);
     }
 
     fn function_sweep(&mut self) {

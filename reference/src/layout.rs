@@ -32,12 +32,13 @@ pub const QUEUES_AT: usize = TABLE_AT + PLACE_WORDS * PLACES;
 pub const COUNTS_AT: usize = 1;
 pub const FRAMES_AT: usize = COUNTS_AT + COUNTS_ANSWER;
 pub const QUEUE_WORDS: usize = FRAMES_AT + 2 * QUEUE;
-/// A pair: its mode, its count, its list; behind that how many NAME entries it has, and for each its PGN, NAME and mask.
+/// A pair: its mode, its count, its list; behind that how many NAME entries it has, for each its PGN, NAME and mask, and the list in rising order.
 pub const NAMES_AT: usize = 2 + LIST;
 pub const NAME_WORDS: usize = 3;
-pub const PAIR_WORDS: usize = NAMES_AT + 1 + NAME_WORDS * NAMES;
+pub const RISING_AT: usize = NAMES_AT + 1 + NAME_WORDS * NAMES;
+pub const PAIR_WORDS: usize = RISING_AT + LIST;
 
-/// The mode word of a pair: 0 cleared, 1 block, 2 pass; from 3 on with NAME entries, 3 block and all above it pass. Below 3 the words behind the list mean nothing.
+/// The mode word of a pair: 0 cleared, 1 block, 2 pass; from 3 on with NAME entries, 3 block and all above it pass. Below 3 the words of NAME entries mean nothing.
 pub const BLOCK: u64 = 1;
 pub const PASS: u64 = 2;
 pub const BLOCK_NAMED: u64 = 3;

@@ -3,6 +3,7 @@
 
 pub mod frame;
 pub mod pair;
+pub mod halving;
 pub mod names;
 pub mod unit;
 pub mod counts;

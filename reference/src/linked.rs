@@ -10,6 +10,7 @@ compile_error!("lengths have 64 bits in the library");
 use std::ops::Range;
 
 use crate::frame::{Frame, NULL};
+use crate::halving::rising;
 use crate::layout::*;
 use crate::names::NameEntry;
 use crate::pair::Pair;
@@ -240,20 +241,26 @@ fn read_pair(block: &[u64]) -> (Pair, Vec<NameEntry>) {
         _ => Pair::Pass(entries),
     };
     let named = if block[0] < BLOCK_NAMED { 0 } else { block[NAMES_AT].min(NAMES as u64) as usize };
-    let names = block[NAMES_AT + 1..].chunks(NAME_WORDS).take(named);
+    let names = block[NAMES_AT + 1..RISING_AT].chunks(NAME_WORDS).take(named);
     (pair, names.map(|words| NameEntry { pgn: words[0] as u32, name: words[1], mask: words[2] }).collect())
 }
 
-/// The pairs in order of From, then To.
+/// The pairs in order of From, then To; behind the NAME entries the list in rising order.
 fn pairs_difference(words: &[u64], unit: &Unit) -> Option<String> {
     let mut blocks = words.chunks(PAIR_WORDS);
     for from in unit.all_ports() {
         for to in unit.other_ports(from) {
-            let (pair, names) = read_pair(blocks.next()?);
+            let block = blocks.next()?;
+            let (pair, names) = read_pair(block);
             let (expected, expected_names) = (&unit.pairs[&(from, to)], &unit.names[&(from, to)]);
             if (&pair, &names) != (expected, expected_names) {
                 let found = format!("{pair:?} {names:X?}");
                 return Some(format!("pair {from} to {to}: {found}, expected {expected:?} {expected_names:X?}"));
+            }
+            let sorted: Vec<u64> = rising(expected.entries()).into_iter().map(u64::from).collect();
+            let found = &block[RISING_AT..][..sorted.len()];
+            if found != sorted {
+                return Some(format!("pair {from} to {to}: {found:?} in rising order, expected {sorted:?}"));
             }
         }
     }

@@ -1,6 +1,8 @@
-//! A directed pair of ports and its filter list ("Forwarding", rules 2 and 5); `names` has what is beside the list.
+//! A directed pair of ports and its filter list ("Forwarding", rules 2 and 5); `halving` has the count of a look-up in
+//! it, `names` what is beside it.
 
 use crate::frame::PERMANENT;
+use crate::halving::probes;
 use crate::names::{first_match, NameEntry};
 
 /// The longest filter list.
@@ -40,7 +42,7 @@ impl Reason {
 #[derive(Clone, Copy, Debug, PartialEq, Eq)]
 pub struct Asked {
     pub reason: Reason,
-    /// How many entries were compared.
+    /// How many entries were compared: probes of the list, then NAME entries.
     pub compared: usize,
     /// Whether it counts as listed by a NAME entry.
     pub by_name: bool,
@@ -91,11 +93,12 @@ impl Pair {
         if PERMANENT.contains(&pgn) {
             return Asked { reason: Reason::Permanent, compared: 0, by_name: false };
         }
-        if let Some(index) = self.entries().iter().position(|&listed| listed == pgn) {
-            return Asked { reason: self.reason(true), compared: index + 1, by_name: false };
+        let compared = probes(self.entries(), pgn);
+        if self.entries().contains(&pgn) {
+            return Asked { reason: self.reason(true), compared, by_name: false };
         }
         let place = first_match(names, pgn, sender);
-        let compared = self.entries().len() + place.unwrap_or(names.len());
+        let compared = compared + place.unwrap_or(names.len());
         Asked { reason: self.reason(place.is_some()), compared, by_name: place.is_some() }
     }
 

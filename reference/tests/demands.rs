@@ -7,8 +7,9 @@ use std::collections::BTreeMap;
 use common::*;
 use reference::address::{ClaimState, Holder};
 use reference::coverage::{
-    Coverage, ABSENT_PAIRS, ABSENT_PLACES, BY_FUNCTION, DEEP, DESTINATIONS, EVENTS, LENGTHS, LETTERS, MASK_BITS, MODES,
-    NAMED, NAME_LENGTHS, NAME_PLACES, PRIORITIES, STATES, WAITING, WRONG_PLACES,
+    Coverage, ABSENT_PAIRS, ABSENT_PLACES, BY_FUNCTION, DEEP, DESTINATIONS, EVENTS, HALVED, LENGTHS, LETTERS,
+    LIST_GAPS, LIST_LENGTHS, LIST_PLACES, MASK_BITS, MODES, NAMED, NAME_LENGTHS, NAME_PLACES, PRIORITIES,
+    PROBES_ABSENT, PROBES_FOUND, STATES, WAITING, WRONG_PLACES,
 };
 use reference::frame::{pgn, priority, Frame, PERMANENT};
 use reference::generate::{generate, Random};
@@ -344,7 +345,18 @@ fn generator_reaches_deep_states() {
     }
     assert!(MASK_BITS.clone().all(|bit| coverage.reached(&format!("masks of bit {bit}")) > 0));
     assert!(NAME_PLACES.clone().all(|place| coverage.reached(&format!("matched NAME entry {place}")) > 0));
-    for row in DEEP.iter().chain(&NAMED) {
+    for (row, places) in [
+        ("lists looked up of length", LIST_LENGTHS),
+        ("listed PGN found at place", LIST_PLACES),
+        ("absent PGN above so many", LIST_GAPS),
+        ("listed PGN by probes", PROBES_FOUND),
+        ("absent PGN by probes", PROBES_ABSENT),
+    ] {
+        for place in places {
+            assert!(coverage.reached(&format!("{row} {place}")) > 0, "{row} {place}");
+        }
+    }
+    for row in DEEP.iter().chain(&NAMED).chain(&HALVED) {
         assert!(coverage.reached(row) > 0, "{row}");
     }
 }

@@ -155,16 +155,17 @@ fn the_table_before_the_frame() {
     assert_eq!(frame(&mut unit, 2, 0x19EEFF83, &FIRST.to_le_bytes()).reasons[0], Some(ListedInPass));
 }
 
-/// Rule 5: the list, and behind it the NAME entries up to the first match; none of them where the list has the PGN.
+/// Rule 5: the probes of the list, and behind them the NAME entries up to the first match; none of them where the list has the PGN.
+/// Above a list of five there are three probes, and one for the PGN in its middle.
 #[test]
 fn compared() {
     let mut names: Vec<NameEntry> = (0..7).map(|place| entry(RATE + 1 + place, 0, 0)).collect();
     for place in 1..=8 {
         names.insert(place - 1, entry(RATE, FIRST, u64::MAX));
         let mut unit = with_names(Pair::Pass(pgns(5)), &names);
-        assert_eq!(asked(&mut unit, RATE, 0x81), (ListedInPass, 5 + place, true));
-        assert_eq!(asked(&mut unit, RATE, 0x82), (StoppedAsNotListed, 13, false));
-        assert_eq!(asked(&mut unit, 61442, 0x81), (ListedInPass, 3, false));
+        assert_eq!(asked(&mut unit, RATE, 0x81), (ListedInPass, 3 + place, true));
+        assert_eq!(asked(&mut unit, RATE, 0x82), (StoppedAsNotListed, 3 + 8, false));
+        assert_eq!(asked(&mut unit, 61442, 0x81), (ListedInPass, 1, false));
         assert_eq!(asked(&mut unit, 60928, 0x81), (Permanent, 0, false));
         assert_eq!(asked(&mut unit, 59904, 0x81), (Permanent, 0, false));
         names.remove(place - 1);
@@ -184,7 +185,7 @@ fn added_over_the_pairs() {
     unit.names.insert((2, 3), vec![entry(RATE, SECOND, u64::MAX), entry(RATE, FIRST, u64::MAX)]);
     let answer = send(&mut unit, 2, RATE, 0x81);
     assert_eq!(answer.reasons, [Some(ListedInPass), None, Some(StoppedAsListed), Some(Cleared)]);
-    assert_eq!((answer.compared, answer.by_name, answer.accepted), (2 + 1 + 3 + 2, vec![1, 3], vec![1, 4]));
+    assert_eq!((answer.compared, answer.by_name, answer.accepted), (2 + 1 + 2 + 2, vec![1, 3], vec![1, 4]));
 }
 
 /// A match crosses under rule 3: with 32 waiting the frame is lost, and counted.

@@ -182,9 +182,9 @@ fn point_107_and_117_compared_counts_every_pair_asked() {
     fill(&mut unit, 2, 32);
     fill(&mut unit, 4, 32);
     let answer = frame(&mut unit, 1, 0x18F00600, &[]);
-    assert_eq!((answer.accepted, answer.lost, answer.compared), (vec![], vec![2, 4], 5 + 7));
+    assert_eq!((answer.accepted, answer.lost, answer.compared), (vec![], vec![2, 4], 3 + 3));
     let answer = frame(&mut unit, 1, 0x18F00400, &[]);
-    assert_eq!((answer.accepted, answer.lost, answer.compared), (vec![], vec![4], 5 + 5));
+    assert_eq!((answer.accepted, answer.lost, answer.compared), (vec![], vec![4], 3 + 3));
 }
 
 #[test]

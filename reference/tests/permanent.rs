@@ -74,8 +74,8 @@ fn page_bits_make_another_pgn() {
                 (Pair::Pass(vec![]), false, 0),
                 (Pair::Pass(vec![pgn]), false, 1),
                 (Pair::Pass(vec![pgn, paged]), true, 2),
-                (Pair::Block(vec![paged, pgn]), false, 1),
-                (Pair::Block(vec![pgn]), true, 1),
+                (Pair::Block(vec![paged, pgn]), false, 2),
+                (Pair::Block(vec![pgn, 0]), true, 2),
             ] {
                 let answer = frame(&mut with_pairs(4, &pair), 1, id, &[0x00, 0xEE, 0x00]);
                 assert_eq!(answer.accepted, if permitted { vec![2, 3, 4] } else { vec![] }, "{pair:?}");
@@ -177,12 +177,12 @@ fn listed_without_effect() {
     }
 }
 
-/// A listed one keeps its place, which other PGNs are compared with.
+/// A listed one has its place in rising order, where other PGNs are compared with it.
 #[test]
 fn listed_ones_are_compared_with_other_pgns() {
     let mut unit = claimed();
     set(&mut unit, 1, 2, Pair::Pass(vec![60928, 59904, 65265]));
-    assert_eq!(frame(&mut unit, 1, 0x18FE_F100, &[]).compared, 3);
-    assert_eq!(frame(&mut unit, 1, 0x18FE_F200, &[]).compared, 3);
+    assert_eq!(frame(&mut unit, 1, 0x18FE_F100, &[]).compared, 2);
+    assert_eq!(frame(&mut unit, 1, 0x18FE_F200, &[]).compared, 2);
     assert_eq!(frame(&mut unit, 1, 0x18EE_FF00, &[]).compared, 0);
 }

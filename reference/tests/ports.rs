@@ -111,7 +111,7 @@ fn to_15_is_all_pairs_of_the_count() {
     }
 }
 
-/// A frame goes to every other port; the compared counts of all its pairs are added.
+/// A frame goes to every other port; the compared counts of all its pairs are added. Its PGN is above those of the lists of 1 to 8.
 #[test]
 fn forwarding_to_every_other_port() {
     for ports in 2..=8 {
@@ -121,9 +121,9 @@ fn forwarding_to_every_other_port() {
             for &to in &others(&unit, from) {
                 set(&mut unit, from, to, Pair::Block(pgns(to)));
             }
-            let entries: u32 = others(&unit, from).iter().sum();
+            let probes: usize = others(&unit, from).iter().map(|&to| [1, 2, 2, 3, 3, 3, 3, 4][to as usize - 1]).sum();
             let answer = frame(&mut unit, from, 0x18FEF100, &[2]);
-            assert_eq!((answer.accepted, answer.compared), (others(&unit, from), entries as usize));
+            assert_eq!((answer.accepted, answer.compared), (others(&unit, from), probes));
             assert_eq!(unit.take(from), Ok(None));
             for to in others(&unit, from) {
                 let given: Vec<_> = (0..3).map(|_| unit.take(to).unwrap().map(|frame| frame.bytes)).collect();

@@ -47,7 +47,7 @@ fn forwarding_2_modes() {
         (Pair::Block(vec![61444, 0]), true, 2),
         (Pair::Pass(vec![]), false, 0),
         (Pair::Pass(vec![65265]), true, 1),
-        (Pair::Pass(vec![61444, 0, 65265]), true, 3),
+        (Pair::Pass(vec![61444, 0, 65265]), true, 2),
         (Pair::Pass(vec![61444, 0]), false, 2),
     ];
     for (pair, permitted, compared) in cases {
@@ -114,8 +114,8 @@ fn forwarding_5_compared_adds_three_pairs() {
     set(&mut unit, 1, 2, Pair::Block(pgns(32)));
     set(&mut unit, 1, 3, Pair::Pass(pgns(10)));
     set(&mut unit, 1, 4, Pair::Block(vec![65265, 61444]));
-    assert_eq!(frame(&mut unit, 1, 0x18F00400, &[]).compared, 5 + 5 + 2);
-    assert_eq!(frame(&mut unit, 1, 0x18F01F00, &[]).compared, 32 + 10 + 2);
+    assert_eq!(frame(&mut unit, 1, 0x18F00400, &[]).compared, 5 + 1 + 1);
+    assert_eq!(frame(&mut unit, 1, 0x18F01F00, &[]).compared, 6 + 4 + 2);
     assert_eq!(frame(&mut unit, 2, 0x18F00400, &[]).compared, 0);
     assert_eq!(frame(&mut unit, 1, 0x18EFC800, &[]).compared, 0);
 }

@@ -53,6 +53,12 @@ fn mornings() {
     check(include_str!("../scripts/mornings.txt"), include_str!("../scripts/mornings.out"));
 }
 
+/// Lists looked up by halving, in whatever order they were added.
+#[test]
+fn halving() {
+    check(include_str!("../scripts/halving.txt"), include_str!("../scripts/halving.out"));
+}
+
 /// One pair through its cases: listed claims, pass and block, an emptied list, a full one.
 #[test]
 fn lists() {
@@ -104,7 +110,7 @@ fn every_script_is_recorded() {
 #[test]
 fn recorded() {
     let mut script: String = file("recorded").lines().map(|name| file(&format!("{name}.txt"))).collect();
-    for call in sweep().iter().chain(&generate(1325, 9000)) {
+    for call in sweep().iter().chain(&generate(1353, 9000)) {
         script += &(write_call(call) + "\n");
     }
     script += "T 1";

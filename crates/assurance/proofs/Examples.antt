@@ -1,8 +1,9 @@
 -- The table of examples, each by computing. Assumes nothing.
 use mathlib.Core.Path.{refl}
-use Rattle.filter.specs.Filter.{asked, isPermanent, reasonOf, place, reportedMode, isCleared}
+use Rattle.filter.specs.Filter.{asked, isPermanent, reasonOf, reportedMode, isCleared}
 use Rattle.entries.specs.Entries.{listed, entriesOf, every, leading, firstWrong, reported}
 use Rattle.pgn_list.specs.PgnList.{addOne, addAll}
+use Rattle.sorted_list.specs.SortedList.{halvingIn, halved, putOne, putAll}
 use Rattle.queue.specs.Queue.{countedIn, countedOut}
 use Rattle.filter_commands.specs.Changes.{wouldPass, mayCreate, modeFor, created}
 use Rattle.network_message.specs.Decoding.{isKnown, isGeneral, holdsParameter, mayBeAll, isPair, namesPorts, mayName, isFilling, entriesEnd, holdsEntries, hasGoodBody, wrongIn, wrongEntry, hasWrongMode, refusalOf, judged, commandOf, decoded}
@@ -27,7 +28,7 @@ use Rattle.demand_3.specs.Demand3.{answer}
 use Rattle.assurance.specs.Examples.{Examples}
 
 pub examples : Examples
-unfolding pairCount countedIn countedOut frameAnswer frameRefusal takeAnswer takeRefusal isPort answer next refusal performed restAfter lossesAfter inTurn asks sends frameActed isClaim isRequest isRequestToUnit sentWithoutAddress pgnOf destinationOf wrongSource framePassed mask total digits offered consumes isOwn verdict asked anyMatch placeIn nameAt nameIn isPermanent reasonOf listed place messaged messageRefusal decoded judged refusalOf isKnown isGeneral holdsParameter namesPorts isPair mayBeAll mayName hasGoodBody holdsEntries entriesEnd isFilling wrongIn wrongEntry firstWrong leading entriesOf every packed isPgn hasWrongMode commandOf performedBy absentTold listRefusal listChecks anyNamed anyBelow names holdsOf isCleared wouldPass addAll addOne commanded changeNamed each changeOf created mayCreate modeFor acknowledgment controlOf listReply filled listBody reportedMode reported bytesOf
+unfolding pairCount countedIn countedOut frameAnswer frameRefusal takeAnswer takeRefusal isPort answer next refusal performed restAfter lossesAfter inTurn asks sends frameActed isClaim isRequest isRequestToUnit sentWithoutAddress pgnOf destinationOf wrongSource framePassed mask total digits offered consumes isOwn verdict asked anyMatch placeIn nameAt nameIn isPermanent reasonOf listed halved halvingIn putOne putAll messaged messageRefusal decoded judged refusalOf isKnown isGeneral holdsParameter namesPorts isPair mayBeAll mayName hasGoodBody holdsEntries entriesEnd isFilling wrongIn wrongEntry firstWrong leading entriesOf every packed isPgn hasWrongMode commandOf performedBy absentTold listRefusal listChecks anyNamed anyBelow names holdsOf isCleared wouldPass addAll addOne commanded changeNamed each changeOf created mayCreate modeFor acknowledgment controlOf listReply filled listBody reportedMode reported bytesOf
 examples = record {
   p1 = (refl, refl);
   p2 = (refl, refl);

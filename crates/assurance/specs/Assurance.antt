@@ -10,6 +10,7 @@ use Rattle.demand_2.specs.Demand2.{Demand2}
 use Rattle.demand_3.specs.Demand3.{EveryList}
 use Rattle.tallies.specs.Tallies.{EveryCount}
 use Rattle.loss_counts.specs.LossCounts.{EveryLoss}
+use Rattle.old_layout.specs.Same.{SameAnswers}
 use Rattle.assurance.specs.Examples.{Examples}
 
 pub record Assurance : Type 0 where
@@ -22,5 +23,7 @@ pub record Assurance : Type 0 where
   -- docs/RULES.md, "Parameters"
   pub losses : {w u : List ℕ} {name preferred count r : ℕ} → Powered w name preferred count r u → (r ≡ 2 → ⊥) → EveryLoss u count
   pub parameters : Parameters
+  -- ticket 6: "All answers but the compared count are proved the same as the old layout, lent its own storage, gave for the same calls from power-on."
+  pub same : (name preferred count : ℕ) → SameAnswers name preferred count
   pub literals : Literals
   pub examples : Examples

@@ -49,15 +49,15 @@ beforeP5 = with (replicate 12 clear)
 
 -- after P5 pair 1 to 2 passes PGN 65265 alone
 abbrev pub afterP5 : Model
-afterP5 = with (record { mode = pass; entries = 65265 ∷ []; named = [] } ∷ replicate 11 clear)
+afterP5 = with (record { mode = pass; entries = 65265 ∷ []; named = []; sorted = 65265 ∷ [] } ∷ replicate 11 clear)
 
 -- what a frame from port 1 with no bytes is answered
 abbrev pub frameIn : Model → ℕ → FrameAnswer
-frameIn m id = frameAnswer 4 1534 m 1 id []
+frameIn m id = frameAnswer 4 1918 m 1 id []
 
 -- "Unless said, the tool is on port 1 with requester 21 and the buffer is long enough"
 abbrev pub message : Model → ℕ → List ℕ → Replied
-message m port payload = messaged 4 1534 1785 (m .rest) port 0x21 payload
+message m port payload = messaged 4 1918 1785 (m .rest) port 0x21 payload
 
 abbrev pub create : List ℕ
 create = 0x06 ∷ 0x12 ∷ 0x01 ∷ 0xF1 ∷ 0xFE ∷ 0x00 ∷ 0xFF ∷ 0xFF ∷ []

@@ -154,7 +154,7 @@ Unchanged r words after = (r ≡ 0 → ⊥) → after ≡ words
 -- refusal changes nothing is not about it": 2 changes not a word, 27 leaves a fresh unit of four ports
 pub record ByPowerOn (words after : List ℕ) (name preferred r : ℕ) : Type 0 where
   pub kept : r ≡ 2 → after ≡ words
-  pub four : r ≡ 27 → (length after ≡ 1534) × (portsOf after ≡ 4) × (modelOf 4 after ≡ fresh 4 name preferred)
+  pub four : r ≡ 27 → (length after ≡ 1918) × (portsOf after ≡ 4) × (modelOf 4 after ≡ fresh 4 name preferred)
 
 -- "and writes the acknowledgment or nothing": eight bytes for the numbers that write one, nothing for the others, and the answer says which
 pub record Writes (lent back payload : List ℕ) (requester : ℕ) (r : MessageAnswer) : Type 0 where

@@ -53,9 +53,9 @@ pub record Literals : Type 0 where
   -- "a list of at most 32 PGNs", "one queue of at most 32 frames"; the published length of the record, with four ports and with 2 to 8
   pub list : listSize ≡ 32
   pub queue : size ≡ 32
-  pub record-words : (lent : ℕ) → notLong 4 lent ≡ not (eqb lent 1534)
+  pub record-words : (lent : ℕ) → notLong 4 lent ≡ not (eqb lent 1918)
   pub lengths : recordLength 2 ∷ recordLength 3 ∷ recordLength 4 ∷ recordLength 5 ∷ recordLength 6 ∷ recordLength 7 ∷ recordLength 8 ∷ []
-      ≡ 784 ∷ 1099 ∷ 1534 ∷ 2089 ∷ 2764 ∷ 3559 ∷ 4474 ∷ []
+      ≡ 848 ∷ 1291 ∷ 1918 ∷ 2729 ∷ 3724 ∷ 4903 ∷ 6266 ∷ []
   -- "Bits 28 to 26 are the priority, 25 the extended data page, 24 the data page, 23 to 16 PF, 15 to 8 PS, 7 to 0 the source address"
   pub priority : (id : ℕ) → priorityOf id ≡ id / 2 ^ 26 % 8
   pub extended : (id : ℕ) → extendedDataPageOf id ≡ id / 2 ^ 25 % 2

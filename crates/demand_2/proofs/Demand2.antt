@@ -46,6 +46,7 @@ use Rattle.demand_2.proofs.Counters.{counter-unnamed, general-unnamed}
 use Rattle.demand_2.proofs.Commands.{untouched, messaged-other, messaged-emptied}
 use Rattle.demand_2.proofs.Privacy.{messaged-told}
 use Rattle.demand_2.proofs.RoundTrip.{request-reported, tool-port, sent-back}
+use Rattle.demand_2.proofs.Probes.{in-order}
 use Rattle.demand_2.proofs.Kept.{Standing, stands}
 
 -- ---- no frame goes back
@@ -210,6 +211,7 @@ demand-2 = record {
   always = λ h done free which. crossing (framing h) done free which;
   why = λ h. reasons (framing h);
   told = λ h. counts (framing h);
+  ordered = λ {words} R a b. in-order (pairOn words a b) (stands R .good (pairAt (portsOf words) (a - 1) (b - 1)) .sound);
   only-named = λ h. message-named (messaging h);
   emptied = λ h done. message-emptied (messaging h) done;
   private = λ least most same long S h g. same-told least most same long S (messaging h) (rw (← same) at (messaging g));

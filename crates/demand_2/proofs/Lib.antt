@@ -1,4 +1,5 @@
 pub mod Searches
+pub mod Probes
 pub mod Matching
 pub mod Permanent
 pub mod Reasons

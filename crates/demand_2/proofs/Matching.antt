@@ -4,13 +4,13 @@ use mathlib.Core.Logic.{_⊎_, inl, inr, ⊎-elim}
 use mathlib.Core.Bool.{Bool, true, false, cond, _&&_, _||_, false≢true}
 use mathlib.Core.List.{List, [], _∷_}
 use mathlib.Core.Option.{Option, none, some}
-use Prim.Native.Nat.{ℕ, zero, suc, _+_, _*_, _/_, _%_, _^_, _≤_, _<_}
+use Prim.Native.Nat.{ℕ, zero, suc, _+_, _*_, _/_, _%_, _^_, _≤_, _<_, zero-le}
 use native.Mathlib.Nat.{pow-succ', div-div-eq-div-mul, div-one, not-suc-le-zero, le-of-suc-le-suc}
 use native.Mathlib.Decide.{decLt}
 use native.Mathlib.Omega.{arith}
 use borrow.Author.Tests.{eqb-true, eqb-false, eq-eqb, ne-eqb}
 use lib.Dec.{eqb}
-use lib.ListN.{length, getD, take, drop, List·getD-eq-default}
+use lib.ListN.{length, getD, take, drop, length-take, List·getD-eq-default}
 use lib.Seq.{getD-take, getD-drop}
 use Rattle.storage.specs.Blocks.{blocksOf}
 use Rattle.addresses.specs.declared.Place.the-variants.{Free, Held}
@@ -22,9 +22,14 @@ use Rattle.identifier.specs.Identifier.{pgnOf}
 use Rattle.entries.specs.Entries.{listed}
 use Rattle.filter.specs.declared.Reason.{Reason}
 use Rattle.filter.specs.declared.Asked.{Asked}
-use Rattle.filter.specs.Filter.{Mode, cleared, block, pass, Filter, clear, isCleared, meant, filterOf, modePlace, countPlace, listOf, namesIn, place, isPermanent, reasonOf, asked}
-use Rattle.demand_2.proofs.Searches.{any, listed-any, place-up-to, match-any, place-in-up-to, none-is, counted, somewhere, nowhere}
-use Rattle.demand_2.specs.Matching.{Gives, bit, Matches, InList, InNames, Among, Listed, UpTo, all, Permanent, Unsearched, Compares, nothing, found, not-found}
+use Rattle.filter.specs.Filter.{Mode, cleared, block, pass, Filter, clear, isCleared, meant, filterOf, modePlace, countPlace, listOf, namesIn}
+use Rattle.filter.specs.Filter.{sortedPlace, sortedIn, frontOf, isPermanent, reasonOf, asked}
+use Rattle.filter_commands.specs.Changes.{Sound}
+use Rattle.pgn_list.specs.PgnList.{listSize}
+use Rattle.sorted_list.specs.SortedList.{Probed, halvingIn, halved, insertAll}
+use Rattle.demand_2.proofs.Searches.{any, listed-any, match-any, place-in-up-to, counted, somewhere, nowhere}
+use Rattle.demand_2.proofs.Probes.{halves-all, in-order}
+use Rattle.demand_2.specs.Matching.{Gives, bit, Matches, InList, InNames, Among, Listed, UpTo, all, Permanent, Unsearched, Halving, Compares, nothing, found, not-found}
 
 -- ---- bit by bit
 -- bit i of a half is bit i + 1
@@ -129,27 +134,26 @@ not-cleared : {m : Mode} → isCleared m ≡ false → m ≡ cleared → ⊥
 unfolding isCleared
 not-cleared e c = false≢true (sym e ∙ ap isCleared c)
 
--- holds nothing, whatever words its block has
-Empty : Filter → Type 0
-Empty f = f .mode ≡ cleared → f ≡ clear
+-- ---- what is searched is not longer than a list, whatever words a block has
+meant-few : (m : ℕ) (es : List ℕ) (ns : List NameEntry) (ss : List ℕ) → length ss ≤ listSize → length (meant m es ns ss .sorted) ≤ listSize
+unfolding meant
+meant-few zero es ns ss h = zero-le
+meant-few (suc zero) es ns ss h = h
+meant-few (suc (suc zero)) es ns ss h = h
+meant-few (suc (suc (suc zero))) es ns ss h = h
+meant-few (suc (suc (suc (suc m)))) es ns ss h = h
 
-meant-empty : (m : ℕ) (es : List ℕ) (ns : List NameEntry) → Empty (meant m es ns)
-unfolding meant isCleared Empty
-meant-empty zero es ns e = refl
-meant-empty (suc zero) es ns e = absurd (not-cleared refl e)
-meant-empty (suc (suc zero)) es ns e = absurd (not-cleared refl e)
-meant-empty (suc (suc (suc zero))) es ns e = absurd (not-cleared refl e)
-meant-empty (suc (suc (suc (suc m)))) es ns e = absurd (not-cleared refl e)
-
-block-empty : (words : List ℕ) → Empty (filterOf words)
+block-few : (words : List ℕ) → length (filterOf words .sorted) ≤ listSize
 unfolding filterOf
-block-empty words = meant-empty (getD words modePlace 0) (take (getD words countPlace 0) (listOf words)) (namesOf (namesIn words))
+block-few words =
+    meant-few (getD words modePlace 0) (frontOf words (listOf words)) (namesOf (namesIn words)) (frontOf words (sortedIn words))
+    (omega (arith, length-take (getD words countPlace 0) (sortedIn words), length-take listSize (drop sortedPlace words)))
 
-pub pair-empty : (start size count : ℕ) (words : List ℕ) (i : ℕ) → getD (blocksOf start size count filterOf words) i clear .mode ≡ cleared → getD (blocksOf start size count filterOf words) i clear ≡ clear
-unfolding blocksOf Empty
-pair-empty start size zero words i = λ _. refl
-pair-empty start size (suc n) words zero = block-empty (take size (drop start words))
-pair-empty start size (suc n) words (suc i) = pair-empty (start + size) size n words i
+pub pair-few : (start size count : ℕ) (words : List ℕ) (i : ℕ) → length (getD (blocksOf start size count filterOf words) i clear .sorted) ≤ listSize
+unfolding blocksOf
+pair-few start size zero words i = zero-le
+pair-few start size (suc n) words zero = block-few (take size (drop start words))
+pair-few start size (suc n) words (suc i) = pair-few (start + size) size n words i
 
 -- ---- what asking a pair answers
 module _ (ports : ℕ) (words : List ℕ) (id : ℕ) (f : Filter) where
@@ -161,11 +165,6 @@ module _ (ports : ℕ) (words : List ℕ) (id : ℕ) (f : Filter) where
 
   abbrev has : ℕ → Bool
   has x = eqb x (pgnOf id)
-
-  list-counted : UpTo (length (f .entries)) (InList id f) (place (pgnOf id) (f .entries))
-  list-counted =
-      rw (place-up-to (pgnOf id) (f .entries))
-      (counted has (f .entries) 0 (InList id f) (λ k. eqb-true _ (pgnOf id)) (λ k. eq-eqb _ (pgnOf id)) (any has (f .entries)) refl)
 
   in-list : listed (pgnOf id) (f .entries) ≡ true → Among (length (f .entries)) (InList id f)
   in-list e = somewhere has (f .entries) 0 (InList id f) (λ k. eqb-true _ (pgnOf id)) (λ k. eq-eqb _ (pgnOf id)) (sym (listed-any (pgnOf id) (f .entries)) ∙ e)
@@ -226,34 +225,41 @@ module _ (ports : ℕ) (words : List ℕ) (id : ℕ) (f : Filter) where
       go false true p q h = absurd (false≢true (sym h))
       go false false p q h = ⊎-elim (not-in-list p) (not-in-names name refl q)
 
-  -- a cleared pair that holds nothing compares nothing
-  no-sum : f ≡ clear → place (pgnOf id) (f .entries) + cond (listed (pgnOf id) (f .entries)) 0 (placeOf (pgnOf id) name (f .named)) ≡ 0
-  unfolding place listed placeIn
-  no-sum e = rw e (none-of name)
-    where
-      none-of : (s : Option ℕ) → 0 + placeOf (pgnOf id) s [] ≡ 0
-      none-of none = refl
-      none-of (some n) = refl
+  abbrev probe : Probed
+  probe = halved (pgnOf id) (f .sorted)
 
-  pub compares : (f .mode ≡ cleared → f ≡ clear) → Compares words id f (asked f (pgnOf id) name .compared)
-  unfolding asked isPermanent
-  compares empty = go (eqb (pgnOf id) 60928) (eqb (pgnOf id) 59904) refl refl
-    where
-      sum : Bool → ℕ
-      sum l = place (pgnOf id) (f .entries) + cond l 0 (placeOf (pgnOf id) name (f .named))
+  module _ (S : Sound f) where
+    -- a cleared pair holds nothing and compares nothing
+    no-sum : isCleared (f .mode) ≡ true → probe .probes + cond (probe .found) 0 (placeOf (pgnOf id) name (f .named)) ≡ 0
+    unfolding halved halvingIn insertAll placeIn
+    no-sum e = rw (S .in-order, S .none e, S .unnamed e) (none-of name)
+      where
+        none-of : (s : Option ℕ) → 0 + placeOf (pgnOf id) s [] ≡ 0
+        none-of none = refl
+        none-of (some n) = refl
 
-      counts : (Unsearched id f → ⊥) → (l : Bool) → listed (pgnOf id) (f .entries) ≡ l → Compares words id f (sum l)
-      counts ne true e = let z : sum true ≡ place (pgnOf id) (f .entries) = omega arith in rw z (found ne (in-list e) list-counted)
-      counts ne false e =
-          let z : place (pgnOf id) (f .entries) ≡ length (f .entries) = place-up-to (pgnOf id) (f .entries) ∙ none-is has (f .entries) 0 (sym (listed-any (pgnOf id) (f .entries)) ∙ e) .1 in
-          rw z (not-found ne (not-in-list e) (names-counted name refl))
+    pub compares : Compares words id f (asked f (pgnOf id) name .compared)
+    unfolding asked isPermanent
+    compares = go (eqb (pgnOf id) 60928) (eqb (pgnOf id) 59904) refl refl
+      where
+        sum : Bool → ℕ
+        sum l = probe .probes + cond l 0 (placeOf (pgnOf id) name (f .named))
 
-      by-mode : (Permanent id → ⊥) → (b : Bool) → isCleared (f .mode) ≡ b → Compares words id f (sum (listed (pgnOf id) (f .entries)))
-      by-mode ne true e = let is = cleared-is (f .mode) e in rw (no-sum (empty is)) (nothing (inr is))
-      by-mode ne false e = counts (⊎-elim ne (not-cleared e)) (listed (pgnOf id) (f .entries)) refl
+        halving : {l : Bool} → probe .found ≡ l → Halving (f .sorted) (pgnOf id) 0 (length (f .sorted)) l (probe .probes)
+        halving e = rw e at (halves-all (pgnOf id) (f .sorted))
 
-      go : (x y : Bool) → eqb (pgnOf id) 60928 ≡ x → eqb (pgnOf id) 59904 ≡ y
-          → Compares words id f (cond {A = Asked} (x || y) (record { reason = Reason.Permanent; compared = 0 }) (record { reason = reasonOf (f .mode) here; compared = sum (listed (pgnOf id) (f .entries)) }) .compared)
-      go true y p q = nothing (inl (inl (eqb-true (pgnOf id) 60928 p)))
-      go false true p q = nothing (inl (inr (eqb-true (pgnOf id) 59904 q)))
-      go false false p q = by-mode (⊎-elim (eqb-false (pgnOf id) 60928 p) (eqb-false (pgnOf id) 59904 q)) (isCleared (f .mode)) refl
+        counts : (Unsearched id f → ⊥) → (l : Bool) → probe .found ≡ l → Compares words id f (sum l)
+        counts ne true e = let z : sum true ≡ probe .probes = omega arith in rw z (found ne (in-order f S) (halving e))
+        counts ne false e = not-found ne (in-order f S) (halving e) (names-counted name refl)
+
+        by-mode : (Permanent id → ⊥) → (b : Bool) → isCleared (f .mode) ≡ b → Compares words id f (sum (probe .found))
+        by-mode ne true e = rw (no-sum e) (nothing (inr (cleared-is (f .mode) e)))
+        by-mode ne false e = counts (⊎-elim ne (not-cleared e)) (probe .found) refl
+
+        go : (x y : Bool) → eqb (pgnOf id) 60928 ≡ x → eqb (pgnOf id) 59904 ≡ y
+            → Compares words id f
+            (cond {A = Asked} (x || y) (record { reason = Reason.Permanent; compared = 0 })
+            (record { reason = reasonOf (f .mode) (probe .found || matchedBy (pgnOf id) name (f .named)); compared = sum (probe .found) }) .compared)
+        go true y p q = nothing (inl (inl (eqb-true (pgnOf id) 60928 p)))
+        go false true p q = nothing (inl (inr (eqb-true (pgnOf id) 59904 q)))
+        go false false p q = by-mode (⊎-elim (eqb-false (pgnOf id) 60928 p) (eqb-false (pgnOf id) 59904 q)) (isCleared (f .mode)) refl

@@ -11,16 +11,16 @@ use lib.Dec.{eqb}
 use lib.ListN.{length}
 use Rattle.checks.proofs.Ports.{port-bounds}
 use Rattle.identifier.specs.Identifier.{pgnOf}
-use Rattle.entries.specs.Entries.{listed}
+use Rattle.sorted_list.specs.SortedList.{halved}
 use Rattle.filter.specs.declared.Reason.{Reason}
 use Rattle.filter.specs.declared.Asked.{Asked}
 use Rattle.name_entries.specs.NameEntries.{matchedBy, placeOf}
-use Rattle.filter.specs.Filter.{Mode, cleared, block, pass, Filter, isPermanent, place, reasonOf, reasonNumber, asked}
+use Rattle.filter.specs.Filter.{Mode, cleared, block, pass, Filter, isPermanent, reasonOf, reasonNumber, asked}
 use Rattle.filter.proofs.Reasons.{reason-below}
 use Rattle.bridge.specs.declared.FrameAnswer.{FrameAnswer}
 use Rattle.unit.specs.Ports.{digits, digitAt}
 use Rattle.unit.specs.Count.{portsOf}
-use Rattle.unit.specs.Model.{Model, Rest}
+use Rattle.unit.specs.Model.{Model, Rest, pairAt}
 use Rattle.unit.specs.Own.{consumes}
 use Rattle.forwarding.specs.Forwarding.{silent, verdict}
 use Rattle.refusals.specs.Refusals.{frameRefusal}
@@ -28,7 +28,10 @@ use Rattle.bridge.specs.Calls.{frameOf, offered, framePassed, frameRefused, fra
 use Rattle.refusals.proofs.Checks.{frame-goes}
 use Rattle.unit.proofs.Ports.{digit-at, digit-past, digits-none}
 use Rattle.bridge.proofs.Laws.{not-offered-back}
-use Rattle.demand_2.specs.Demand2.{unitIn, pairOn, listReason, pairReason, Tells, as-listed, as-not-listed, reasonAt, Reasons}
+use Rattle.demand_2.specs.Demand2.{unitIn, pairOn, listReason, pairReason, Tells, as-listed, as-not-listed, reasonAt, Reasons, Reached}
+use Rattle.filter_commands.specs.Changes.{Sound}
+use Rattle.demand_2.proofs.Kept.{stands}
+use Rattle.demand_2.proofs.Probes.{finds}
 use Rattle.demand_2.proofs.Matching.{name, here, listed-here, not-listed-here}
 
 by-mode : (m : Mode) (here : Bool) → reasonNumber (reasonOf m here) ≡ listReason m here
@@ -39,20 +42,24 @@ by-mode block false = refl
 by-mode pass true = refl
 by-mode pass false = refl
 
-of-pair : (f : Filter) (pgn : ℕ) (sender : Option ℕ) → reasonNumber (asked f pgn sender .reason) ≡ pairReason f pgn (listed pgn (f .entries) || matchedBy pgn sender (f .named))
+of-pair : (f : Filter) (pgn : ℕ) (sender : Option ℕ)
+    → reasonNumber (asked f pgn sender .reason) ≡ pairReason f pgn (halved pgn (f .sorted) .found || matchedBy pgn sender (f .named))
 unfolding asked isPermanent
 of-pair f pgn sender = go (eqb pgn 60928 || eqb pgn 59904)
   where
     found : Bool
-    found = listed pgn (f .entries) || matchedBy pgn sender (f .named)
+    found = halved pgn (f .sorted) .found || matchedBy pgn sender (f .named)
 
-    go : (b : Bool) → reasonNumber (cond {A = Asked} b (record { reason = Reason.Permanent; compared = 0 }) (record { reason = reasonOf (f .mode) found; compared = place pgn (f .entries) + cond (listed pgn (f .entries)) 0 (placeOf pgn sender (f .named)) }) .reason) ≡ cond b 1 (listReason (f .mode) found)
+    compared : ℕ
+    compared = halved pgn (f .sorted) .probes + cond (halved pgn (f .sorted) .found) 0 (placeOf pgn sender (f .named))
+
+    go : (b : Bool) → reasonNumber (cond {A = Asked} b (record { reason = Reason.Permanent; compared = 0 }) (record { reason = reasonOf (f .mode) found; compared = compared }) .reason) ≡ cond b 1 (listReason (f .mode) found)
     go true = refl
     go false = by-mode (f .mode) found
 
 -- what a pair tells, on the data
-tells : (ports : ℕ) (words : List ℕ) (id : ℕ) (f : Filter) → Tells words id f (reasonNumber (asked f (pgnOf id) (name ports words id f) .reason))
-tells ports words id f = rw (of-pair f (pgnOf id) (name ports words id f)) (go (here ports words id f) refl)
+tells : (ports : ℕ) (words : List ℕ) (id : ℕ) (f : Filter) → Sound f → Tells words id f (reasonNumber (asked f (pgnOf id) (name ports words id f) .reason))
+tells ports words id f S = rw (of-pair f (pgnOf id) (name ports words id f), finds f S (pgnOf id)) (go (here ports words id f) refl)
   where
     go : (b : Bool) → here ports words id f ≡ b → Tells words id f (pairReason f (pgnOf id) b)
     go true e = as-listed (listed-here ports words id f e)
@@ -74,7 +81,7 @@ module _ {words bytes after : List ℕ} {port id : ℕ} {r : FrameAnswer} (F : F
   -- a refused frame
   turned-away : (number : ℕ) → (number ≡ 0 → ⊥) → r ≡ frameRefused number → Reasons words port id r
   turned-away number some a = record {
-    asked = λ done. absurd (some (sym (ap (λ (x : FrameAnswer). x .refusal) a) ∙ done));
+    asked = λ _ done. absurd (some (sym (ap (λ (x : FrameAnswer). x .refusal) a) ∙ done));
     back = λ _. rw a (no-digit (port - 1));
     past = λ q _. rw a (no-digit (q - 1));
     refused = λ _. rw a;
@@ -104,9 +111,11 @@ module _ {words bytes after : List ℕ} {port id : ℕ} {r : FrameAnswer} (F : F
     refusal-is = ap (λ (x : FrameAnswer). x .refusal) a
 
     -- at another port, a frame that is not for the unit
-    told-pair : (q : ℕ) → consumes (m .rest .own) id ≡ false → (port - 1 ≡ q - 1 → ⊥) → Tells words id (pairOn words port q) (told (q - 1))
+    told-pair : Reached words → (q : ℕ) → consumes (m .rest .own) id ≡ false → (port - 1 ≡ q - 1 → ⊥) → Tells words id (pairOn words port q) (told (q - 1))
     unfolding offered verdict
-    told-pair q free ne = rw (free, ne-eqb (port - 1) (q - 1) ne) (tells (portsOf words) words id (pairOn words port q))
+    told-pair R q free ne =
+        rw (free, ne-eqb (port - 1) (q - 1) ne)
+        (tells (portsOf words) words id (pairOn words port q) (stands R .good (pairAt (portsOf words) (port - 1) (q - 1)) .sound))
 
     told-back : told (port - 1) ≡ 0
     told-back = rw (not-offered-back (portsOf words) (m .rest) (port - 1) id)
@@ -114,9 +123,9 @@ module _ {words bytes after : List ℕ} {port id : ℕ} {r : FrameAnswer} (F : F
     -- a frame that went through
     went : Reasons words port id r
     went = record {
-      asked = λ done free q is ne.
+      asked = λ R done free q is ne.
           let b = port-bounds (portsOf words) q is in
-          rw (reasons-are, digit-at told told-small (portsOf words) (q - 1) (omega (arith, b .0, b .1))) (told-pair q (sym consumed-is ∙ free) (λ same. ne (apart q (b .0) same)));
+          rw (reasons-are, digit-at told told-small (portsOf words) (q - 1) (omega (arith, b .0, b .1))) (told-pair R q (sym consumed-is ∙ free) (λ same. ne (apart q (b .0) same)));
       back = λ least. rw reasons-are (digit-at told told-small (portsOf words) (port - 1) here ∙ told-back);
       past = λ q beyond. rw reasons-are (digit-past told told-small (portsOf words) (q - 1) (omega arith));
       refused = λ some. absurd (some refusal-is);

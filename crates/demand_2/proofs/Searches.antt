@@ -8,7 +8,6 @@ use native.Mathlib.Omega.{arith}
 use lib.Dec.{eqb}
 use lib.ListN.{length, getD}
 use Rattle.entries.specs.Entries.{listed}
-use Rattle.filter.specs.Filter.{place}
 use Rattle.name_entries.specs.NameEntries.{NameEntry, matches, anyMatch, placeIn}
 use Rattle.demand_2.specs.Matching.{Among, UpTo, first, all}
 
@@ -71,11 +70,6 @@ pub listed-any : (x : ℕ) (l : List ℕ) → listed x l ≡ any (λ y. eqb y x)
 unfolding listed
 listed-any x [] = refl
 listed-any x (y ∷ ys) = rw (listed-any x ys)
-
-pub place-up-to : (x : ℕ) (l : List ℕ) → place x l ≡ upTo (λ y. eqb y x) l
-unfolding place
-place-up-to x [] = refl
-place-up-to x (y ∷ ys) = rw (place-up-to x ys)
 
 pub match-any : (pgn name : ℕ) (es : List NameEntry) → anyMatch pgn name es ≡ any (matches pgn name) es
 unfolding anyMatch

@@ -1,7 +1,7 @@
 -- Demand 2, by the contracts of the functions alone. Proved in proofs/Demand2.antt. The quoted words are the customer's.
--- About any records: no frame goes back, claims and requests cross, what crosses is told with its reason and with what was compared, a command changes the
--- pairs and the counter that it names, Clear and Create leave no NAME entry, a tool sees its own. About records that calls from power-on led to: a list that is
--- reported and sent back is that list.
+-- About any records: no frame goes back, claims and requests cross, no plain list takes more than 6 compares, a command changes the pairs and the counter
+-- that it names, Clear and Create leave no NAME entry, a tool sees its own. About records that calls from power-on led to: what crosses is told with its
+-- reason and with what was compared, lists are searched in rising order, a list that is reported and sent back is that list.
 use mathlib.Core.Path.{_≡_}
 use mathlib.Core.Logic.{_⊎_, _↔_}
 use mathlib.Core.Bool.{Bool, true, false, not, _&&_, _||_, cond}
@@ -27,7 +27,7 @@ use Rattle.bridge.specs.Calls.{frameOf}
 use Rattle.unit.specs.Own.{framesSent}
 use Rattle.list_commands.specs.Commands.{IsPair}
 use Rattle.bridge.specs.Calls.{Call, frameDone}
-use Rattle.demand_2.specs.Matching.{Listed, Permanent, Compares}
+use Rattle.demand_2.specs.Matching.{Listed, Permanent, InOrder, Compares}
 use Rattle.made.specs.Made.{Powered, Arrived, Handed}
 use Rattle.demand_3.specs.Demand3.{Made, Answer}
 
@@ -52,6 +52,11 @@ generalCounter ports = lossesFrom ports + ports * (ports - 1)
 -- what a pair's counter tells, whatever its word holds: losses "stay at 64,255"
 abbrev pub lossesOn : List ℕ → ℕ → ℕ → ℕ
 lossesOn words a b = min (getD words (counterOn (portsOf words) a b) 0) 64255
+
+-- a record that a power-on, with any count of ports, and then any list of calls led to, made by the real functions, of which the contracts alone are known
+pub data Reached : List ℕ → Type 0 where
+  reached : {w u v : List ℕ} {name preferred count r : ℕ} {ks : List Call} {xs : List Answer}
+      → Powered w name preferred count r u → (r ≡ 2 → ⊥) → Run Made u ks xs v → Reached v
 
 -- ---- "No frame is sent back to its arrival port."
 -- The row there is as it was, but for the unit's own frame, which asks no pair; and the arrival port is never named as accepted or lost.
@@ -90,14 +95,14 @@ abbrev pub reasonAt : FrameAnswer → ℕ → ℕ
 reasonAt r q = digitAt (r .reasons) (q - 1)
 
 pub record Reasons (words : List ℕ) (port id : ℕ) (r : FrameAnswer) : Type 0 where
-  pub asked : r .refusal ≡ 0 → r .consumed ≡ false → (q : ℕ) → isPort (portsOf words) q ≡ true → (port ≡ q → ⊥) → Tells words id (pairOn words port q) (reasonAt r q)
+  pub asked : Reached words → r .refusal ≡ 0 → r .consumed ≡ false → (q : ℕ) → isPort (portsOf words) q ≡ true → (port ≡ q → ⊥) → Tells words id (pairOn words port q) (reasonAt r q)
   -- not asked: the arrival port, a port that the unit has not, a refused frame, a consumed one
   pub back : 1 ≤ port → reasonAt r port ≡ 0
   pub past : (q : ℕ) → portsOf words < q → reasonAt r q ≡ 0
   pub refused : (r .refusal ≡ 0 → ⊥) → r .reasons ≡ 0
   pub consumed : r .consumed ≡ true → r .reasons ≡ 0
 
--- ---- rule 5, the number of entries compared: "The three pairs are added. A consumed or refused frame has 0."
+-- ---- rule 5, the number of entries compared, as ticket 6 counts it: "The three pairs are added. A consumed or refused frame has 0."
 -- the sum over the ports 1 to n
 unfoldable pub sumTo : (ℕ → ℕ) → ℕ → ℕ
 sumTo count zero = 0
@@ -110,8 +115,18 @@ pub record Counted (words : List ℕ) (port id compared : ℕ) : Type 0 where
   pub back : count port ≡ 0
   pub sum : compared ≡ sumTo count (portsOf words)
 
+-- "at most 6 for each plain list", whatever the record holds; of NAME entries not more than there are
+pub record Ceiling (words : List ℕ) (port compared : ℕ) : Type 0 where
+  pub plain : ℕ → ℕ
+  pub named : ℕ → ℕ
+  pub most : (q : ℕ) → plain q ≤ 6
+  pub there : (q : ℕ) → named q ≤ length (pairOn words port q .named)
+  pub back : plain port + named port ≡ 0
+  pub sum : compared ≡ sumTo (λ q. plain q + named q) (portsOf words)
+
 pub record Counts (words : List ℕ) (port id : ℕ) (r : FrameAnswer) : Type 0 where
-  pub asked : r .refusal ≡ 0 → r .consumed ≡ false → Counted words port id (r .compared)
+  pub asked : Reached words → r .refusal ≡ 0 → r .consumed ≡ false → Counted words port id (r .compared)
+  pub ceiling : Ceiling words port (r .compared)
   pub refused : (r .refusal ≡ 0 → ⊥) → r .compared ≡ 0
   pub consumed : r .consumed ≡ true → r .compared ≡ 0
 
@@ -169,18 +184,13 @@ pub record SameTo (p : ℕ) (x y : List ℕ) : Type 0 where
   pub table : (a name : ℕ) → a < 254 → (getD (restOf x .table) a Free ≡ Held p name) ↔ (getD (restOf y .table) a Free ≡ Held p name)
 
 -- ---- "A reported list with entries, sent back as Create to a cleared pair, gives that list again."
--- a record that a power-on, with any count of ports, and then any list of calls led to, made by the real functions, of which the contracts alone are known
-pub data Reached : List ℕ → Type 0 where
-  reached : {w u v : List ℕ} {name preferred count r : ℕ} {ks : List Call} {xs : List Answer}
-      → Powered w name preferred count r u → (r ≡ 2 → ⊥) → Run Made u ks xs v → Reached v
-
 -- the list of the pair that a payload names, which is the one that a Request reports
 abbrev pub listOf : List ℕ → List ℕ → Filter
 listOf words payload = pairOn words (getD payload 1 0 / 16) (getD payload 1 0 % 16)
 
 -- a pair's mode and list without its NAME entries
 abbrev pub plain : Filter → Filter
-plain f = record { mode = f .mode; entries = f .entries; named = [] }
+plain f = record { mode = f .mode; entries = f .entries; named = []; sorted = f .sorted }
 
 -- A tool that may send a Create for the pair from a to b to this unit: 1, 2, 6, 8 and 11 don't apply. (Its port is 1, a or b, so the unit has it.)
 pub record MayCreate (words : List ℕ) (port requester a b : ℕ) (lent : List ℕ) : Type 0 where
@@ -197,6 +207,8 @@ pub record Demand2 : Type 0 where
       → r .refusal ≡ 0 → r .consumed ≡ false → Permanent id → Crossing words port r
   pub why : {words bytes after : List ℕ} {port id : ℕ} {r : FrameAnswer} → Arrived words port id bytes r after → Reasons words port id r
   pub told : {words bytes after : List ℕ} {port id : ℕ} {r : FrameAnswer} → Arrived words port id bytes r after → Counts words port id r
+  -- "Keep each plain list sorted", in every list of calls
+  pub ordered : {words : List ℕ} → Reached words → (a b : ℕ) → InOrder (pairOn words a b .entries) (pairOn words a b .sorted)
   pub only-named : {words payload lent after back : List ℕ} {port requester : ℕ} {r : MessageAnswer} → Handed words port requester payload lent r after back
       → OnlyNamed words port payload after
   -- a command that is done

@@ -1,9 +1,10 @@
--- Ticket 4 on the data: which NAME entries a frame matches, what is listed, and how many entries a pair compares. The quoted words are the customer's.
+-- Tickets 4 and 6 on the data: which NAME entries a frame matches, what is listed, and how many entries a pair compares. The quoted words are the customer's.
 -- Assumes nothing.
 use mathlib.Core.Path.{_≡_}
-use mathlib.Core.Logic.{_⊎_}
+use mathlib.Core.Logic.{_⊎_, _↔_}
+use mathlib.Core.Bool.{Bool, true, false}
 use mathlib.Core.List.{List}
-use Prim.Native.Nat.{ℕ, _+_, _*_, _/_, _%_, _^_, _<_}
+use Prim.Native.Nat.{ℕ, _+_, _-_, _*_, _/_, _%_, _^_, _≤_, _<_}
 use lib.ListN.{length, getD}
 use Rattle.identifier.specs.Identifier.{pgnOf}
 use Rattle.name_entries.specs.NameEntries.{NameEntry}
@@ -49,14 +50,33 @@ Permanent id = (pgnOf id ≡ 60928) ⊎ (pgnOf id ≡ 59904)
 abbrev pub Unsearched : ℕ → Filter → Type 0
 Unsearched id f = Permanent id ⊎ (f .mode ≡ cleared)
 
--- rule 5: "the place .. counted from 1, or the list's length if absent": one place after the other up to the first that is sought, or all n
+-- ticket 6: "Keep each plain list sorted": the PGNs of a list in rising order, each once
+pub record InOrder (entries sorted : List ℕ) : Type 0 where
+  pub rising : (i j : ℕ) → i < j → j < length sorted → getD sorted i 0 < getD sorted j 0
+  pub same : (x : ℕ) → Among (length sorted) (λ k. getD sorted k 0 ≡ x) ↔ Among (length entries) (λ k. getD entries k 0 ≡ x)
+
+-- "each the middle place of those left, the lower of two": of the places from lo on, up to hi, which is not among them
+abbrev pub middle : ℕ → ℕ → ℕ
+middle lo hi = lo + (hi - lo - 1) / 2
+
+-- "the probes of the halving rule, .. ending where it is equal": whether x was found, and after how many probes
+pub data Halving (list : List ℕ) (x : ℕ) : (lo hi : ℕ) (found : Bool) (probes : ℕ) → Type 0 where
+  none-left : {lo hi : ℕ} → hi ≤ lo → Halving list x lo hi false 0
+  equal : {lo hi : ℕ} → lo < hi → getD list (middle lo hi) 0 ≡ x → Halving list x lo hi true 1
+  above : {lo hi : ℕ} {found : Bool} {n : ℕ} → lo < hi → getD list (middle lo hi) 0 < x → Halving list x (middle lo hi + 1) hi found n
+      → Halving list x lo hi found (n + 1)
+  below : {lo hi : ℕ} {found : Bool} {n : ℕ} → lo < hi → x < getD list (middle lo hi) 0 → Halving list x lo (middle lo hi) found n
+      → Halving list x lo hi found (n + 1)
+
+-- NAME entries: one place after the other up to the first that is sought, or all n
 pub data UpTo (n : ℕ) (sought : ℕ → Type 0) : ℕ → Type 0 where
   first : {k : ℕ} → k < n → sought k → ((j : ℕ) → j < k → sought j → ⊥) → UpTo n sought (k + 1)
   all : ((j : ℕ) → j < n → sought j → ⊥) → UpTo n sought n
 
--- "The compared count runs over the plain list and then, if the PGN wasn't found, these entries up to the first match."
+-- the probes in the list in rising order, and "those of Ticket 4 are added as before": if the PGN wasn't found, "these entries up to the first match"
 pub data Compares (words : List ℕ) (id : ℕ) (f : Filter) : ℕ → Type 0 where
   nothing : Unsearched id f → Compares words id f 0
-  found : {n : ℕ} → (Unsearched id f → ⊥) → Among (length (f .entries)) (InList id f) → UpTo (length (f .entries)) (InList id f) n → Compares words id f n
-  not-found : {n : ℕ} → (Unsearched id f → ⊥) → (Among (length (f .entries)) (InList id f) → ⊥) → UpTo (length (f .named)) (InNames words id f) n
-      → Compares words id f (length (f .entries) + n)
+  found : {sorted : List ℕ} {n : ℕ} → (Unsearched id f → ⊥) → InOrder (f .entries) sorted → Halving sorted (pgnOf id) 0 (length sorted) true n
+      → Compares words id f n
+  not-found : {sorted : List ℕ} {n k : ℕ} → (Unsearched id f → ⊥) → InOrder (f .entries) sorted → Halving sorted (pgnOf id) 0 (length sorted) false n
+      → UpTo (length (f .named)) (InNames words id f) k → Compares words id f (n + k)

@@ -14,7 +14,7 @@ ghost use Rattle.deorasaeng.specs.Interface.{lentRefusal, FrameCall, Tak
 ghost use Rattle.deorasaeng.specs.PlanCalls.{Telling, PlanCall, LinksCall};
 
 // The version of the interface, which the header names: it rises with every function, number or word that is added.
-pub const VERSION: u64 = 10;
+pub const VERSION: u64 = 11;
 
 // The published lengths of the answers.
 pub const FRAME_WORDS: usize = 8;

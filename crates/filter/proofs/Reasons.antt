@@ -5,8 +5,7 @@ use Prim.Native.Nat.{ℕ, _<_}
 use native.Mathlib.Omega.{arith}
 use Rattle.entries.specs.Entries.{listed}
 use Rattle.filter.specs.declared.Reason.{Reason}
-use Rattle.filter.specs.declared.Asked.{Asked}
-use Rattle.filter.specs.Filter.{Mode, cleared, block, pass, Filter, permits, place, isPermanent, permitted, reasonOf, crosses, reasonNumber, askedByList}
+use Rattle.filter.specs.Filter.{Mode, cleared, block, pass, Filter, permits, isPermanent, permitted, reasonOf, reasonByList, crosses, reasonNumber}
 
 by-mode : (m : Mode) (here : Bool) → crosses (reasonOf m here) ≡ permits m here
 unfolding reasonOf permits
@@ -17,11 +16,11 @@ by-mode pass true = refl
 by-mode pass false = refl
 
 -- for every list and every PGN
-pub crosses-same : (f : Filter) (pgn : ℕ) → crosses (askedByList f pgn .reason) ≡ permitted f pgn
-unfolding askedByList permitted
+pub crosses-same : (f : Filter) (pgn : ℕ) → crosses (reasonByList f pgn) ≡ permitted f pgn
+unfolding reasonByList permitted
 crosses-same f pgn = go (isPermanent pgn)
   where
-    go : (b : Bool) → crosses (cond {A = Asked} b (record { reason = Reason.Permanent; compared = 0 }) (record { reason = reasonOf (f .mode) (listed pgn (f .entries)); compared = place pgn (f .entries) }) .reason) ≡ b || permits (f .mode) (listed pgn (f .entries))
+    go : (b : Bool) → crosses (cond b Reason.Permanent (reasonOf (f .mode) (listed pgn (f .entries)))) ≡ b || permits (f .mode) (listed pgn (f .entries))
     go true = refl
     go false = by-mode (f .mode) (listed pgn (f .entries))
 

@@ -11,6 +11,7 @@ use Rattle.identifier.specs.Identifier.{request, addressClaimed}
 use Rattle.entries.specs.Entries.{listed}
 use Rattle.pgn_list.specs.PgnList.{listSize}
 use Rattle.name_entries.specs.NameEntries.{NameEntry, namesLength, namesOf, matchedBy, placeOf, mostNames}
+use Rattle.sorted_list.specs.SortedList.{halved, mostProbes}
 use Rattle.filter.specs.declared.Reason.{Reason}
 use Rattle.filter.specs.declared.Asked.{Asked}
 
@@ -34,9 +35,16 @@ namesPlace = listPlace + listSize
 abbrev pub namesIn : List ℕ → List ℕ
 namesIn words = take namesLength (drop namesPlace words)
 
+-- where it has the PGNs of its list in rising order
+abbrev pub sortedPlace : ℕ
+sortedPlace = namesPlace + namesLength
+
+abbrev pub sortedIn : List ℕ → List ℕ
+sortedIn words = take listSize (drop sortedPlace words)
+
 -- the words of a block
 abbrev pub blockSize : ℕ
-blockSize = namesPlace + namesLength
+blockSize = sortedPlace + listSize
 
 -- cleared, block (mode 0) or pass (mode 1)
 pub data Mode : Type 0 where
@@ -44,14 +52,16 @@ pub data Mode : Type 0 where
   block : Mode
   pass : Mode
 
--- a pair's filter: its PGNs and its NAME entries, each in order of addition
+-- a pair's filter: its PGNs and its NAME entries, each in order of addition, and the PGNs as they are searched, which commands keep in
+-- rising order
 pub record Filter : Type 0 where
   pub mode : Mode
   pub entries : List ℕ
   pub named : List NameEntry
+  pub sorted : List ℕ
 
 abbrev pub clear : Filter
-clear = record { mode = cleared; entries = []; named = [] }
+clear = record { mode = cleared; entries = []; named = []; sorted = [] }
 
 -- 15, Add and Delete: the pair is cleared. 14, Create: it is not.
 unfoldable pub isCleared : Mode → Bool
@@ -59,32 +69,32 @@ isCleared cleared = true
 isCleared block = false
 isCleared pass = false
 
--- by the mode word: 0 is cleared and has no entries, whatever the count says; 1 and 3 block, any other passes. Below 3 there are no NAME entries, whatever stands behind the list
-unfoldable pub meant : ℕ → List ℕ → List NameEntry → Filter
-meant zero es ns = clear
-meant (suc zero) es ns = record { mode = block; entries = es; named = [] }
-meant (suc (suc zero)) es ns = record { mode = pass; entries = es; named = [] }
-meant (suc (suc (suc zero))) es ns = record { mode = block; entries = es; named = ns }
-meant (suc (suc (suc (suc m)))) es ns = record { mode = pass; entries = es; named = ns }
+-- by the mode word: 0 is cleared and has no entries, whatever the count says; 1 and 3 block, any other passes. Below 3 there are no
+-- NAME entries, whatever stands behind the list
+unfoldable pub meant : ℕ → List ℕ → List NameEntry → List ℕ → Filter
+meant zero es ns ss = clear
+meant (suc zero) es ns ss = record { mode = block; entries = es; named = []; sorted = ss }
+meant (suc (suc zero)) es ns ss = record { mode = pass; entries = es; named = []; sorted = ss }
+meant (suc (suc (suc zero))) es ns ss = record { mode = block; entries = es; named = ns; sorted = ss }
+meant (suc (suc (suc (suc m)))) es ns ss = record { mode = pass; entries = es; named = ns; sorted = ss }
 
 -- whether a mode word blocks
 unfoldable pub isBlock : ℕ → Bool
 isBlock m = eqb m 1 || eqb m 3
 
--- what a block means: its PGNs are the first `count` of its list. Those past the count are the block's free part.
+-- the first `count` of a block's list, and of the words that are searched. Those past the count are the block's free part.
+abbrev pub frontOf : List ℕ → List ℕ → List ℕ
+frontOf words list = take (getD words countPlace 0) list
+
+-- what a block means
 unfoldable pub filterOf : List ℕ → Filter
-filterOf words = meant (getD words modePlace 0) (take (getD words countPlace 0) (listOf words)) (namesOf (namesIn words))
+filterOf words = meant (getD words modePlace 0) (frontOf words (listOf words)) (namesOf (namesIn words)) (frontOf words (sortedIn words))
 
 -- forwarding rule 2: what a pair of that mode permits, by whether the PGN is listed
 unfoldable pub permits : Mode → Bool → Bool
 permits cleared here = true
 permits block here = not here
 permits pass here = here
-
--- forwarding rule 5: the place of x in a list, counted from 1, or the list's length if absent
-unfoldable pub place : ℕ → List ℕ → ℕ
-place x [] = 0
-place x (y ∷ ys) = cond (eqb y x) 1 (suc (place x ys))
 
 -- docs/RULES.md, "Forwarding", rule 2, permanent: address claims and requests, by the PGN alone, cross every pair whatever its mode and list
 unfoldable pub isPermanent : ℕ → Bool
@@ -122,22 +132,20 @@ reasonNumber Reason.NotListedInBlock = 4
 reasonNumber Reason.StoppedAsListed = 5
 reasonNumber Reason.StoppedAsNotListed = 6
 
--- what asking a pair's list answers: a permanent PGN is looked up in no list; a cleared pair has no entries, so it compares 0
-unfoldable pub askedByList : Filter → ℕ → Asked
-askedByList f pgn =
-    cond (isPermanent pgn)
-    (record { reason = Reason.Permanent; compared = 0 })
-    (record { reason = reasonOf (f .mode) (listed pgn (f .entries)); compared = place pgn (f .entries) })
+-- the reason by a pair's list alone, as a plan asks it
+unfoldable pub reasonByList : Filter → ℕ → Reason
+reasonByList f pgn = cond (isPermanent pgn) Reason.Permanent (reasonOf (f .mode) (listed pgn (f .entries)))
 
--- what asking a pair answers, by the PGN and the sender's NAME: "A match counts as listed. The compared count runs over the plain list and then, if the PGN
--- wasn't found, these entries up to the first match."
+-- what asking a pair answers, by the PGN and the sender's NAME. A permanent PGN is looked up in no list. Another is looked up by halving, and
+-- what is compared are the probes; a cleared pair has no entries, so it compares 0. "A match counts as listed", and if the PGN wasn't found,
+-- the NAME entries up to the first match are added.
 unfoldable pub asked : Filter → ℕ → Option ℕ → Asked
 asked f pgn sender =
     cond (isPermanent pgn)
     (record { reason = Reason.Permanent; compared = 0 })
     (record {
-      reason = reasonOf (f .mode) (listed pgn (f .entries) || matchedBy pgn sender (f .named));
-      compared = place pgn (f .entries) + cond (listed pgn (f .entries)) 0 (placeOf pgn sender (f .named));
+      reason = reasonOf (f .mode) (halved pgn (f .sorted) .found || matchedBy pgn sender (f .named));
+      compared = halved pgn (f .sorted) .probes + cond (halved pgn (f .sorted) .found) 0 (placeOf pgn sender (f .named));
     })
 
 -- function 0: the mode as it is reported; a cleared pair shows mode 0
@@ -146,14 +154,10 @@ reportedMode cleared = 0
 reportedMode block = 0
 reportedMode pass = 1
 
--- the contracts of asking a block, and its list alone
-pub record ListAsking (words : List ℕ) (pgn : ℕ) (r : Asked) : Type 0 where
-  pub answer : r ≡ askedByList (filterOf words) pgn
-  pub small : r .compared ≤ listSize
-
+-- the contract of asking a block
 pub record Asking (words : List ℕ) (pgn : ℕ) (sender : Option ℕ) (r : Asked) : Type 0 where
   pub answer : r ≡ asked (filterOf words) pgn sender
-  pub small : r .compared ≤ listSize + mostNames
+  pub small : r .compared ≤ mostProbes + mostNames
 
 -- the contract of counting a block's entries
 pub record Counting (words : List ℕ) (r : ℕ) : Type 0 where

@@ -1,17 +1,19 @@
-// One directed pair's filter, in a lent block of words: mode, count, the PGNs in order of addition, and behind them the NAME entries; and what is asked of it.
+// One directed pair's filter, in a lent block of words: mode, count, the PGNs in order of addition, behind them the NAME entries, and behind
+// those the PGNs in rising order; and what is asked of it.
 use name_entries::Sender;
 use pgn_list::LIST_SIZE;
+use sorted_list::FOUND;
 ghost use mathlib.Core.Path.{_≡_};
 ghost use mathlib.Core.List.{List};
+ghost use mathlib.Core.Option.{Option};
 ghost use Prim.Native.Nat.{ℕ, _<_, _≤_};
 ghost use lib.ListN.{length, getD};
 ghost use lib.Dec.{leb};
 ghost use Rattle.entries.specs.Entries.{listed};
 ghost use Rattle.name_entries.specs.NameEntries.{NameEntry, senderOf};
-ghost use Rattle.filter.specs.Filter.{modePlace, namesPlace, blockSize, meant, filterOf, isCleared, reportedMode, isPermanent, isBlock, reasonOf, crosses, reasonNumber, ListAsking, Asking, Counting};
-
-// The words of a block.
-pub const BLOCK_SIZE: usize = 59;
+ghost use Rattle.sorted_list.specs.SortedList.{Finding, mostProbes};
+ghost use Rattle.filter.specs.Filter.{modePlace, namesPlace, blockSize, meant, filterOf, isCleared, reportedMode};
+ghost use Rattle.filter.specs.Filter.{isPermanent, isBlock, reasonOf, reasonByList, crosses, reasonNumber, Asking, Counting};
 
 // Where a block has its mode, its count and its list, up to LIST_END. The NAME entries stand behind it; what asks or changes the list alone is lent a block
 // without them too, as a plan has it.
@@ -22,6 +24,12 @@ pub const COUNT: usize = 1;
 pub const LIST: usize = 2;
 
 pub const LIST_END: usize = LIST + LIST_SIZE;
+
+// Where the PGNs stand in rising order, as many as the count says.
+pub const SORTED: usize = 59;
+
+// The words of a block.
+pub const BLOCK_SIZE: usize = SORTED + LIST_SIZE;
 
 // The mode word.
 pub const CLEARED: u64 = 0;
@@ -158,7 +166,7 @@ fn is_block(mode: u64) -> bool
 
 // Why a PGN that is not permanent crosses a pair or not, by the mode word and whether the PGN is listed.
 fn by_list(mode: u64, here: bool) -> Reason
-    ensures { λ r. ⌜ ((es : List ℕ) (ns : List NameEntry) → r ≡ reasonOf (meant mode es ns .mode) here) ⌝ }
+    ensures { λ r. ⌜ ((es : List ℕ) (ns : List NameEntry) (ss : List ℕ) → r ≡ reasonOf (meant mode es ns ss .mode) here) ⌝ }
 {
     if mode == CLEARED {
         return Reason::Cleared;
@@ -175,10 +183,39 @@ fn by_list(mode: u64, here: bool) -> Reason
     Reason::StoppedAsNotListed
 }
 
-// Why a PGN crosses the pair or not by its list alone, and how many entries were compared: forwarding rules 2 and 5.
-pub fn ask_list(block: &[u64], pgn: u32) -> Asked
+// Why a PGN crosses the pair or not by its list alone, as a plan asks it.
+pub fn reason_by_list(block: &[u64], pgn: u32) -> Reason
     requires { ⌜ namesPlace ≤ length (now block) ⌝ }
-    ensures { λ r. ⌜ ListAsking (now (block .entry)) pgn r ⌝ }
+    ensures { λ r. ⌜ r ≡ reasonByList (filterOf (now (block .entry))) pgn ⌝ }
+{
+    if is_permanent(pgn) {
+        return Reason::Permanent;
+    }
+    let here = lists(block, pgn as u64);
+    by_list(block[MODE], here)
+}
+
+// Whether the pair may have NAME entries.
+pub fn has_names(block: &[u64]) -> bool
+    requires { ⌜ namesPlace ≤ length (now block) ⌝ }
+    ensures { λ r. ⌜ r ≡ leb 3 (getD (now (block .entry)) modePlace 0) ⌝ }
+{
+    BLOCK_NAMED <= block[MODE]
+}
+
+// Looks a PGN up by halving: how many entries were compared, and FOUND more where it is listed.
+fn probe(block: &[u64], pgn: u32) -> u32
+    requires { ⌜ length (now block) ≡ blockSize ⌝ }
+    ensures { λ r. ⌜ Finding (filterOf (now (block .entry)) .sorted) pgn r ⌝ }
+{
+    let n = count(block);
+    sorted_list::find(&block[SORTED..BLOCK_SIZE], n, pgn as u64)
+}
+
+// Why a PGN crosses a pair without NAME entries or not, and how many entries were compared: forwarding rules 2 and 5. Who sent it has no say.
+pub fn ask_plain(block: &[u64], pgn: u32) -> Asked
+    requires { ⌜ (length (now block) ≡ blockSize) × (getD (now block) modePlace 0 < 3) ⌝ }
+    ensures { λ r. ⌜ ((sender : Option ℕ) → Asking (now (block .entry)) pgn sender r) × (r .compared ≤ mostProbes) ⌝ }
 {
     if is_permanent(pgn) {
         return Asked {
@@ -193,26 +230,17 @@ pub fn ask_list(block: &[u64], pgn: u32) -> Asked
             compared: 0,
         };
     }
-    let n = count(block);
-    let at = pgn_list::find(&block[LIST..LIST_END], n, pgn as u64);
-    if at < n {
+    let probes = probe(block, pgn);
+    if FOUND <= probes {
         return Asked {
             reason: by_list(mode, true),
-            compared: at as u32 + 1,
+            compared: probes - FOUND,
         };
     }
     Asked {
         reason: by_list(mode, false),
-        compared: n as u32,
+        compared: probes,
     }
-}
-
-// Whether the pair may have NAME entries.
-pub fn has_names(block: &[u64]) -> bool
-    requires { ⌜ namesPlace ≤ length (now block) ⌝ }
-    ensures { λ r. ⌜ r ≡ leb 3 (getD (now (block .entry)) modePlace 0) ⌝ }
-{
-    BLOCK_NAMED <= block[MODE]
 }
 
 // Why a PGN from a sender crosses a pair with NAME entries or not: they are looked at where its list has not the PGN.
@@ -227,17 +255,16 @@ pub fn ask_named(block: &[u64], pgn: u32, sender: Sender) -> Asked
         };
     }
     let mode = block[MODE];
-    let n = count(block);
-    let at = pgn_list::find(&block[LIST..LIST_END], n, pgn as u64);
-    if at < n {
+    let probes = probe(block, pgn);
+    if FOUND <= probes {
         return Asked {
             reason: by_list(mode, true),
-            compared: at as u32 + 1,
+            compared: probes - FOUND,
         };
     }
-    let names = name_entries::search(&block[LIST_END..BLOCK_SIZE], pgn as u64, sender);
+    let names = name_entries::search(&block[LIST_END..SORTED], pgn as u64, sender);
     Asked {
         reason: by_list(mode, names.found),
-        compared: n as u32 + names.compared,
+        compared: probes + names.compared,
     }
 }

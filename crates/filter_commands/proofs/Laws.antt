@@ -4,19 +4,21 @@ use mathlib.Core.Path.{_≡_, refl, sym, ap, _∙_}
 use mathlib.Core.Bool.{Bool, true, false, cond, not, _&&_, _||_, true≢false, and-false}
 use mathlib.Core.List.{List, [], _∷_, _++_}
 use Prim.Native.Nat.{ℕ, zero, suc, _^_, _≤_, _<_, zero-le}
-use native.Mathlib.Nat.{le-trans}
+use native.Mathlib.Nat.{le-trans, le-refl}
 use native.Mathlib.Omega.{arith}
 use borrow.Author.Tests.{eq-eqb, ltb-false, le-ltb, leb-false, not-true}
 use lib.Dec.{ltb, leb, eqb}
-use lib.ListN.{length, getD, take, replicate, length-append}
+use lib.ListN.{length, getD, drop, replicate, length-append, drop-of-length-le}
 use Rattle.identifier.specs.Identifier.{isPgn}
 use Rattle.entries.proofs.Reported.{pgns-small, reported-back}
-use Rattle.filter.specs.Filter.{modePlace, countPlace, listOf, namesIn, blockSize, Mode, cleared, block, pass, Filter, clear, meant, filterOf, permits, place, isPermanent, permitted, reportedMode, isCleared}
+use Rattle.sorted_list.specs.SortedList.{putAll, insertAll, fitted}
+use Rattle.sorted_list.proofs.Commands.{in-step-added, in-step-deleted, put-sorts}
+use Rattle.filter.specs.Filter.{modePlace, listOf, namesIn, sortedIn, frontOf, blockSize, Mode, cleared, block, pass, Filter, clear, meant, filterOf, permits, isPermanent, permitted, reportedMode, isCleared}
 use Rattle.pgn_list.specs.PgnList.{listSize, addOne, addAll, deleteAll, once}
 use Rattle.entries.specs.Entries.{listed, entriesOf, every, reported}
 use Rattle.name_entries.specs.NameEntries.{NameEntry, mostNames, namesOf, isThere}
 use Rattle.name_entries.proofs.Matching.{as-many}
-use Rattle.filter_commands.specs.Changes.{wouldPass, lacks, passesNames, mayAdd, mayDelete, mayCreate, mayName, added, deleted, modeFor, created, named, Sound}
+use Rattle.filter_commands.specs.Changes.{wouldPass, lacks, passesNames, mayAdd, mayDelete, mayCreate, mayName, withList, added, deleted, modeFor, created, withNames, named, Sound}
 use Rattle.filter.proofs.Meaning.{counting, cleared-none}
 use Rattle.pgn_list.proofs.Changes.{one-listed, one-new}
 use Rattle.checks.proofs.Tests.{both}
@@ -36,14 +38,14 @@ cleared-permits pgn = go (isPermanent pgn)
     go false = refl
 
 -- "cleared" is not "block with no entries"
-pub cleared-not-block : (es : List ℕ) → clear ≡ record { mode = block; entries = es; named = [] } → ⊥
-cleared-not-block es e =
+pub cleared-not-block : (es ss : List ℕ) → clear ≡ record { mode = block; entries = es; named = []; sorted = ss } → ⊥
+cleared-not-block es ss e =
     let m : cleared ≡ block = ap {B = Mode} (λ (f : Filter). f .mode) e in
     let z : _≡_ {A = ℕ} 0 1 = cc in
     omega arith
 
 -- a pass pair with no entries permits nothing but the permanent PGNs
-pub emptied-pass : (pgn : ℕ) → permitted (record { mode = pass; entries = []; named = [] }) pgn ≡ isPermanent pgn
+pub emptied-pass : (pgn : ℕ) → permitted (record { mode = pass; entries = []; named = []; sorted = [] }) pgn ≡ isPermanent pgn
 unfolding permitted permits listed
 emptied-pass pgn = go (isPermanent pgn)
   where
@@ -65,46 +67,48 @@ few-enough : (f : Filter) (xs : List ℕ) → not (wouldPass f xs) ≡ true → 
 unfolding wouldPass
 few-enough f xs e = let n = length (addAll (f .entries) xs) in ltb-false listSize n (not-true (ltb listSize n) e)
 
-unnamed-of : (m : ℕ) (es : List ℕ) (ns : List NameEntry) → isCleared (meant m es ns .mode) ≡ true → meant m es ns .named ≡ []
+unnamed-of : (m : ℕ) (es : List ℕ) (ns : List NameEntry) (ss : List ℕ) → isCleared (meant m es ns ss .mode) ≡ true → meant m es ns ss .named ≡ []
 unfolding meant isCleared
-unnamed-of zero es ns e = refl
-unnamed-of (suc zero) es ns e = refl
-unnamed-of (suc (suc zero)) es ns e = refl
-unnamed-of (suc (suc (suc zero))) es ns e = absurd (true≢false (sym e))
-unnamed-of (suc (suc (suc (suc m)))) es ns e = absurd (true≢false (sym e))
+unnamed-of zero es ns ss e = refl
+unnamed-of (suc zero) es ns ss e = refl
+unnamed-of (suc (suc zero)) es ns ss e = refl
+unnamed-of (suc (suc (suc zero))) es ns ss e = absurd (true≢false (sym e))
+unnamed-of (suc (suc (suc (suc m)))) es ns ss e = absurd (true≢false (sym e))
 
-few-named-of : (m : ℕ) (es : List ℕ) (ns : List NameEntry) → length ns ≤ mostNames → length (meant m es ns .named) ≤ mostNames
+few-named-of : (m : ℕ) (es : List ℕ) (ns : List NameEntry) (ss : List ℕ) → length ns ≤ mostNames → length (meant m es ns ss .named) ≤ mostNames
 unfolding meant
-few-named-of zero es ns h = zero-le
-few-named-of (suc zero) es ns h = zero-le
-few-named-of (suc (suc zero)) es ns h = zero-le
-few-named-of (suc (suc (suc zero))) es ns h = h
-few-named-of (suc (suc (suc (suc m)))) es ns h = h
+few-named-of zero es ns ss h = zero-le
+few-named-of (suc zero) es ns ss h = zero-le
+few-named-of (suc (suc zero)) es ns ss h = zero-le
+few-named-of (suc (suc (suc zero))) es ns ss h = h
+few-named-of (suc (suc (suc (suc m)))) es ns ss h = h
 
 module _ (words : List ℕ) where
   cleared-unnamed : isCleared (filterOf words .mode) ≡ true → filterOf words .named ≡ []
   unfolding filterOf
-  cleared-unnamed e = unnamed-of (getD words modePlace 0) (take (getD words countPlace 0) (listOf words)) (namesOf (namesIn words)) e
+  cleared-unnamed e = unnamed-of (getD words modePlace 0) (frontOf words (listOf words)) (namesOf (namesIn words)) (frontOf words (sortedIn words)) e
 
   few-named : length (filterOf words .named) ≤ mostNames
   unfolding filterOf
   few-named =
-      few-named-of (getD words modePlace 0) (take (getD words countPlace 0) (listOf words)) (namesOf (namesIn words))
+      few-named-of (getD words modePlace 0) (frontOf words (listOf words)) (namesOf (namesIn words)) (frontOf words (sortedIn words))
       (omega (arith, as-many (namesIn words) refl))
 
--- of a block, only that no PGN stands twice is to be shown
-pub block-sound : (words : List ℕ) → length words ≡ blockSize → once (filterOf words .entries) ≡ true → Sound (filterOf words)
-block-sound words long h = record {
+-- of a block, only that no PGN stands twice and that they are in order is to be shown
+pub block-sound : (words : List ℕ) → length words ≡ blockSize → once (filterOf words .entries) ≡ true → filterOf words .sorted ≡ insertAll [] (filterOf words .entries)
+    → Sound (filterOf words)
+block-sound words long h o = record {
   none = cleared-none words;
   different = h;
   few = counting words (omega (arith, long)) .small;
   unnamed = cleared-unnamed words;
   few-names = few-named words;
+  in-order = o;
 }
 
 pub clear-sound : Sound clear
-unfolding once
-clear-sound = record { none = λ _. refl; different = refl; few = zero-le; unnamed = λ _. refl; few-names = zero-le }
+unfolding once insertAll
+clear-sound = record { none = λ _. refl; different = refl; few = zero-le; unnamed = λ _. refl; few-names = zero-le; in-order = refl }
 
 pub added-sound : {f : Filter} → Sound f → (xs : List ℕ) → Sound (added f xs)
 unfolding added mayAdd
@@ -118,6 +122,7 @@ added-sound {f} S xs =
       few = few-enough f xs (p .1);
       unnamed = not-both (isCleared (f .mode)) (p .0);
       few-names = S .few-names;
+      in-order = in-step-added (f .entries) xs (f .sorted) (S .different) (S .in-order);
     })
 
 pub deleted-sound : {f : Filter} → Sound f → (xs : List ℕ) → Sound (deleted f xs)
@@ -132,6 +137,7 @@ deleted-sound {f} S xs =
       few = le-trans (delete-shorter (f .entries) xs) (S .few);
       unnamed = not-both (isCleared (f .mode)) (p .0);
       few-names = S .few-names;
+      in-order = in-step-deleted (f .entries) xs (f .sorted) (S .different) (S .in-order);
     })
 
 mode-for : (passing : Bool) → isCleared (modeFor passing) ≡ false
@@ -140,7 +146,7 @@ mode-for true = refl
 mode-for false = refl
 
 pub created-sound : {f : Filter} → Sound f → (passing : Bool) (xs : List ℕ) → Sound (created passing f xs)
-unfolding created mayCreate once
+unfolding created mayCreate once insertAll
 created-sound {f} S passing xs =
     either Sound (isCleared (f .mode) && not (wouldPass f xs)) S
     (λ e.
@@ -151,6 +157,7 @@ created-sound {f} S passing xs =
       few = rw (S .none (p .0)) at (few-enough f xs (p .1));
       unnamed = λ _. refl;
       few-names = zero-le;
+      in-order = in-step-added [] xs [] refl refl;
     })
 
 -- a further NAME entry, where it is not yet there and there are fewer than eight
@@ -173,6 +180,7 @@ named-sound {f} S e =
       few = S .few;
       unnamed = not-both (isCleared (f .mode)) (p .0);
       few-names = one-more (isThere e (f .named)) (f .named) e (S .few-names) (p .1);
+      in-order = S .in-order;
     })
 
 -- "one already there changes nothing"
@@ -180,7 +188,7 @@ pub name-again : (f : Filter) (e : NameEntry) → isThere e (f .named) ≡ true 
 unfolding named
 name-again f e h = go (mayName f e)
   where
-    go : (b : Bool) → cond b (record { mode = f .mode; entries = f .entries; named = cond (isThere e (f .named)) (f .named) (f .named ++ e ∷ []) }) f ≡ f
+    go : (b : Bool) → cond b (withNames f (cond (isThere e (f .named)) (f .named) (f .named ++ e ∷ []))) f ≡ f
     go true = rw h
     go false = refl
 
@@ -208,16 +216,22 @@ module _ (f : Filter) (xs : List ℕ) (pgns : every isPgn (f .entries) ≡ true)
 -- ---- the place of a PGN
 -- adding a listed PGN changes nothing
 pub add-listed : (f : Filter) (x : ℕ) → listed x (f .entries) ≡ true → added f (x ∷ []) ≡ f
-unfolding added addAll
+unfolding added addAll putAll
 add-listed f x l = go (mayAdd f (x ∷ []))
   where
-    go : (b : Bool) → cond b (record { mode = f .mode; entries = addOne (f .entries) x; named = f .named }) f ≡ f
-    go true = rw (one-listed (f .entries) x l)
+    none : drop (length (f .entries)) (f .entries) ≡ []
+    none = drop-of-length-le (f .entries) {i = length (f .entries)} (le-refl (length (f .entries)))
+
+    go : (b : Bool) → cond b (withList f (addOne (f .entries) x) (putAll (f .sorted) (drop (length (f .entries)) (addOne (f .entries) x)))) f ≡ f
+    go true = rw (one-listed (f .entries) x l, none)
     go false = refl
 
 -- deleted and added again, a PGN stands last
 module _ (f : Filter) (x : ℕ) (S : Sound f) (e : isCleared (f .mode) ≡ false) (l : listed x (f .entries) ≡ true) where
-  gone : deleted f (x ∷ []) ≡ record { mode = f .mode; entries = deleteAll (f .entries) (x ∷ []); named = f .named }
+  abbrev less : Filter
+  less = withList f (deleteAll (f .entries) (x ∷ [])) (fitted (length (deleteAll (f .entries) (x ∷ []))) (deleteAll (f .sorted) (x ∷ [])))
+
+  gone : deleted f (x ∷ []) ≡ less
   unfolding deleted mayDelete lacks every
   gone = rw (e, l)
 
@@ -225,7 +239,7 @@ module _ (f : Filter) (x : ℕ) (S : Sound f) (e : isCleared (f .mode) ≡ false
   unfolding addAll listed
   last = one-new (deleteAll (f .entries) (x ∷ [])) x (deleted-listed x (f .entries) (x ∷ []) ∙ rw (eq-eqb x x refl) (and-false (listed x (f .entries))))
 
-  pub delete-add : added (deleted f (x ∷ [])) (x ∷ []) ≡ record { mode = f .mode; entries = deleteAll (f .entries) (x ∷ []) ++ (x ∷ []); named = f .named }
+  pub delete-add : added (deleted f (x ∷ [])) (x ∷ []) .entries ≡ deleteAll (f .entries) (x ∷ []) ++ (x ∷ [])
   unfolding added mayAdd wouldPass
   delete-add =
       let n : length (deleteAll (f .entries) (x ∷ []) ++ (x ∷ [])) ≤ listSize = omega (arith, length-append (deleteAll (f .entries) (x ∷ [])) (x ∷ []), delete-less (f .entries) x l, S .few) in
@@ -233,7 +247,7 @@ module _ (f : Filter) (x : ℕ) (S : Sound f) (e : isCleared (f .mode) ≡ false
 
 -- ---- the round trip
 -- a list with a mode, created on a cleared pair from the bytes that report it, is that list again
-pub round-trip : (passing : Bool) (es : List ℕ) → once es ≡ true → every (λ x. ltb x (2 ^ 24)) es ≡ true → length es ≤ listSize → created passing clear (entriesOf (reported es)) ≡ record { mode = modeFor passing; entries = es; named = [] }
+pub round-trip : (passing : Bool) (es : List ℕ) → once es ≡ true → every (λ x. ltb x (2 ^ 24)) es ≡ true → length es ≤ listSize → created passing clear (entriesOf (reported es)) ≡ record { mode = modeFor passing; entries = es; named = []; sorted = putAll [] es }
 unfolding created mayCreate wouldPass isCleared
 round-trip passing es h small few =
     rw (reported-back es small, add-different [] es h, le-ltb listSize (length es) few)
@@ -246,7 +260,7 @@ mode-back block e = refl
 mode-back pass e = refl
 
 -- so what function 0 reports of a pair that is not cleared, created on a cleared pair, is the pair's filter again
-pub restored : (f : Filter) → Sound f → every isPgn (f .entries) ≡ true → isCleared (f .mode) ≡ false → created (eqb (reportedMode (f .mode)) 1) clear (entriesOf (reported (f .entries))) ≡ record { mode = f .mode; entries = f .entries; named = [] }
+pub restored : (f : Filter) → Sound f → every isPgn (f .entries) ≡ true → isCleared (f .mode) ≡ false → created (eqb (reportedMode (f .mode)) 1) clear (entriesOf (reported (f .entries))) ≡ withNames f []
 restored f S pgns e =
     round-trip (eqb (reportedMode (f .mode)) 1) (f .entries) (S .different) (pgns-small (f .entries) pgns) (S .few)
-    ∙ rw (mode-back (f .mode) e)
+    ∙ rw (mode-back (f .mode) e, S .in-order, put-sorts (f .entries) (S .different))

@@ -1,3 +1,4 @@
+mod Sorting
 mod Commands
 mod Names
 pub mod Laws

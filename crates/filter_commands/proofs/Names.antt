@@ -6,36 +6,37 @@ use Prim.Native.Nat.{ℕ, zero, suc, _+_, _≤_, _<_, min}
 use native.Mathlib.Omega.{arith}
 use borrow.Author.Tests.{ne-eqb, eq-eqb, le-leb, lt-leb}
 use lib.Dec.{eqb, leb}
-use lib.ListN.{length, getD, set, take, drop, length-set, length-drop, List·getD-append}
-use lib.Seq.{length-take-le, getD-take}
-use Rattle.storage.proofs.Parts.{back, length-back, part-in, part-before}
+use lib.ListN.{length, getD, set, take, drop, length-set, length-drop}
+use lib.Seq.{length-take-le}
+use Rattle.storage.proofs.Parts.{back, length-back, part-in, part-before, part-after}
 use Rattle.name_entries.specs.NameEntries.{NameEntry, mostNames, namesLength, entriesIn, namesOf, isThere, Appending}
 use Rattle.name_entries.proofs.Matching.{as-many, names-are}
-use Rattle.filter.specs.Filter.{modePlace, countPlace, listPlace, listOf, namesPlace, namesIn, blockSize, Filter, meant, filterOf, isCleared}
+use Rattle.filter.specs.Filter.{modePlace, countPlace, listPlace, listOf, namesPlace, namesIn, sortedPlace, sortedIn, frontOf, blockSize, Filter, meant, filterOf, isCleared}
 use Rattle.filter.proofs.Meaning.{cleared-test, plain-names, with-names}
 use Rattle.pgn_list.specs.PgnList.{listSize}
-use Rattle.filter_commands.specs.Changes.{passesNames, mayName, named, Naming}
+use Rattle.filter_commands.specs.Changes.{passesNames, mayName, withNames, named, Naming}
 use Rattle.filter_commands.proofs.Commands.{stays, changed, made}
+use Rattle.filter_commands.proofs.Sorting.{word-before}
 
 pub names-long : (words : List ℕ) → length words ≡ blockSize → length (namesIn words) ≡ namesLength
 names-long words long = length-take-le namesLength (drop namesPlace words) (omega (arith, length-drop namesPlace words))
 
 -- ---- the same pair with other NAME entries
-meant-named : (m : ℕ) (es : List ℕ) (ns ms : List NameEntry) → 3 ≤ m → meant m es ms ≡ record { mode = meant m es ns .mode; entries = meant m es ns .entries; named = ms }
+meant-named : (m : ℕ) (es : List ℕ) (ns ms : List NameEntry) (ss : List ℕ) → 3 ≤ m → meant m es ms ss ≡ withNames (meant m es ns ss) ms
 unfolding meant
-meant-named zero es ns ms h = absurd (omega arith)
-meant-named (suc zero) es ns ms h = absurd (omega arith)
-meant-named (suc (suc zero)) es ns ms h = absurd (omega arith)
-meant-named (suc (suc (suc zero))) es ns ms h = refl
-meant-named (suc (suc (suc (suc m)))) es ns ms h = refl
+meant-named zero es ns ms ss h = absurd (omega arith)
+meant-named (suc zero) es ns ms ss h = absurd (omega arith)
+meant-named (suc (suc zero)) es ns ms ss h = absurd (omega arith)
+meant-named (suc (suc (suc zero))) es ns ms ss h = refl
+meant-named (suc (suc (suc (suc m)))) es ns ms ss h = refl
 
 -- the mode word of a pair that had none
-meant-begun : (m : ℕ) (es : List ℕ) (ns ms : List NameEntry) → 1 ≤ m → m < 3 → meant (m + 2) es ms ≡ record { mode = meant m es ns .mode; entries = meant m es ns .entries; named = ms }
+meant-begun : (m : ℕ) (es : List ℕ) (ns ms : List NameEntry) (ss : List ℕ) → 1 ≤ m → m < 3 → meant (m + 2) es ms ss ≡ withNames (meant m es ns ss) ms
 unfolding meant
-meant-begun zero es ns ms l h = absurd (omega arith)
-meant-begun (suc zero) es ns ms l h = refl
-meant-begun (suc (suc zero)) es ns ms l h = refl
-meant-begun (suc (suc (suc m))) es ns ms l h = absurd (omega arith)
+meant-begun zero es ns ms ss l h = absurd (omega arith)
+meant-begun (suc zero) es ns ms ss l h = refl
+meant-begun (suc (suc zero)) es ns ms ss l h = refl
+meant-begun (suc (suc (suc m))) es ns ms ss l h = absurd (omega arith)
 
 module _ (words ys : List ℕ) (long : length words ≡ blockSize) (l : length ys ≡ namesLength) where
   -- the block with the part that came back
@@ -43,12 +44,13 @@ module _ (words ys : List ℕ) (long : length words ≡ blockSize) (l : length y
   renamed = back namesPlace namesLength words ys
 
   same-word : (i : ℕ) → i < namesPlace → getD renamed i 0 ≡ getD words i 0
-  same-word i h =
-      List·getD-append (take namesPlace words) (ys ++ drop namesLength (drop namesPlace words)) 0 i (omega (arith, length-take-le namesPlace words (omega arith)))
-      ∙ getD-take namesPlace words i 0 h
+  same-word i h = word-before namesPlace namesLength words ys l (omega arith) i h
 
-  same-list : take (getD renamed countPlace 0) (listOf renamed) ≡ take (getD words countPlace 0) (listOf words)
+  same-list : frontOf renamed (listOf renamed) ≡ frontOf words (listOf words)
   same-list = rw (same-word countPlace (omega arith), part-before namesPlace namesLength words ys l (omega arith) listPlace listSize (omega arith))
+
+  same-sorted : frontOf renamed (sortedIn renamed) ≡ frontOf words (sortedIn words)
+  same-sorted = rw (same-word countPlace (omega arith), part-after namesPlace namesLength words ys l (omega arith) sortedPlace (omega arith))
 
   the-names : namesIn renamed ≡ ys
   the-names = part-in namesPlace namesLength words ys l (omega arith)
@@ -58,49 +60,52 @@ module _ (words : List ℕ) where
   modeWord = getD words modePlace 0
 
   abbrev theList : List ℕ
-  theList = take (getD words countPlace 0) (listOf words)
+  theList = frontOf words (listOf words)
 
   abbrev theNames : List NameEntry
   theNames = namesOf (namesIn words)
 
+  abbrev theSorted : List ℕ
+  theSorted = frontOf words (sortedIn words)
+
   -- the entries that there are, by the mode word
   none-named : modeWord < 3 → filterOf words .named ≡ []
   unfolding filterOf
-  none-named h = plain-names modeWord theList theNames h
+  none-named h = plain-names modeWord theList theNames theSorted h
 
   some-named : 3 ≤ modeWord → filterOf words .named ≡ theNames
   unfolding filterOf
-  some-named h = with-names modeWord theList theNames h
+  some-named h = with-names modeWord theList theNames theSorted h
 
   not-cleared : 1 ≤ modeWord → isCleared (filterOf words .mode) ≡ false
   unfolding filterOf
-  not-cleared h = cleared-test modeWord theList theNames ∙ ne-eqb modeWord 0 (λ e. omega (arith, e))
+  not-cleared h = cleared-test modeWord theList theNames theSorted ∙ ne-eqb modeWord 0 (λ e. omega (arith, e))
 
   is-cleared : modeWord ≡ 0 → isCleared (filterOf words .mode) ≡ true
   unfolding filterOf
-  is-cleared h = cleared-test modeWord theList theNames ∙ eq-eqb modeWord 0 h
+  is-cleared h = cleared-test modeWord theList theNames theSorted ∙ eq-eqb modeWord 0 h
 
   module _ (ys : List ℕ) (long : length words ≡ blockSize) (l : length ys ≡ namesLength) where
     abbrev with : List NameEntry → Filter
-    with ns = record { mode = filterOf words .mode; entries = filterOf words .entries; named = ns }
+    with ns = withNames (filterOf words) ns
 
     grown-names : 3 ≤ modeWord → filterOf (back namesPlace namesLength words ys) ≡ with (namesOf ys)
     unfolding filterOf
     grown-names h =
-        rw (same-word words ys long l modePlace (omega arith), same-list words ys long l, the-names words ys long l)
-        (meant-named modeWord theList theNames (namesOf ys) h)
+        rw (same-word words ys long l modePlace (omega arith), same-list words ys long l, same-sorted words ys long l, the-names words ys long l)
+        (meant-named modeWord theList theNames (namesOf ys) theSorted h)
 
     begun-names : (m : ℕ) → m ≡ modeWord → 1 ≤ m → m < 3 → filterOf (set (back namesPlace namesLength words ys) modePlace (m + 2)) ≡ with (namesOf ys)
     unfolding filterOf
     begun-names m q low high =
         made (back namesPlace namesLength words ys) (m + 2) (omega (arith, length-back namesPlace namesLength words ys l (omega arith)))
-        ∙ rw (same-list words ys long l, the-names words ys long l, q) (meant-begun modeWord theList theNames (namesOf ys) (omega arith) (omega arith))
+        ∙ rw (same-list words ys long l, same-sorted words ys long l, the-names words ys long l, q) (meant-begun modeWord theList theNames (namesOf ys) theSorted (omega arith) (omega arith))
 
   -- ---- the question
   module _ (e : NameEntry) where
     -- the filter where the entry is not yet there
     abbrev more : List NameEntry → Filter
-    more ns = record { mode = filterOf words .mode; entries = filterOf words .entries; named = cond (isThere e ns) ns (ns ++ e ∷ []) }
+    more ns = withNames (filterOf words) (cond (isThere e ns) ns (ns ++ e ∷ []))
 
     pub full-none : modeWord < 3 → false ≡ passesNames (filterOf words) e
     unfolding passesNames isThere

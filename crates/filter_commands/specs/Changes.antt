@@ -10,6 +10,7 @@ use lib.Dec.{ltb, leb}
 use Rattle.entries.specs.Entries.{listed, every}
 use Rattle.pgn_list.specs.PgnList.{listSize, addAll, deleteAll, once}
 use Rattle.name_entries.specs.NameEntries.{NameEntry, mostNames, isThere}
+use Rattle.sorted_list.specs.SortedList.{putAll, insertAll, appended, fitted}
 use Rattle.filter.specs.Filter.{Mode, block, pass, Filter, clear, filterOf, isCleared}
 
 -- ---- the questions
@@ -42,12 +43,17 @@ mayCreate f xs = isCleared (f .mode) && not (wouldPass f xs)
 unfoldable pub mayName : Filter → NameEntry → Bool
 mayName f e = not (isCleared (f .mode)) && not (passesNames f e)
 
--- ---- the filter after a command: as it was, where the command may not be done
+-- ---- the filter after a command: as it was, where the command may not be done. What is searched follows: what Add appends is put in where it
+-- belongs, one after the other, and what Delete names is taken out; it stays as long as the list
+abbrev pub withList : Filter → List ℕ → List ℕ → Filter
+withList f es ss = record { mode = f .mode; entries = es; named = f .named; sorted = ss }
+
 unfoldable pub added : Filter → List ℕ → Filter
-added f xs = cond (mayAdd f xs) (record { mode = f .mode; entries = addAll (f .entries) xs; named = f .named }) f
+added f xs = cond (mayAdd f xs) (withList f (addAll (f .entries) xs) (putAll (f .sorted) (appended (f .entries) xs))) f
 
 unfoldable pub deleted : Filter → List ℕ → Filter
-deleted f xs = cond (mayDelete f xs) (record { mode = f .mode; entries = deleteAll (f .entries) xs; named = f .named }) f
+deleted f xs =
+    cond (mayDelete f xs) (withList f (deleteAll (f .entries) xs) (fitted (length (deleteAll (f .entries) xs)) (deleteAll (f .sorted) xs))) f
 
 -- Create's mode 1 is pass, its mode 0 block
 unfoldable pub modeFor : Bool → Mode
@@ -55,13 +61,14 @@ modeFor true = pass
 modeFor false = block
 
 unfoldable pub created : Bool → Filter → List ℕ → Filter
-created passing f xs = cond (mayCreate f xs) (record { mode = modeFor passing; entries = addAll [] xs; named = [] }) f
+created passing f xs =
+    cond (mayCreate f xs) (record { mode = modeFor passing; entries = addAll [] xs; named = []; sorted = putAll [] (addAll [] xs) }) f
+
+abbrev pub withNames : Filter → List NameEntry → Filter
+withNames f ns = record { mode = f .mode; entries = f .entries; named = ns; sorted = f .sorted }
 
 unfoldable pub named : Filter → NameEntry → Filter
-named f e =
-    cond (mayName f e)
-    (record { mode = f .mode; entries = f .entries; named = cond (isThere e (f .named)) (f .named) (f .named ++ e ∷ []) })
-    f
+named f e = cond (mayName f e) (withNames f (cond (isThere e (f .named)) (f .named) (f .named ++ e ∷ []))) f
 
 -- ---- the contracts on a block: done exactly if it may be, the filter after, and every word as it was where it may not be done.
 -- Of the free part of a block that was changed nothing is promised.
@@ -89,10 +96,12 @@ pub record Clearing (entry exit : List ℕ) : Type 0 where
   pub long : length exit ≡ length entry
 
 -- ---- the invariant
--- a cleared pair has no entries and no NAME entries, a list never holds a PGN twice nor more than it can, and there are at most eight NAME entries
+-- a cleared pair has no entries and no NAME entries, a list never holds a PGN twice nor more than it can, there are at most eight NAME entries,
+-- and what is searched are the list's PGNs in rising order
 pub record Sound (f : Filter) : Type 0 where
   pub none : isCleared (f .mode) ≡ true → f .entries ≡ []
   pub different : once (f .entries) ≡ true
   pub few : length (f .entries) ≤ listSize
   pub unnamed : isCleared (f .mode) ≡ true → f .named ≡ []
   pub few-names : length (f .named) ≤ mostNames
+  pub in-order : f .sorted ≡ insertAll [] (f .entries)

@@ -10,17 +10,19 @@ use filter::LIST;
 use filter::LIST_END;
 use filter::MODE;
 use filter::PASS;
+use filter::SORTED;
 use pgn_list::LIST_SIZE;
 ghost use mathlib.Core.Path.{_≡_};
 ghost use mathlib.Core.Bool.{true, false};
 ghost use mathlib.Core.List.{[], _∷_};
 ghost use Prim.Native.Nat.{_≤_, _<_};
-ghost use lib.ListN.{length, getD};
+ghost use lib.ListN.{length, getD, take, drop};
 ghost use Rattle.entries.specs.Entries.{entriesOf};
-ghost use Rattle.pgn_list.specs.PgnList.{listSize};
-ghost use Rattle.filter.specs.Filter.{modePlace, listOf, blockSize, filterOf, isCleared, Counting};
+ghost use Rattle.pgn_list.specs.PgnList.{listSize, deleteAll};
+ghost use Rattle.sorted_list.specs.SortedList.{putAll, fitted};
+ghost use Rattle.filter.specs.Filter.{modePlace, listOf, sortedIn, blockSize, filterOf, isCleared, Counting};
 ghost use Rattle.filter_commands.specs.Changes.{wouldPass, lacks, passesNames, Adding, Deleting, Creating, Naming, Clearing};
-ghost use Rattle.filter_commands.specs.Steps.{Growing};
+ghost use Rattle.filter_commands.specs.Steps.{Resorted, Growing};
 
 // Whether an entry is absent from the list: refusal 17.
 pub fn lacks(block: &[u64], bytes: &[u8]) -> bool
@@ -70,6 +72,19 @@ fn put(over: &mut [u64], list: &[u64])
     }
 }
 
+// Puts the PGNs of a block's list from index n up to `held` in among those that are searched, of which there are n.
+fn sort_in(block: &mut [u64], n: usize, held: usize)
+    requires { ⌜ (length (now block) ≡ blockSize) × (n ≤ held) × (held ≤ listSize) ⌝ }
+    ensures { λ _. ⌜ Resorted (now (block .entry)) (now (block .exit)) (putAll (take n (sortedIn (now (block .entry)))) (drop n (take held (listOf (now (block .entry)))))) held ⌝ }
+{
+    let mut i = n;
+    while i < held {
+        let x = block[LIST + i];
+        sorted_list::insert(&mut block[SORTED..BLOCK_SIZE], i, x);
+        i += 1;
+    }
+}
+
 // Adds the entries to the first n of a block's list, in place where they are few, else by a copy. Tells whether it was done: not where they
 // would pass LIST_SIZE.
 fn grow(block: &mut [u64], n: usize, bytes: &[u8]) -> bool
@@ -79,6 +94,7 @@ fn grow(block: &mut [u64], n: usize, bytes: &[u8]) -> bool
     if entries::count(bytes) <= LIST_SIZE - n {
         let held = pgn_list::extend(&mut block[LIST..LIST_END], n, bytes);
         block[COUNT] = held as u64;
+        sort_in(block, n, held);
         return true;
     }
     let mut list = copied(block);
@@ -88,6 +104,7 @@ fn grow(block: &mut [u64], n: usize, bytes: &[u8]) -> bool
     }
     put(&mut block[LIST..LIST_END], &list);
     block[COUNT] = held as u64;
+    sort_in(block, n, held);
     true
 }
 
@@ -101,6 +118,7 @@ fn grow_by_one(block: &mut [u64], n: usize, x: u64) -> bool
         return false;
     }
     block[COUNT] = held as u64;
+    sort_in(block, n, held);
     true
 }
 
@@ -119,6 +137,25 @@ pub fn add(block: &mut [u64], bytes: &[u8]) -> bool
     grow(block, n, bytes)
 }
 
+// Takes one PGN out of those that are searched, of which there are n. They become `held`, as many as the list holds.
+fn sort_out_one(block: &mut [u64], n: usize, held: usize, x: u64)
+    requires { ⌜ (length (now block) ≡ blockSize) × (n ≤ listSize) × (held ≤ listSize) ⌝ }
+    ensures { λ _. ⌜ Resorted (now (block .entry)) (now (block .exit)) (fitted held (deleteAll (take n (sortedIn (now (block .entry)))) (x ∷ []))) held ⌝ }
+{
+    let at = pgn_list::find(&block[SORTED..BLOCK_SIZE], n, x);
+    let kept = pgn_list::close_up(&mut block[SORTED..BLOCK_SIZE], at, n, x);
+    sorted_list::fit(&mut block[SORTED..BLOCK_SIZE], kept, held);
+}
+
+// The same with the entries of a command.
+fn sort_out(block: &mut [u64], n: usize, held: usize, bytes: &[u8])
+    requires { ⌜ (length (now block) ≡ blockSize) × (n ≤ listSize) × (held ≤ listSize) ⌝ }
+    ensures { λ _. ⌜ Resorted (now (block .entry)) (now (block .exit)) (fitted held (deleteAll (take n (sortedIn (now (block .entry)))) (entriesOf (now (bytes .entry))))) held ⌝ }
+{
+    let kept = pgn_list::keep_others(&mut block[SORTED..BLOCK_SIZE], n, bytes);
+    sorted_list::fit(&mut block[SORTED..BLOCK_SIZE], kept, held);
+}
+
 // Deletes one PGN from the first n of a block's list. Tells whether it was done: not where it is absent.
 fn delete_one(block: &mut [u64], n: usize, x: u64) -> bool
     requires { ⌜ (length (now block) ≡ blockSize) × Counting (now block) n × (isCleared (filterOf (now block) .mode) ≡ false) ⌝ }
@@ -130,6 +167,7 @@ fn delete_one(block: &mut [u64], n: usize, x: u64) -> bool
     }
     let kept = pgn_list::close_up(&mut block[LIST..LIST_END], i, n, x);
     block[COUNT] = kept as u64;
+    sort_out_one(block, n, kept, x);
     true
 }
 
@@ -150,6 +188,7 @@ pub fn delete(block: &mut [u64], bytes: &[u8]) -> bool
     }
     let kept = pgn_list::keep_others(&mut block[LIST..LIST_END], n, bytes);
     block[COUNT] = kept as u64;
+    sort_out(block, n, kept, bytes);
     true
 }
 
@@ -209,11 +248,11 @@ pub fn names_full(block: &[u64], pgn: u64, name: u64, mask: u64) -> bool
     if block[MODE] < BLOCK_NAMED {
         return false;
     }
-    let n = name_entries::count(&block[LIST_END..BLOCK_SIZE]);
+    let n = name_entries::count(&block[LIST_END..SORTED]);
     if n < name_entries::MOST {
         return false;
     }
-    !name_entries::holds(&block[LIST_END..BLOCK_SIZE], n, pgn, name, mask)
+    !name_entries::holds(&block[LIST_END..SORTED], n, pgn, name, mask)
 }
 
 // The first NAME entry of a pair, whose mode word from then on says that there are some.
@@ -221,7 +260,7 @@ fn begin_names(block: &mut [u64], mode: u64, pgn: u64, name: u64, mask: u64)
     requires { ⌜ (length (now block) ≡ blockSize) × (mode ≡ getD (now block) modePlace 0) × (1 ≤ mode) × (mode < 3) ⌝ }
     ensures { λ _. ⌜ Naming (now (block .entry)) (now (block .exit)) (record { pgn = pgn; name = name; mask = mask }) true ⌝ }
 {
-    name_entries::append(&mut block[LIST_END..BLOCK_SIZE], 0, pgn, name, mask);
+    name_entries::append(&mut block[LIST_END..SORTED], 0, pgn, name, mask);
     block[MODE] = mode + 2;
 }
 
@@ -230,14 +269,14 @@ fn grow_names(block: &mut [u64], pgn: u64, name: u64, mask: u64) -> bool
     requires { ⌜ (length (now block) ≡ blockSize) × (3 ≤ getD (now block) modePlace 0) ⌝ }
     ensures { λ r. ⌜ Naming (now (block .entry)) (now (block .exit)) (record { pgn = pgn; name = name; mask = mask }) r ⌝ }
 {
-    let n = name_entries::count(&block[LIST_END..BLOCK_SIZE]);
-    if name_entries::holds(&block[LIST_END..BLOCK_SIZE], n, pgn, name, mask) {
+    let n = name_entries::count(&block[LIST_END..SORTED]);
+    if name_entries::holds(&block[LIST_END..SORTED], n, pgn, name, mask) {
         return true;
     }
     if n == name_entries::MOST {
         return false;
     }
-    name_entries::append(&mut block[LIST_END..BLOCK_SIZE], n, pgn, name, mask);
+    name_entries::append(&mut block[LIST_END..SORTED], n, pgn, name, mask);
     true
 }
 

@@ -12,7 +12,7 @@ use lib.ListN.{length}
 use Rattle.filter.specs.declared.Asked.{Asked}
 use Rattle.filter.specs.Filter.{reasonNumber}
 use Rattle.filter.proofs.Reasons.{reason-below}
-use Rattle.pgn_list.specs.PgnList.{listSize}
+use Rattle.sorted_list.specs.SortedList.{mostProbes}
 use Rattle.name_entries.specs.NameEntries.{mostNames}
 use Rattle.queue.specs.declared.Frame.{Frame}
 use Rattle.queue.specs.Queue.{Queued, sentAll, idle}
@@ -81,7 +81,7 @@ pub record Going (ports : ℕ) (start : List ℕ) (question : ℕ → Asked) (f 
   pub along : Along ports start (λ q x. sentAll x (sentIf (question q) f)) (λ q. false) (λ q l. l) words bit n
   pub place : weight ≡ 16 ^ n
   pub answer : record { accepted = accepted; lost = lost; reasons = reasons; compared = compared } ≡ sharesTo n (modelOf ports start) question
-  pub small : compared ≤ (listSize + mostNames) * n
+  pub small : compared ≤ (mostProbes + mostNames) * n
 
 -- forwarding changes queues alone, so what is asked of the rest is answered as it was at the start
 pub asked-still : {ports : ℕ} (question : Rest → ℕ → Asked) {start words after : List ℕ} {f : Frame} {accepted lost reasons compared bit weight n : ℕ} {r : Offered} → Going ports start (question (modelOf ports start .rest)) f words accepted lost reasons compared bit weight n

@@ -10,7 +10,7 @@ use borrow.Author.Tests.{eq-eqb, ne-eqb, lt-ltb, le-ltb}
 use lib.Seq.{set-getD}
 use Rattle.filter.specs.declared.Asked.{Asked}
 use Rattle.filter.specs.Filter.{Filter, crosses, reasonNumber, blockSize as filterLength}
-use Rattle.pgn_list.specs.PgnList.{listSize}
+use Rattle.sorted_list.specs.SortedList.{mostProbes}
 use Rattle.name_entries.specs.NameEntries.{mostNames}
 use Rattle.queue.specs.declared.Frame.{Frame}
 use Rattle.queue.specs.Queue.{size, idle, joined}
@@ -88,7 +88,7 @@ misses-is v row = go (crosses (v .reason)) (room size row)
     go false w = refl
 
 -- what a pair answered, done at the port that it leads to
-module _ {ports : ℕ} {before : List ℕ} {q : ℕ} {f : Frame} {v : Asked} {told : ℕ} (T : told ≡ reasonNumber (v .reason)) (small : v .compared ≤ listSize + mostNames) where
+module _ {ports : ℕ} {before : List ℕ} {q : ℕ} {f : Frame} {v : Asked} {told : ℕ} (T : told ≡ reasonNumber (v .reason)) (small : v .compared ≤ mostProbes + mostNames) where
   pub carried-stopped : crosses (v .reason) ≡ false → Sending ports before before v q f (record { came = Came.Stopped; reason = told; compared = v .compared })
   carried-stopped e = record { answer = rw (e, T); state = rw e (queue-same (modelOf ports before) q); small = small }
 

@@ -9,7 +9,7 @@ use lib.ListN.{length}
 use Rattle.delivery.specs.Row.{room}
 use Rattle.filter.specs.declared.Asked.{Asked}
 use Rattle.filter.specs.Filter.{crosses, reasonNumber, blockSize as filterLength}
-use Rattle.pgn_list.specs.PgnList.{listSize}
+use Rattle.sorted_list.specs.SortedList.{mostProbes}
 use Rattle.name_entries.specs.NameEntries.{mostNames}
 use Rattle.identifier.specs.Identifier.{saOf}
 use Rattle.queue.specs.declared.Frame.{Frame}
@@ -67,7 +67,7 @@ misses Came.Lost = true
 pub record Sending (ports : ℕ) (before after : List ℕ) (v : Asked) (q : ℕ) (f : Frame) (r : Offered) : Type 0 where
   pub answer : r ≡ record { came = cameOf v (rowAt (modelOf ports before) q); reason = reasonNumber (v .reason); compared = v .compared }
   pub state : modelOf ports after ≡ withQueue (modelOf ports before) q (sentAll (queueOn (modelOf ports before) q) (sentIf v f))
-  pub small : r .compared ≤ listSize + mostNames
+  pub small : r .compared ≤ mostProbes + mostNames
 
 -- from any other port, by the pair whose filter begins at a word, whatever the number of ports
 abbrev pub SendingAt : (before after : List ℕ) (at q pgn : ℕ) (f : Frame) (r : Offered) → Type 0
@@ -137,7 +137,7 @@ pub record Gone (ports : ℕ) (start words : List ℕ) (p pgn : ℕ) (f : Frame)
   pub bit : way .bit ≡ 2 ^ way .to
   pub weight : way .weight ≡ 16 ^ way .to
   pub answer : wayShare way ≡ sharesTo (way .to) (modelOf ports start) (verdict ports (modelOf ports start .rest) p pgn (saOf (f .id)))
-  pub small : way .compared ≤ (listSize + mostNames) * way .to
+  pub small : way .compared ≤ (mostProbes + mostNames) * way .to
   pub state : modelOf ports words
       ≡ changedTo (way .to) (modelOf ports start) (λ q x. sentAll x (sentIf (verdict ports (modelOf ports start .rest) p pgn (saOf (f .id)) q) f)) (λ q. false) (λ q l. l)
   pub standing : Standing ports p (way .at) (way .to)

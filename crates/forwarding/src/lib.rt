@@ -8,7 +8,7 @@ ghost use mathlib.Core.List.{List};
 ghost use Prim.Native.Nat.{ℕ, _+_, _*_, _^_, _≤_, _<_};
 ghost use lib.ListN.{length, getD};
 ghost use Rattle.filter.specs.Filter.{blockSize as filterLength};
-ghost use Rattle.pgn_list.specs.PgnList.{listSize};
+ghost use Rattle.sorted_list.specs.SortedList.{mostProbes};
 ghost use Rattle.name_entries.specs.NameEntries.{mostNames};
 ghost use Rattle.identifier.specs.Identifier.{saOf};
 ghost use Rattle.queue.specs.Queue.{blockLength as queueLength};
@@ -66,7 +66,7 @@ struct Offered {
 
 // What a pair answered is done at the port that it leads to: the frame joins where it may cross.
 fn carry(words: &mut [u64], to: usize, v: Asked, f: Frame) -> Offered
-    requires { ⌜ (rowsFrom + queueLength * to + queueLength ≤ length (now words)) × (v .compared ≤ listSize + mostNames) ⌝ }
+    requires { ⌜ (rowsFrom + queueLength * to + queueLength ≤ length (now words)) × (v .compared ≤ mostProbes + mostNames) ⌝ }
     ensures { λ r. ⌜ ((ports : ℕ) → to < ports → Sending ports (now (words .entry)) (now (words .exit)) v to f r) ⌝ }
 {
     let why = v.reason;
@@ -108,7 +108,7 @@ fn send_by_list(words: &mut [u64], at: usize, to: usize, pgn: u32, f: Frame) -> 
     requires { ⌜ (at + filterLength ≤ length (now words)) × (rowsFrom + queueLength * to + queueLength ≤ length (now words)) × (getD (now words) at 0 < 3) ⌝ }
     ensures { λ r. ⌜ SendingAt (now (words .entry)) (now (words .exit)) at to pgn f r ⌝ }
 {
-    let v = record::ask_listed(words, at, pgn);
+    let v = record::ask_plain(words, at, pgn);
     carry(words, to, v, f)
 }
 

@@ -10,7 +10,7 @@ use lib.Dec.{eqb}
 use Rattle.identifier.specs.Identifier.{pgnOf, saOf}
 use Rattle.delivery.specs.Row.{room}
 use Rattle.filter.specs.declared.Asked.{Asked}
-use Rattle.pgn_list.specs.PgnList.{listSize}
+use Rattle.sorted_list.specs.SortedList.{mostProbes}
 use Rattle.name_entries.specs.NameEntries.{mostNames}
 use Rattle.queue.specs.declared.Frame.{Frame}
 use Rattle.queue.specs.Queue.{size}
@@ -69,7 +69,7 @@ askAnswer ports lent rest from to id =
 
 pub record PartAsking (ports : ℕ) (words : List ℕ) (from to id : ℕ) (r : AskAnswer) : Type 0 where
   pub answer : r ≡ askAnswer ports (length words) (modelOf ports words .rest) from to id
-  pub small : r .compared ≤ listSize + mostNames
+  pub small : r .compared ≤ mostProbes + mostNames
 
 -- ---- send a frame to one port (rule 3), where a loss is counted: the arrival port is no target
 unfoldable pub joinAnswer : ℕ → ℕ → Model → ℕ → ℕ → Frame → JoinAnswer

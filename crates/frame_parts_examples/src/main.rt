@@ -290,7 +290,7 @@ fn morning(whole: &mut [u64], parts: &mut [u64], log: &[u8], ports: u32) {
 // The words of a record.
 fn record_length(ports: u32) -> usize
     requires { ⌜ (2 ≤ ports) × (ports ≤ 8) ⌝ }
-    ensures { λ r. ⌜ r ≤ 4474 ⌝ }
+    ensures { λ r. ⌜ r ≤ 6266 ⌝ }
 {
     let length = Unit::record_length(ports as usize);
     if MOST_WORDS < length {

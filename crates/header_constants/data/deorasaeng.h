@@ -6,7 +6,7 @@
    bytes may be handed in as NULL, 0; any other may not.
 
    Platform: x86-64 Linux, the System V calling convention, any linker for ELF. Needed are memcpy and memset and nothing else: no heap, no call of the operating
-   system, no data outside the record. SSE registers and the red zone are used. Some 24 KB of code and constants, 12,272 bytes of record for four ports, at most 1.3 KB
+   system, no data outside the record. SSE registers and the red zone are used. Some 24 KB of code and constants, 15,344 bytes of record for four ports, at most 1.3 KB
    of stack, 6 KB in a call on a plan.
    From the same proved module also 64-bit ARM, RISC-V and 32-bit ARM under Linux, Cortex-M4 and M7 without an operating system, and WebAssembly
    (scripts/library --target). On top of what is believed for x86-64 stands, for a 64-bit one, another back end of the same compiler; for a 32-bit one also that offsets
@@ -52,7 +52,7 @@ typedef char deorasaeng_words_are_aligned_to_8[offsetof(struct deorasaeng_byte_a
 /* The version of this interface. A version may add functions, numbers, and words at the end of an answer or in the record, whose published length then grows: a
    call that lends the old length is refused with 2. So callers are compiled again with the header of the library that they link: deorasaeng_version() tells the
    library's own, and where it is not this one the two do not fit. */
-#define DEORASAENG_VERSION 10
+#define DEORASAENG_VERSION 11
 uint64_t deorasaeng_version(void);
 
 /* What a function gives back: 0 for done, else why the call is refused. */
@@ -91,11 +91,11 @@ enum deorasaeng_number {
 #define DEORASAENG_FEWEST_PORTS 2
 #define DEORASAENG_MOST_PORTS 8
 
-/* Published lengths: of the record of a unit with four ports, of one port's queue in it and of one pair in it, which has its NAME entries behind its list, in words; of a
-   reply buffer at least, and of a frame's bytes, in bytes. */
-#define DEORASAENG_RECORD_WORDS 1534
+/* Published lengths: of the record of a unit with four ports, of one port's queue in it and of one pair in it, which has behind its list its NAME entries and the list
+   in rising order, in words; of a reply buffer at least, and of a frame's bytes, in bytes. */
+#define DEORASAENG_RECORD_WORDS 1918
 #define DEORASAENG_QUEUE_WORDS 75
-#define DEORASAENG_RECORD_PAIR_WORDS 59
+#define DEORASAENG_RECORD_PAIR_WORDS 91
 #define DEORASAENG_REPLY_BYTES 1785
 #define DEORASAENG_FRAME_BYTES 8
 
@@ -105,12 +105,12 @@ enum deorasaeng_number {
 
 /* The length of the record of a unit with another number of ports, in words, and of one with any number: a constant where `ports` is one. For a number that is not 2 to
    8 it is four's, which is what power-on is to be lent then. */
-#define DEORASAENG_RECORD_WORDS_2 784
-#define DEORASAENG_RECORD_WORDS_3 1099
-#define DEORASAENG_RECORD_WORDS_5 2089
-#define DEORASAENG_RECORD_WORDS_6 2764
-#define DEORASAENG_RECORD_WORDS_7 3559
-#define DEORASAENG_RECORD_WORDS_8 4474
+#define DEORASAENG_RECORD_WORDS_2 848
+#define DEORASAENG_RECORD_WORDS_3 1291
+#define DEORASAENG_RECORD_WORDS_5 2729
+#define DEORASAENG_RECORD_WORDS_6 3724
+#define DEORASAENG_RECORD_WORDS_7 4903
+#define DEORASAENG_RECORD_WORDS_8 6266
 #define DEORASAENG_RECORD_WORDS_FOR(ports)                                                  \
     ((ports) == 2 ? DEORASAENG_RECORD_WORDS_2 : (ports) == 3 ? DEORASAENG_RECORD_WORDS_3 :  \
      (ports) == 5 ? DEORASAENG_RECORD_WORDS_5 : (ports) == 6 ? DEORASAENG_RECORD_WORDS_6 :  \
@@ -141,7 +141,7 @@ enum deorasaeng_frame_word {
     DEORASAENG_EVENT = 3,     /* the claim event */
     DEORASAENG_OLD_NAME = 4,  /* the NAME that was taken over from, 0 unless TookOver */
     DEORASAENG_OWN_LOST = 5,  /* ports where the unit's own frame was lost */
-    DEORASAENG_COMPARED = 6,  /* entries compared */
+    DEORASAENG_COMPARED = 6,  /* entries compared: probes of lists, at most 6 for each pair asked, and NAME entries */
     DEORASAENG_REASONS = 7    /* what each port's pair said; DEORASAENG_REASON reads one */
 };
 

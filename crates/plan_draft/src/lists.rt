@@ -36,8 +36,7 @@ pub fn reason(listed: &[u64], unit: u32, from: u32, to: u32, pgn: u32) -> Reason
     if listed.len() < e {
         return Reason::NotAsked;
     }
-    let asked = filter::ask_list(&listed[a..e], pgn);
-    asked.reason
+    filter::reason_by_list(&listed[a..e], pgn)
 }
 
 // The first of a line's numbers that is no PGN.

@@ -6,21 +6,21 @@ use native.Mathlib.Omega.{arith}
 use lib.ListN.{getD, take, drop, length-take, drop-of-length-le}
 use Rattle.storage.specs.Blocks.{blockAt}
 use Rattle.name_entries.specs.NameEntries.{namesOf, entriesIn}
-use Rattle.filter.specs.Filter.{modePlace, countPlace, listOf, namesPlace, meant, filterOf}
+use Rattle.filter.specs.Filter.{modePlace, listOf, namesPlace, sortedIn, frontOf, meant, filterOf}
 use Rattle.unit.specs.Model.{pairAt}
 use Rattle.plan_shape.specs.Plan.{blockOf, pairOf, planBlockSize, pairsOfUnit, portCount}
 
-none-meant : (m : ℕ) (es : List ℕ) → meant m es [] .named ≡ []
+none-meant : (m : ℕ) (es ss : List ℕ) → meant m es [] ss .named ≡ []
 unfolding meant
-none-meant zero es = refl
-none-meant (suc zero) es = refl
-none-meant (suc (suc zero)) es = refl
-none-meant (suc (suc (suc zero))) es = refl
-none-meant (suc (suc (suc (suc m)))) es = refl
+none-meant zero es ss = refl
+none-meant (suc zero) es ss = refl
+none-meant (suc (suc zero)) es ss = refl
+none-meant (suc (suc (suc zero))) es ss = refl
+none-meant (suc (suc (suc (suc m)))) es ss = refl
 
 none-behind : (words : List ℕ) → drop namesPlace words ≡ [] → filterOf words .named ≡ []
 unfolding filterOf namesOf entriesIn
-none-behind words e = rw e (none-meant (getD words modePlace 0) (take (getD words countPlace 0) (listOf words)))
+none-behind words e = rw e (none-meant (getD words modePlace 0) (frontOf words (listOf words)) (frontOf words (sortedIn words)))
 
 block-ends : (lists : List ℕ) (place : ℕ) → drop namesPlace (blockOf lists place) ≡ []
 unfolding blockAt

@@ -35,8 +35,7 @@ fn permits(lists: &[u64], unit: usize, from: usize, to: usize, pgn: u32) -> bool
     let i = pair_at(unit, from, to);
     let a = BLOCK_SIZE * i;
     let e = a + BLOCK_SIZE;
-    let asked = filter::ask_list(&lists[a..e], pgn);
-    let reason = asked.reason;
+    let reason = filter::reason_by_list(&lists[a..e], pgn);
     reason.crosses()
 }
 

@@ -10,7 +10,7 @@ use lib.ListN.{take, drop, getD, set}
 use Rattle.delivery.specs.Row.{room, pull, given}
 use Rattle.filter.specs.declared.Asked.{Asked}
 use Rattle.filter.specs.Filter.{Filter, clear, asked, blockSize as filterLength}
-use Rattle.pgn_list.specs.PgnList.{listSize}
+use Rattle.sorted_list.specs.SortedList.{mostProbes}
 use Rattle.name_entries.specs.NameEntries.{mostNames}
 use Rattle.queue.specs.declared.Frame.{Frame}
 use Rattle.queue.specs.declared.Taken.{Taken}
@@ -30,7 +30,7 @@ pub record TableClaiming (ports : ℕ) (before after : List ℕ) (change : List 
 -- a pair was asked about a PGN and a sender's NAME
 pub record PairAsking (ports : ℕ) (words : List ℕ) (p q pgn : ℕ) (sender : Option ℕ) (r : Asked) : Type 0 where
   pub answer : r ≡ asked (getD (modelOf ports words .rest .pairs) (pairAt ports p q) clear) pgn sender
-  pub small : r .compared ≤ listSize + mostNames
+  pub small : r .compared ≤ mostProbes + mostNames
 
 -- a pair was changed in the record, and no word outside its block
 pub record PairChanging (ports : ℕ) (before after : List ℕ) (i : ℕ) (change : Filter → Filter) : Type 0 where

@@ -20,6 +20,7 @@ ghost use Rattle.filter.specs.Filter.{clear, blockSize as filterLength};
 ghost use Rattle.entries.specs.Entries.{listed, entriesOf};
 ghost use Rattle.network_message.specs.Decoding.{longest};
 ghost use Rattle.pgn_list.specs.PgnList.{listSize};
+ghost use Rattle.sorted_list.specs.SortedList.{mostProbes};
 ghost use Rattle.name_entries.specs.NameEntries.{mostNames, senderOf};
 ghost use Rattle.queue.specs.Queue.{blockLength as queueLength};
 ghost use Rattle.losses.specs.Losses.{most, oneMore, counterLength};
@@ -92,26 +93,26 @@ pub fn has_names(words: &[u64], a: usize) -> bool
     filter::has_names(&words[a..e])
 }
 
-// Asks the pair whose filter begins at a word, which has none, about a PGN: whoever sent it.
-pub fn ask_listed(words: &[u64], a: usize, pgn: u32) -> Asked
+// Asks the pair whose filter begins at a word, which has no NAME entries, about a PGN: whoever sent it.
+pub fn ask_plain(words: &[u64], a: usize, pgn: u32) -> Asked
     requires { ⌜ (a + filterLength ≤ length (now words)) × (getD (now words) a 0 < 3) ⌝ }
-    ensures { λ r. ⌜ ((ports p q : ℕ) (sender : Option ℕ) → pairAt ports p q < pairCount ports → a ≡ pairsFrom ports + filterLength * pairAt ports p q → PairAsking ports (now (words .entry)) p q pgn sender r) × (r .compared ≤ listSize) ⌝ }
+    ensures { λ r. ⌜ ((ports p q : ℕ) (sender : Option ℕ) → pairAt ports p q < pairCount ports → a ≡ pairsFrom ports + filterLength * pairAt ports p q → PairAsking ports (now (words .entry)) p q pgn sender r) × (r .compared ≤ mostProbes) ⌝ }
 {
     let e = a + filter::BLOCK_SIZE;
-    filter::ask_list(&words[a..e], pgn)
+    filter::ask_plain(&words[a..e], pgn)
 }
 
 // Asks the pair whose filter begins at a word about a PGN from an address. The sender's NAME is looked up where the pair may have NAME entries.
 pub fn ask_filter(words: &[u64], a: usize, pgn: u32, address: u32) -> Asked
     requires { ⌜ (rowsFrom ≤ length (now words)) × (a + filterLength ≤ length (now words)) ⌝ }
-    ensures { λ r. ⌜ ((ports p q : ℕ) → pairAt ports p q < pairCount ports → a ≡ pairsFrom ports + filterLength * pairAt ports p q → PairAsking ports (now (words .entry)) p q pgn (nameAt (modelOf ports (now (words .entry)) .rest .table) address) r) × (r .compared ≤ listSize + mostNames) ⌝ }
+    ensures { λ r. ⌜ ((ports p q : ℕ) → pairAt ports p q < pairCount ports → a ≡ pairsFrom ports + filterLength * pairAt ports p q → PairAsking ports (now (words .entry)) p q pgn (nameAt (modelOf ports (now (words .entry)) .rest .table) address) r) × (r .compared ≤ mostProbes + mostNames) ⌝ }
 {
     if has_names(words, a) {
         let from = sender(words, address);
         let e = a + filter::BLOCK_SIZE;
         return filter::ask_named(&words[a..e], pgn, from);
     }
-    ask_listed(words, a, pgn)
+    ask_plain(words, a, pgn)
 }
 
 // Asks the pair from one port to another.

@@ -15,8 +15,8 @@ unfolding acknowledgment controlOf
 acknowledgments = (refl, refl, refl)
 
 lists :
-    (listReply 0x12 (record { mode = pass; entries = 65265 ∷ []; named = [] }) ≡ 0x01 ∷ 0x12 ∷ 0x01 ∷ 0xF1 ∷ 0xFE ∷ 0x00 ∷ 0xFF ∷ 0xFF ∷ [])
-    × (listReply 0x12 (record { mode = block; entries = 65251 ∷ []; named = [] }) ≡ 0x01 ∷ 0x12 ∷ 0x00 ∷ 0xE3 ∷ 0xFE ∷ 0x00 ∷ 0xFF ∷ 0xFF ∷ [])
+    (listReply 0x12 (record { mode = pass; entries = 65265 ∷ []; named = []; sorted = 65265 ∷ [] }) ≡ 0x01 ∷ 0x12 ∷ 0x01 ∷ 0xF1 ∷ 0xFE ∷ 0x00 ∷ 0xFF ∷ 0xFF ∷ [])
+    × (listReply 0x12 (record { mode = block; entries = 65251 ∷ []; named = []; sorted = 65251 ∷ [] }) ≡ 0x01 ∷ 0x12 ∷ 0x00 ∷ 0xE3 ∷ 0xFE ∷ 0x00 ∷ 0xFF ∷ 0xFF ∷ [])
     × (listReply 0x12 clear ≡ 0x01 ∷ 0x12 ∷ 0x00 ∷ 0xFF ∷ 0xFF ∷ 0xFF ∷ 0xFF ∷ 0xFF ∷ [])
 unfolding listReply filled listBody reportedMode reported bytesOf
 lists = (refl, refl, refl)

@@ -2,7 +2,7 @@
 use mathlib.Core.Path.{_≡_, refl, ap, _∙_}
 use mathlib.Core.Bool.{Bool, true, false, cond}
 use mathlib.Core.List.{List}
-use Prim.Native.Nat.{ℕ, zero, suc, _-_, _^_, _≤_, _<_, zero-le}
+use Prim.Native.Nat.{ℕ, zero, suc, _-_, _^_, _≤_, _<_, zero-le, _+_}
 use native.Mathlib.Nat.{pow-suc}
 use native.Mathlib.Omega.{arith}
 use borrow.Author.Tests.{ltb-true, lt-ltb, ne-eqb}
@@ -10,8 +10,7 @@ use lib.Dec.{eqb, ltb}
 use lib.ListN.{length, getD, take}
 use lib.Seq.{length-take-le}
 use Rattle.pgn_list.specs.PgnList.{listSize}
-use Rattle.sorted_list.specs.declared.Probed.{Probed}
-use Rattle.sorted_list.specs.SortedList.{probed, more, middle, halvingIn, halving, halved, mostProbes}
+use Rattle.sorted_list.specs.SortedList.{Probed, Finding, foundMark, marked, probed, more, middle, halvingIn, halving, halved, mostProbes}
 use Rattle.sorted_list.proofs.Halving.{halving-none, halving-one}
 
 -- one probe and what is left on either side
@@ -60,5 +59,28 @@ module _ (x : ℕ) (list : List ℕ) (above : (i : ℕ) → i < listSize → get
       ∙ ap (λ p. suc (suc (suc (suc (suc (suc (p .probes))))))) (halving-none list x 32 32 (omega arith)))
 
 -- what a search in the first n words tells
-pub told : (list : List ℕ) (n x : ℕ) {r : Probed} → length list ≡ listSize → n ≤ listSize → r ≡ halved x (take n list) → (r ≡ halved x (take n list)) × (r .probes ≤ mostProbes)
-told list n x long fits e = (e, rw e (ceiling x (take n list) (omega (arith, length-take-le n list (omega arith)))))
+told-few : (list : List ℕ) (n x : ℕ) → length list ≡ listSize → n ≤ listSize → halved x (take n list) .probes ≤ mostProbes
+told-few list n x long fits = ceiling x (take n list) (omega (arith, length-take-le n list (omega arith)))
+
+module _ (list : List ℕ) (n x : ℕ) (long : length list ≡ listSize) (fits : n ≤ listSize) where
+  pub told-found : {probes : ℕ} → probed true probes ≡ halved x (take n list) → Finding (take n list) x (foundMark + probes)
+  told-found e = record { answer = ap marked e; few = told-few list n x long fits }
+
+  pub told-absent : {probes : ℕ} → probed false probes ≡ halved x (take n list) → Finding (take n list) x probes
+  told-absent e = record { answer = ap marked e; few = told-few list n x long fits }
+
+-- and what that says
+module _ {list : List ℕ} {x r : ℕ} (F : Finding list x r) where
+  pub mark-found : foundMark ≤ r → (halved x list .found ≡ true) × (r - foundMark ≡ halved x list .probes)
+  mark-found h = go (halved x list .found) refl
+    where
+      go : (b : Bool) → halved x list .found ≡ b → (b ≡ true) × (r - foundMark ≡ halved x list .probes)
+      go true e = (refl, omega (arith, rw e at (F .answer)))
+      go false e = absurd (omega (arith, rw e at (F .answer), F .few))
+
+  pub mark-absent : r < foundMark → (halved x list .found ≡ false) × (r ≡ halved x list .probes)
+  mark-absent h = go (halved x list .found) refl
+    where
+      go : (b : Bool) → halved x list .found ≡ b → (b ≡ false) × (r ≡ halved x list .probes)
+      go true e = absurd (omega (arith, rw e at (F .answer)))
+      go false e = (refl, rw e at (F .answer))

@@ -1,23 +1,23 @@
 -- The sorted list of a pair's PGNs is `insertAll []` of them: one list for every order of addition, and what Add and Delete make of the PGNs is what they
 -- make of the sorted list. Assumes nothing.
 use mathlib.Core.Path.{_≡_, refl, sym, ap, _∙_}
-use mathlib.Core.Bool.{Bool, true, false, cond, _||_}
+use mathlib.Core.Bool.{Bool, true, false, cond, not, _||_, true≢false}
 use mathlib.Core.List.{List, [], _∷_, _++_}
 use Prim.Native.Nat.{ℕ, _+_, _≤_}
 use native.Mathlib.Omega.{arith}
-use borrow.Author.Tests.{eqb-true}
+use borrow.Author.Tests.{eqb-true, ne-eqb, not-true}
 use lib.Dec.{eqb, ltb}
 use lib.ListN.{length, take, drop, length-append, take-append-drop}
 use lib.Seq.{take-length, take-take, take-append-seam}
 use Rattle.checks.proofs.Tests.{both, neither}
 use Rattle.entries.specs.Entries.{listed, every}
-use Rattle.entries.proofs.Listed.{same-test}
+use Rattle.entries.proofs.Listed.{same-test, listed-append}
 use Rattle.pgn_list.specs.PgnList.{addOne, addAll, deleteAll, once}
 use Rattle.pgn_list.proofs.Changes.{one-listed, one-new}
 use Rattle.pgn_list.proofs.Lists.{added-listed, deleted-listed, delete-none, delete-next, add-once, delete-once}
-use Rattle.sorted_list.specs.SortedList.{rising, Rising, insertAll, removeOne, removeAll, fitted}
+use Rattle.sorted_list.specs.SortedList.{rising, Rising, putAll, insertAll, appended, fitted}
 use Rattle.sorted_list.proofs.Fitting.{fitted-same}
-use Rattle.sorted_list.proofs.Order.{insert-all-listed, insert-all-rising, insert-append, insert-all-longer, above-absent, same-list, delete-rising}
+use Rattle.sorted_list.proofs.Order.{put-inserts, insert-all-listed, insert-all-rising, insert-append, insert-all-longer, above-absent, same-list, delete-rising}
 
 -- ---- the sorted list
 pub sorted-rising : (es : List ℕ) → Rising (insertAll [] es)
@@ -50,10 +50,6 @@ add-front es (x ∷ xs) = go (listed x es) refl (add-front (addOne es x) xs)
         let k : length es ≤ length (addOne es x) = rw n (omega (arith, length-append es (x ∷ []))) in
         sym (take-take (length es) (length (addOne es x)) (addAll (addOne es x) xs) k) ∙ rw (ih, n) (take-append-seam es (x ∷ []))
 
--- the PGNs that Add puts behind those that were there
-abbrev pub appended : List ℕ → List ℕ → List ℕ
-appended es xs = drop (length es) (addAll es xs)
-
 pub add-split : (es xs : List ℕ) → addAll es xs ≡ es ++ appended es xs
 add-split es xs = sym (take-append-drop (length es) (addAll es xs)) ∙ ap (λ l. l ++ appended es xs) (add-front es xs)
 
@@ -72,44 +68,35 @@ sorted-deleted es xs =
     same-list (insertAll [] (deleteAll es xs)) (deleteAll (insertAll [] es) xs) (sorted-rising (deleteAll es xs)) (delete-rising (insertAll [] es) xs (sorted-rising es))
     (λ z. sorted-listed z (deleteAll es xs) ∙ deleted-listed z es xs ∙ sym (deleted-listed z (insertAll [] es) xs ∙ rw (sorted-listed z es)))
 
-delete-absent : (xs : List ℕ) (x : ℕ) → listed x xs ≡ false → deleteAll xs (x ∷ []) ≡ xs
-unfolding listed deleteAll
-delete-absent [] x h = refl
-delete-absent (y ∷ ys) x h = let p = neither (eqb y x) (listed x ys) h in rw (same-test x y, p .0) (ap (λ l. y ∷ l) (delete-absent ys x (p .1)))
+-- ---- a pair's PGNs and its sorted list stay in step
+once-behind : (es ds : List ℕ) → once (es ++ ds) ≡ true → once ds ≡ true
+unfolding once
+once-behind [] ds h = h
+once-behind (e ∷ es) ds h = once-behind es ds (both (not (listed e (es ++ ds))) (once (es ++ ds)) h .1)
 
--- in rising order a PGN stands once at most: without its first place it is gone
-pub remove-deletes : (xs : List ℕ) (x : ℕ) → Rising xs → removeOne xs x ≡ deleteAll xs (x ∷ [])
-unfolding rising removeOne deleteAll listed
-remove-deletes [] x h = refl
-remove-deletes (y ∷ ys) x h =
-    let p = both (every (λ z. ltb y z) ys) (rising ys) h in
-    rw (same-test x y) (go (eqb y x) refl (p .0) (remove-deletes ys x (p .1)))
-  where
-    go : (b : Bool) → eqb y x ≡ b → every (λ z. ltb y z) ys ≡ true → removeOne ys x ≡ deleteAll ys (x ∷ []) → cond b ys (y ∷ removeOne ys x) ≡ cond (b || false) (deleteAll ys (x ∷ [])) (y ∷ deleteAll ys (x ∷ []))
-    go true q a ih = sym (delete-absent ys x (above-absent y x ys a (omega (arith, eqb-true y x q))))
-    go false q a ih = ap (λ l. y ∷ l) ih
+once-apart : (es ds : List ℕ) (z : ℕ) → once (es ++ ds) ≡ true → listed z ds ≡ true → listed z es ≡ false
+unfolding once listed
+once-apart [] ds z h l = refl
+once-apart (e ∷ es) ds z h l =
+    let p = both (not (listed e (es ++ ds))) (once (es ++ ds)) h in
+    let n = neither (listed e es) (listed e ds) (sym (listed-append e es ds) ∙ not-true (listed e (es ++ ds)) (p .0)) in
+    rw (ne-eqb e z (λ q. true≢false (sym l ∙ rw (← q) (n .1)))) (once-apart es ds z (p .1) l)
 
-pub remove-all-deletes : (xs ys : List ℕ) → Rising xs → removeAll xs ys ≡ deleteAll xs ys
-unfolding removeAll
-remove-all-deletes xs [] h = sym (delete-none xs)
-remove-all-deletes xs (y ∷ ys) h =
-    let e = remove-deletes xs y h in
-    remove-all-deletes (removeOne xs y) ys (rw e (delete-rising xs (y ∷ []) h)) ∙ rw e (sym (delete-next xs y ys))
-
-pub sorted-removed : (es xs : List ℕ) → insertAll [] (deleteAll es xs) ≡ removeAll (insertAll [] es) xs
-sorted-removed es xs = sorted-deleted es xs ∙ sym (remove-all-deletes (insertAll [] es) xs (sorted-rising es))
-
-pub remove-rising : (xs : List ℕ) (x : ℕ) → Rising xs → Rising (removeOne xs x)
-remove-rising xs x h = rw (remove-deletes xs x h) (delete-rising xs (x ∷ []) h)
-
--- ---- a pair's PGNs and its sorted list, of one length, stay in step
 module _ (es xs sorted : List ℕ) (different : once es ≡ true) (step : sorted ≡ insertAll [] es) where
-  pub in-step-added : fitted (length (addAll es xs)) (insertAll sorted (appended es xs)) ≡ insertAll [] (addAll es xs)
+  -- Add, and Create with nothing before: what was appended is put in, one after the other
+  pub in-step-added : putAll sorted (appended es xs) ≡ insertAll [] (addAll es xs)
   in-step-added =
-      rw (step, ← (sorted-added es xs))
-      (fitted-same (length (addAll es xs)) (insertAll [] (addAll es xs)) (sorted-length (addAll es xs) (add-once es xs different)))
+      let all : once (es ++ appended es xs) ≡ true = rw (← (add-split es xs)) (add-once es xs different) in
+      rw (step, sorted-added es xs)
+      (put-inserts (insertAll [] es) (appended es xs) (once-behind es (appended es xs) all) (λ z l. sorted-listed z es ∙ once-apart es (appended es xs) z all l))
 
-  pub in-step-deleted : fitted (length (deleteAll es xs)) (removeAll sorted xs) ≡ insertAll [] (deleteAll es xs)
+  -- Delete: what is named is taken out
+  pub in-step-deleted : fitted (length (deleteAll es xs)) (deleteAll sorted xs) ≡ insertAll [] (deleteAll es xs)
   in-step-deleted =
-      rw (step, ← (sorted-removed es xs))
+      rw (step, ← (sorted-deleted es xs))
       (fitted-same (length (deleteAll es xs)) (insertAll [] (deleteAll es xs)) (sorted-length (deleteAll es xs) (delete-once es xs different)))
+
+-- different PGNs, put in one after the other
+pub put-sorts : (es : List ℕ) → once es ≡ true → putAll [] es ≡ insertAll [] es
+unfolding listed
+put-sorts es h = put-inserts [] es h (λ z l. refl)

@@ -1,4 +1,4 @@
--- The front of a list after a change, and a list made of a length. Assumes nothing.
+-- A list made of a length. Assumes nothing.
 use mathlib.Core.Path.{_≡_, refl, sym, ap, _∙_}
 use mathlib.Core.List.{List, [], _∷_, _++_, append-assoc, append-nil}
 use Prim.Native.Nat.{ℕ, zero, suc, _+_, _-_, _≤_, _<_}
@@ -6,11 +6,7 @@ use native.Mathlib.Numerals.{add-one}
 use native.Mathlib.Omega.{arith}
 use lib.ListN.{length, set, take, replicate, length-append, length-set, length-replicate, replicate-append-replicate}
 use lib.Seq.{take-take, take-at, take-suc-set, length-take-le}
-use Rattle.sorted_list.specs.SortedList.{Changing, fitted}
-
--- what a change made stands in front
-pub front : {entry exit made : List ℕ} {most r : ℕ} → Changing entry exit made most r → take r exit ≡ made
-front {made = made} {r = r} C = rw (C .words) (take-at made _ r (sym (C .number)))
+use Rattle.sorted_list.specs.SortedList.{fitted}
 
 -- ---- a list of that length stays
 pub fitted-same : (size : ℕ) (xs : List ℕ) → length xs ≡ size → fitted size xs ≡ xs

@@ -8,8 +8,7 @@ use borrow.Author.Tests.{eq-eqb, ne-eqb, lt-ltb, le-ltb, ltb-true, ltb-false}
 use lib.Dec.{eqb, ltb}
 use lib.ListN.{length, getD, take}
 use lib.Seq.{getD-take, length-take-le}
-use Rattle.sorted_list.specs.declared.Probed.{Probed}
-use Rattle.sorted_list.specs.SortedList.{probed, more, middle, halvingIn, halving, halved}
+use Rattle.sorted_list.specs.SortedList.{Probed, probed, more, middle, halvingIn, halving, halved}
 
 -- any number not below that of the places left will do
 enough : (k j : ℕ) (list : List ℕ) (x lo hi : ℕ) → hi - lo ≤ k → hi - lo ≤ j → halvingIn k list x lo hi ≡ halvingIn j list x lo hi

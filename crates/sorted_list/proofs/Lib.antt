@@ -5,3 +5,4 @@ pub mod Commands
 pub mod Lookup
 pub mod Moves
 pub mod Fitting
+pub mod Examples

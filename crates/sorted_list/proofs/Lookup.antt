@@ -11,11 +11,10 @@ use lib.ListN.{length, getD}
 use Rattle.checks.proofs.Tests.{both}
 use Rattle.entries.specs.Entries.{listed, every}
 use Rattle.entries.proofs.Leading.{every-at}
-use Rattle.sorted_list.specs.declared.Probed.{Probed}
-use Rattle.sorted_list.specs.SortedList.{probed, more, middle, halvingIn, halved, rising, Rising}
+use Rattle.sorted_list.specs.SortedList.{Probed, probed, more, middle, halvingIn, halved, rising, Rising}
 
 -- ---- places in a list that rises
-rising-at : (xs : List ℕ) (i j : ℕ) → Rising xs → i < j → j < length xs → getD xs i 0 < getD xs j 0
+pub rising-at : (xs : List ℕ) (i j : ℕ) → Rising xs → i < j → j < length xs → getD xs i 0 < getD xs j 0
 unfolding rising
 rising-at [] i j h l k = absurd (not-suc-le-zero k)
 rising-at (x ∷ xs) i zero h l k = absurd (not-suc-le-zero l)
@@ -33,7 +32,7 @@ before xs i j h k l = go (ltb i j) (ltb j i) refl refl
     go false false e f = let q : i ≡ j = omega (arith, ltb-false i j e, ltb-false j i f) in absurd (omega (arith, rw q at l))
 
 -- ---- what is listed stands somewhere
-here : (x : ℕ) (xs : List ℕ) (i : ℕ) → i < length xs → getD xs i 0 ≡ x → listed x xs ≡ true
+pub here : (x : ℕ) (xs : List ℕ) (i : ℕ) → i < length xs → getD xs i 0 ≡ x → listed x xs ≡ true
 unfolding listed
 here x [] i h e = absurd (not-suc-le-zero h)
 here x (y ∷ ys) zero h e = rw (eq-eqb y x e)

@@ -12,60 +12,91 @@ use Rattle.entries.specs.Entries.{listed, every}
 use Rattle.entries.proofs.Listed.{every-weaker}
 use Rattle.pgn_list.specs.PgnList.{deleteAll, once}
 use Rattle.pgn_list.proofs.Lists.{delete-every}
-use Rattle.sorted_list.specs.SortedList.{rising, Rising, insertOne, insertAll}
+use Rattle.sorted_list.specs.SortedList.{rising, Rising, putOne, putAll, insertOne, insertAll}
 
--- ---- one PGN put where it belongs
+-- ---- one PGN put behind the last that is not above it
 -- what was listed, and it
-pub insert-listed : (z x : ℕ) (xs : List ℕ) → listed z (insertOne xs x) ≡ (listed z xs || eqb x z)
-unfolding listed insertOne
-insert-listed z x [] = or-false (eqb x z)
-insert-listed z x (y ∷ ys) = go (ltb y x) (eqb y x) refl (insert-listed z x ys)
+put-listed : (z x : ℕ) (xs : List ℕ) → listed z (putOne xs x) ≡ (listed z xs || eqb x z)
+unfolding listed putOne
+put-listed z x [] = or-false (eqb x z)
+put-listed z x (y ∷ ys) = go (every (λ z. ltb x z) ys) (ltb x y) (put-listed z x ys)
   where
-    twice : (a b : Bool) → (a || b) ≡ ((a || b) || a)
-    twice true b = refl
-    twice false b = sym (or-false b)
-
-    go : (b c : Bool) → eqb y x ≡ c → listed z (insertOne ys x) ≡ (listed z ys || eqb x z) → listed z (cond b (y ∷ insertOne ys x) (cond c (y ∷ ys) (x ∷ y ∷ ys))) ≡ ((eqb y z || listed z ys) || eqb x z)
-    go true c q ih = rw ih (sym (or-assoc (eqb y z) (listed z ys) (eqb x z)))
-    go false true q ih = let e : y ≡ x = eqb-true y x q in rw (← e) (twice (eqb y z) (listed z ys))
-    go false false q ih = or-comm (eqb x z) (eqb y z || listed z ys)
+    go : (b c : Bool) → listed z (putOne ys x) ≡ (listed z ys || eqb x z) → listed z (cond b (cond c (x ∷ y ∷ ys) (y ∷ x ∷ ys)) (y ∷ putOne ys x)) ≡ ((eqb y z || listed z ys) || eqb x z)
+    go true true ih = or-comm (eqb x z) (eqb y z || listed z ys)
+    go true false ih = rw (or-comm (eqb x z) (listed z ys)) (sym (or-assoc (eqb y z) (listed z ys) (eqb x z)))
+    go false c ih = rw ih (sym (or-assoc (eqb y z) (listed z ys) (eqb x z)))
 
 -- a test that holds of every one and of x
-insert-every : (test : ℕ → Bool) (xs : List ℕ) (x : ℕ) → every test xs ≡ true → test x ≡ true → every test (insertOne xs x) ≡ true
-unfolding every insertOne
-insert-every test [] x h t = rw t
-insert-every test (y ∷ ys) x h t = let p = both (test y) (every test ys) h in go (ltb y x) (eqb y x) (p .0) (insert-every test ys x (p .1) t)
+put-every : (test : ℕ → Bool) (xs : List ℕ) (x : ℕ) → every test xs ≡ true → test x ≡ true → every test (putOne xs x) ≡ true
+unfolding every putOne
+put-every test [] x h t = rw t
+put-every test (y ∷ ys) x h t =
+    let p = both (test y) (every test ys) h in
+    go (every (λ z. ltb x z) ys) (ltb x y) (p .0) (p .1) (put-every test ys x (p .1) t)
   where
-    go : (b c : Bool) → test y ≡ true → every test (insertOne ys x) ≡ true → every test (cond b (y ∷ insertOne ys x) (cond c (y ∷ ys) (x ∷ y ∷ ys))) ≡ true
-    go true c u ih = rw u ih
-    go false true u ih = h
-    go false false u ih = rw t h
+    go : (b c : Bool) → test y ≡ true → every test ys ≡ true → every test (putOne ys x) ≡ true → every test (cond b (cond c (x ∷ y ∷ ys) (y ∷ x ∷ ys)) (y ∷ putOne ys x)) ≡ true
+    go true true u v ih = rw t h
+    go true false u v ih = rw (u, t) v
+    go false c u v ih = rw u ih
 
--- it rises still
-pub insert-rising : (xs : List ℕ) (x : ℕ) → Rising xs → Rising (insertOne xs x)
-unfolding rising every insertOne
-insert-rising [] x h = refl
-insert-rising (y ∷ ys) x h =
+-- one that is below all of a list is below x, unless x is so too
+not-all : (y x : ℕ) (ys : List ℕ) → every (λ z. ltb y z) ys ≡ true → every (λ z. ltb x z) ys ≡ false → y < x
+not-all y x ys a e = go (ltb y x) refl
+  where
+    go : (b : Bool) → ltb y x ≡ b → y < x
+    go true l = ltb-true y x l
+    go false l = absurd (true≢false (sym (every-weaker (λ z. ltb y z) (λ z. ltb x z) (λ z t. lt-ltb x z (omega (arith, ltb-true y z t, ltb-false y x l))) ys a) ∙ e))
+
+-- it rises still, if x was not listed
+put-rising : (xs : List ℕ) (x : ℕ) → Rising xs → listed x xs ≡ false → Rising (putOne xs x)
+unfolding rising every putOne listed
+put-rising [] x h f = refl
+put-rising (y ∷ ys) x h f =
     let p = both (every (λ z. ltb y z) ys) (rising ys) h in
-    go (ltb y x) (eqb y x) refl refl (p .0) (insert-rising ys x (p .1))
+    let q = neither (eqb y x) (listed x ys) f in
+    go (every (λ z. ltb x z) ys) (ltb x y) refl refl (q .0) (p .0) (p .1) (put-rising ys x (p .1) (q .1))
   where
-    below : x < y → every (λ z. ltb y z) ys ≡ true → rising (x ∷ y ∷ ys) ≡ true
-    below l a = rw (lt-ltb x y l, every-weaker (λ z. ltb y z) (λ z. ltb x z) (λ z t. lt-ltb x z (omega (arith, ltb-true y z t))) ys a) h
+    go : (b c : Bool) → every (λ z. ltb x z) ys ≡ b → ltb x y ≡ c → eqb y x ≡ false → every (λ z. ltb y z) ys ≡ true → rising ys ≡ true → rising (putOne ys x) ≡ true
+        → rising (cond b (cond c (x ∷ y ∷ ys) (y ∷ x ∷ ys)) (y ∷ putOne ys x)) ≡ true
+    go true true e l q a r ih = rw (l, e) h
+    go true false e l q a r ih = rw (lt-ltb y x (omega (arith, ltb-false x y l, eqb-false y x q)), a, e) r
+    go false c e l q a r ih = rw (put-every (λ z. ltb y z) ys x a (lt-ltb y x (not-all y x ys a e))) ih
 
-    go : (b c : Bool) → ltb y x ≡ b → eqb y x ≡ c → every (λ z. ltb y z) ys ≡ true → rising (insertOne ys x) ≡ true → rising (cond b (y ∷ insertOne ys x) (cond c (y ∷ ys) (x ∷ y ∷ ys))) ≡ true
-    go true c l q a ih = rw (insert-every (λ z. ltb y z) ys x a l) ih
-    go false true l q a ih = h
-    go false false l q a ih = below (omega (arith, ltb-false y x l, eqb-false y x q)) a
-
--- one that was not listed makes it longer by one
-pub insert-longer : (xs : List ℕ) (x : ℕ) → listed x xs ≡ false → length (insertOne xs x) ≡ suc (length xs)
-unfolding listed insertOne
-insert-longer [] x h = refl
-insert-longer (y ∷ ys) x h = let p = neither (eqb y x) (listed x ys) h in rw (p .0) (go (ltb y x) (insert-longer ys x (p .1)))
+pub put-longer : (xs : List ℕ) (x : ℕ) → length (putOne xs x) ≡ suc (length xs)
+unfolding putOne
+put-longer [] x = refl
+put-longer (y ∷ ys) x = go (every (λ z. ltb x z) ys) (ltb x y) (put-longer ys x)
   where
-    go : (b : Bool) → length (insertOne ys x) ≡ suc (length ys) → length (cond b (y ∷ insertOne ys x) (x ∷ y ∷ ys)) ≡ suc (suc (length ys))
-    go true ih = ap suc ih
-    go false ih = refl
+    go : (b c : Bool) → length (putOne ys x) ≡ suc (length ys) → length (cond b (cond c (x ∷ y ∷ ys) (y ∷ x ∷ ys)) (y ∷ putOne ys x)) ≡ suc (suc (length ys))
+    go true true ih = refl
+    go true false ih = refl
+    go false c ih = ap suc ih
+
+-- ---- where it belongs
+pub insert-new : (xs : List ℕ) (x : ℕ) → listed x xs ≡ false → insertOne xs x ≡ putOne xs x
+unfolding insertOne
+insert-new xs x f = rw f
+
+pub insert-listed : (z x : ℕ) (xs : List ℕ) → listed z (insertOne xs x) ≡ (listed z xs || eqb x z)
+unfolding insertOne
+insert-listed z x xs = go (listed x xs) (eqb x z) refl refl
+  where
+    or-true : (b : Bool) → true ≡ (b || true)
+    or-true true = refl
+    or-true false = refl
+
+    go : (b c : Bool) → listed x xs ≡ b → eqb x z ≡ c → listed z (cond b xs (putOne xs x)) ≡ (listed z xs || c)
+    go true true f q = let h : listed z xs ≡ true = rw (eqb-true x z q) at f in h ∙ or-true (listed z xs)
+    go true false f q = sym (or-false (listed z xs))
+    go false c f q = put-listed z x xs ∙ rw q
+
+pub insert-rising : (xs : List ℕ) (x : ℕ) → Rising xs → Rising (insertOne xs x)
+unfolding insertOne
+insert-rising xs x h = go (listed x xs) refl
+  where
+    go : (b : Bool) → listed x xs ≡ b → Rising (cond b xs (putOne xs x))
+    go true f = h
+    go false f = put-rising xs x h f
 
 -- ---- several
 pub insert-all-listed : (z : ℕ) (xs ys : List ℕ) → listed z (insertAll xs ys) ≡ (listed z xs || listed z ys)
@@ -91,7 +122,31 @@ insert-all-longer xs (y ∷ ys) h apart =
     let p = both (not (listed y ys)) (once ys) h in
     let new : listed y xs ≡ false = apart y (rw (eq-eqb y y refl)) in
     let i = insert-all-longer (insertOne xs y) ys (p .1) (λ z l. rw (insert-listed z y xs, apart z (rw l (or-true′ (eqb y z)))) (ne-eqb y z (λ e. true≢false (sym l ∙ rw (← e) (not-true (listed y ys) (p .0)))))) in
-    omega (arith, i, insert-longer xs y new)
+    let e = insert-new xs y new in omega (arith, i, ap length e, put-longer xs y)
+  where
+    or-true′ : (b : Bool) → (b || true) ≡ true
+    or-true′ true = refl
+    or-true′ false = refl
+
+-- the last of them is put in last
+pub put-all-snoc : (xs ys : List ℕ) (y : ℕ) → putAll xs (ys ++ (y ∷ [])) ≡ putOne (putAll xs ys) y
+unfolding putAll
+put-all-snoc xs [] y = refl
+put-all-snoc xs (z ∷ ys) y = put-all-snoc (putOne xs z) ys y
+
+pub put-all-longer : (xs ys : List ℕ) → length (putAll xs ys) ≡ length xs + length ys
+unfolding putAll
+put-all-longer xs [] = omega arith
+put-all-longer xs (y ∷ ys) = omega (arith, put-all-longer (putOne xs y) ys, put-longer xs y)
+
+-- different PGNs that are not listed are put where they belong
+pub put-inserts : (xs ys : List ℕ) → once ys ≡ true → ((z : ℕ) → listed z ys ≡ true → listed z xs ≡ false) → putAll xs ys ≡ insertAll xs ys
+unfolding putAll insertAll once listed
+put-inserts xs [] h apart = refl
+put-inserts xs (y ∷ ys) h apart =
+    let p = both (not (listed y ys)) (once ys) h in
+    let e = insert-new xs y (apart y (rw (eq-eqb y y refl))) in
+    rw e (put-inserts (putOne xs y) ys (p .1) (λ z l. rw (put-listed z y xs, apart z (rw l (or-true′ (eqb y z)))) (ne-eqb y z (λ e. true≢false (sym l ∙ rw (← e) (not-true (listed y ys) (p .0)))))))
   where
     or-true′ : (b : Bool) → (b || true) ≡ true
     or-true′ true = refl

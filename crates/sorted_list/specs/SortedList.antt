@@ -7,10 +7,15 @@ use mathlib.Core.Path.{_≡_}
 use mathlib.Core.List.{List, [], _∷_, _++_}
 use lib.ListN.{length, getD, take, drop, replicate}
 use lib.Dec.{eqb, ltb}
-use Rattle.entries.specs.Entries.{every}
-use Rattle.sorted_list.specs.declared.Probed.{Probed}
+use Rattle.entries.specs.Entries.{listed, every}
+use Rattle.pgn_list.specs.PgnList.{addAll}
 
 -- ---- the halving rule
+-- whether x was found, and how many places were probed
+pub record Probed : Type 0 where
+  pub found : Bool
+  pub probes : ℕ
+
 abbrev pub probed : Bool → ℕ → Probed
 probed found probes = record { found = found; probes = probes }
 
@@ -45,6 +50,17 @@ halved x list = halving list x 0 (length list)
 abbrev pub mostProbes : ℕ
 mostProbes = 6
 
+-- the contract of a search: the probes, and 64 more where x was found
+abbrev pub foundMark : ℕ
+foundMark = 64
+
+abbrev pub marked : Probed → ℕ
+marked p = cond (p .found) (foundMark + p .probes) (p .probes)
+
+pub record Finding (list : List ℕ) (x r : ℕ) : Type 0 where
+  pub answer : r ≡ marked (halved x list)
+  pub few : halved x list .probes ≤ mostProbes
+
 -- ---- the order
 -- each is below all that follow it
 unfoldable pub rising : List ℕ → Bool
@@ -55,30 +71,27 @@ abbrev pub Rising : List ℕ → Type 0
 Rising xs = rising xs ≡ true
 
 -- ---- what commands make of it
--- x put before the first that is not below it; where that one is x, it stays once
-unfoldable pub insertOne : List ℕ → ℕ → List ℕ
-insertOne [] x = x ∷ []
-insertOne (y ∷ ys) x = cond (ltb y x) (y ∷ insertOne ys x) (cond (eqb y x) (y ∷ ys) (x ∷ y ∷ ys))
+-- x put behind the last that is not above it
+unfoldable pub putOne : List ℕ → ℕ → List ℕ
+putOne [] x = x ∷ []
+putOne (y ∷ ys) x = cond (every (λ z. ltb x z) ys) (cond (ltb x y) (x ∷ y ∷ ys) (y ∷ x ∷ ys)) (y ∷ putOne ys x)
 
--- one after the other; those of an empty list are `insertAll []` of the PGNs in order of addition
+unfoldable pub putAll : List ℕ → List ℕ → List ℕ
+putAll xs [] = xs
+putAll xs (y ∷ ys) = putAll (putOne xs y) ys
+
+-- where it belongs, and one that is listed stays once
+unfoldable pub insertOne : List ℕ → ℕ → List ℕ
+insertOne xs x = cond (listed x xs) xs (putOne xs x)
+
+-- one after the other; `insertAll []` of the PGNs in order of addition is the sorted list
 unfoldable pub insertAll : List ℕ → List ℕ → List ℕ
 insertAll xs [] = xs
 insertAll xs (y ∷ ys) = insertAll (insertOne xs y) ys
 
--- the list without the first that is x
-unfoldable pub removeOne : List ℕ → ℕ → List ℕ
-removeOne [] x = []
-removeOne (y ∷ ys) x = cond (eqb y x) ys (y ∷ removeOne ys x)
-
-unfoldable pub removeAll : List ℕ → List ℕ → List ℕ
-removeAll xs [] = xs
-removeAll xs (y ∷ ys) = removeAll (removeOne xs y) ys
-
--- ---- the contract of a change in place: `made` stands at the front, r long, at most `most`; the words behind it stay
-pub record Changing (entry exit made : List ℕ) (most r : ℕ) : Type 0 where
-  pub number : r ≡ length made
-  pub inside : r ≤ most
-  pub words : exit ≡ made ++ drop r entry
+-- what Add appends to a list of PGNs in order of addition
+abbrev pub appended : List ℕ → List ℕ → List ℕ
+appended es xs = drop (length es) (addAll es xs)
 
 -- a list made `size` long: those behind are left out, those that are missing are 0
 unfoldable pub fitted : ℕ → List ℕ → List ℕ

@@ -22,7 +22,7 @@ const LAST_WORD: usize = ANSWER_WORDS - 1;
 const HEAD: usize = 4;
 
 // The words of the largest unit's record, one of eight ports.
-const MOST_WORDS: usize = 4474;
+const MOST_WORDS: usize = 6266;
 
 // A number that is being read, whether it has a digit, and whether a comment goes on.
 struct Reading {
@@ -197,7 +197,7 @@ fn calls_made(said: u64, numbers: usize) -> usize
 // How much of the storage is the record of a unit with so many ports.
 fn record_length(ports: usize) -> usize
     requires { ⌜ (2 ≤ ports) × (ports ≤ 8) ⌝ }
-    ensures { λ r. ⌜ r ≤ 4474 ⌝ }
+    ensures { λ r. ⌜ r ≤ 6266 ⌝ }
 {
     least(Unit::record_length(ports), MOST_WORDS)
 }

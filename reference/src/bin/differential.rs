@@ -8,6 +8,7 @@ use reference::counts::Counts;
 use reference::coverage::Coverage;
 use reference::frame::{Frame, NULL};
 use reference::generate::{generate, storms, Random};
+use reference::halving::rising;
 use reference::layout::*;
 use reference::linked::*;
 use reference::message::LONGEST_MESSAGE;
@@ -484,9 +485,10 @@ fn reword(random: &mut Random, block: &mut [u64], pair: &Pair, names: &[NameEntr
     let size = |count: usize, size: usize| if count == size { any.max(size as u64) } else { count as u64 };
     block[1] = size(pair.entries().len(), LIST);
     block[2..].iter_mut().zip(pair.entries()).for_each(|(word, &pgn)| *word = pgn.into());
+    block[RISING_AT..].iter_mut().zip(rising(pair.entries())).for_each(|(word, pgn)| *word = pgn.into());
     if is_named {
         block[NAMES_AT] = size(names.len(), NAMES);
-        for (words, entry) in block[NAMES_AT + 1..].chunks_mut(NAME_WORDS).zip(names) {
+        for (words, entry) in block[NAMES_AT + 1..RISING_AT].chunks_mut(NAME_WORDS).zip(names) {
             words.copy_from_slice(&[entry.pgn.into(), entry.name, entry.mask]);
         }
     }

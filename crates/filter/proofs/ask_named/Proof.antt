@@ -1,4 +1,4 @@
--- `filter::ask_named` meets its contract: a permanent PGN asks no list; else the search stopped inside the list, or at its end and the NAME entries decide. Assumes nothing.
+-- `filter::ask_named` meets its contract: a permanent PGN asks no list; else the search found it, or the NAME entries decide. Assumes nothing.
 use mathlib.Core.Path.{sym, _∙_}
 use Rattle.filter.proofs.Asking.{ask-permanent, ask-found, ask-names}
 use borrow.Author.Needs.{needs}
@@ -14,35 +14,14 @@ returns c = ask-permanent (sym (c .before .is-permanent .ensures) ∙ c .if1 .ta
 shared-slice-read-mode : tie.Need-shared-slice-read-mode
 shared-slice-read-mode c = search needs
 
-count-requires : tie.Need-count-requires
-count-requires c κs = search needs
-
-sub-find : tie.Need-sub-find
-sub-find c = search needs
-
-part-find-start : tie.Need-part-find-start
-part-find-start c = search needs
-
-part-find-end : tie.Need-part-find-end
-part-find-end c = search needs
-
-find-requires : tie.Need-find-requires
-find-requires c κs = search needs
+probe-requires : tie.Need-probe-requires
+probe-requires c κs = search needs
 
 by-list-requires : tie.Need-by-list-requires
 by-list-requires c κs = search needs
 
-cast-t18 : tie.Need-cast-t18
-cast-t18 c = search needs
-
-add-t19 : tie.Need-add-t19
-add-t19 c = search needs
-
 returns-2 : tie.Need-returns-2
-returns-2 c =
-    let at-find = c .before .before in
-    let at-mode = at-find .before .before .before in
-    ask-found (sym (at-mode .before .before .is-permanent .ensures) ∙ at-mode .before .if1 .left) (at-find .before .before .count .ensures) (at-find .find .ensures) (c .before .if2 .taken) _ (c .by-list .ensures)
+returns-2 c = ask-found _ _ (sym (c .before .before .before .before .before .is-permanent .ensures) ∙ c .before .before .before .before .if1 .left) (c .before .before .probe .ensures) _ (c .before .if2 .taken) (c .by-list .ensures)
 
 sub-search : tie.Need-sub-search
 sub-search c = search needs
@@ -59,19 +38,11 @@ search-requires c κs = search needs
 by-list-requires-2 : tie.Need-by-list-requires-2
 by-list-requires-2 c κs = search needs
 
-cast-t24 : tie.Need-cast-t24
-cast-t24 c = search needs
-
-add-t25 : tie.Need-add-t25
-add-t25 c = search needs
+add-t19 : tie.Need-add-t19
+add-t19 c = search needs
 
 returns-3 : tie.Need-returns-3
-returns-3 c =
-    let at-search = c .before .before in
-    let at-else = at-search .before .before in
-    let at-find = at-else .before in
-    let at-mode = at-find .before .before .before in
-    ask-names (sym (at-mode .before .before .is-permanent .ensures) ∙ at-mode .before .if1 .left) (at-find .before .before .count .ensures) (at-find .find .ensures) (at-else .if2 .left) (at-mode .before .before .before .before .pre .1) (at-search .search .ensures) (c .before .by-list2 .ensures)
+returns-3 c = ask-names _ _ (sym (c .before .before .before .before .before .before .before .before .is-permanent .ensures) ∙ c .before .before .before .before .before .before .before .if1 .left) (c .before .before .before .before .before .probe .ensures) (c .before .before .before .before .if2 .left) (c .before .before .before .before .before .before .before .before .before .before .pre .1) (c .before .before .search .ensures) (c .before .by-list2 .ensures)
 
 pub ask-named-spec : {M : Type 1} → statement M
 ask-named-spec =
@@ -80,20 +51,13 @@ ask-named-spec =
     is-permanent-requires
     returns
     shared-slice-read-mode
-    count-requires
-    sub-find
-    part-find-start
-    part-find-end
-    find-requires
+    probe-requires
     by-list-requires
-    cast-t18
-    add-t19
     returns-2
     sub-search
     part-search-start
     part-search-end
     search-requires
     by-list-requires-2
-    cast-t24
-    add-t25
+    add-t19
     returns-3)

@@ -11,7 +11,7 @@ shared-slice-read-result c = search needs
 
 returns : tie.Need-returns
 unfolding filterOf
-returns c = sym (cleared-test _ _ _)
+returns c = sym (cleared-test _ _ _ _)
 
 pub is-cleared-spec : {M : Type 1} → statement M
 is-cleared-spec = tie.close (tie.spec shared-slice-read-result returns)

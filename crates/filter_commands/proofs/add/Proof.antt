@@ -5,6 +5,7 @@ use Rattle.filter_commands.proofs.Commands.{only-one, add-cleared, add-
 use borrow.Author.Needs.{needs}
 use Rattle.filter_commands.proofs.add.Statement.{statement}
 use Rattle.filter_commands.proofs.add.Tie as tie
+use Rattle.filter.proofs.count.Reads as count-reads′
 
 is-cleared-requires : tie.Need-is-cleared-requires
 is-cleared-requires c κs = search needs
@@ -32,15 +33,9 @@ same-length-2 c = search needs
 
 returns-2 : tie.Need-returns-2
 returns-2 c =
-    let grown = c .before .before in
-    let entry = grown .before in
-    let single = entry .before .before in
-    let counted = single .before in
-    let held = counted .before in
-    let if1 = held .before .before in
-    let start = if1 .before .before .before .before .before in
-    rw (only-one (entriesOf (start .args .bytes .now)) (sym (counted .count2 .ensures) ∙ single .if2 .taken) (entry .entry-at .ensures))
-    (add-grown _ _ (sym (if1 .before .is-cleared .ensures) ∙ if1 .if1 .left) (held .count .ensures) (grown .grow-by-one .result) (grown .grow-by-one .ensures))
+    let one = only-one (entriesOf (c .before .before .before .before .before .before .before .before .before .before .before .before .before .before .args .bytes .now)) (sym (c .before .before .before .before .before .before .count2 .ensures) ∙ c .before .before .before .before .before .if2 .taken) (c .before .before .before .entry-at .ensures) in
+    rw one
+    (add-grown _ _ (c .before .before .before .before .before .before .before .before .before .before .before .before .before .before .pre) (sym (c .before .before .before .before .before .before .before .before .before .before .is-cleared .ensures) ∙ c .before .before .before .before .before .before .before .before .before .if1 .left) (c .before .before .before .before .before .before .before .count .ensures) (c .before .before .grow-by-one .result) (c .before .before .grow-by-one .ensures))
 
 grow-requires : tie.Need-grow-requires
 grow-requires c κs = search needs
@@ -49,11 +44,7 @@ same-length-3 : tie.Need-same-length-3
 same-length-3 c = search needs
 
 returns-3 : tie.Need-returns-3
-returns-3 c =
-    let grown = c .before .before in
-    let held = grown .before .before .before .before in
-    let if1 = held .before .before in
-    add-grown _ _ (sym (if1 .before .is-cleared .ensures) ∙ if1 .if1 .left) (held .count .ensures) (grown .grow .result) (grown .grow .ensures)
+returns-3 c = add-grown _ _ (c .before .before .before .before .before .before .before .before .before .before .before .before .before .pre) (sym (c .before .before .before .before .before .before .before .before .before .is-cleared .ensures) ∙ c .before .before .before .before .before .before .before .before .if1 .left) (c .before .before .before .before .before .before .count .ensures) (c .before .before .grow .result) (c .before .before .grow .ensures)
 
 pub add-spec : {M : Type 1} → statement M
 add-spec =

@@ -1,8 +1,10 @@
--- `filter_commands::delete` meets its contract: refused on a cleared pair and where an entry is absent, else the list closes up. Assumes nothing.
+-- `filter_commands::delete` meets its contract: refused on a cleared pair and where an entry is absent, else the list closes up, and what is
+-- searched too. Assumes nothing.
 use mathlib.Core.Path.{sym, _∙_}
+use native.Mathlib.Omega.{arith}
 use Rattle.entries.specs.Entries.{entriesOf}
 use Rattle.filter.proofs.Meaning.{list-whole}
-use Rattle.filter_commands.proofs.Commands.{only-one, delete-cleared, delete-lacking, delete-done}
+use Rattle.filter_commands.proofs.Commands.{only-one, delete-cleared, delete-lacking, delete-done, written-long}
 use borrow.Author.Needs.{needs}
 use Rattle.filter_commands.proofs.delete.Statement.{statement}
 use Rattle.filter_commands.proofs.delete.Tie as tie
@@ -27,24 +29,15 @@ entry-at-requires : tie.Need-entry-at-requires
 entry-at-requires c κs = search needs
 
 delete-one-requires : tie.Need-delete-one-requires
-delete-one-requires c κs =
-    let at-count = c .before .before .before .before in
-    let else1 = at-count .before .before in
-    let cleared = else1 .before in
-    let start = cleared .before .before .before .before in
-    (start .pre, at-count .count .ensures, sym (cleared .is-cleared .ensures) ∙ else1 .if1 .left)
+delete-one-requires c κs = (c .before .before .before .before .before .before .before .before .before .before .before .pre, c .before .before .before .before .count .ensures, sym (c .before .before .before .before .before .before .before .is-cleared .ensures) ∙ c .before .before .before .before .before .before .if1 .left)
 
 same-length-2 : tie.Need-same-length-2
 same-length-2 c = search needs
 
 returns-2 : tie.Need-returns-2
 returns-2 c =
-    let at-one = c .before .before in
-    let at-entry = at-one .before in
-    let then2 = at-entry .before .before in
-    let at-number = then2 .before in
-    let start = at-number .before .before .before .before .before .before .before .before in
-    rw (only-one (entriesOf (start .args .bytes .now)) (sym (at-number .count2 .ensures) ∙ then2 .if2 .taken) (at-entry .entry-at .ensures)) (at-one .delete-one .ensures)
+    let one = only-one (entriesOf (c .before .before .before .before .before .before .before .before .before .before .before .before .before .before .args .bytes .now)) (sym (c .before .before .before .before .before .before .count2 .ensures) ∙ c .before .before .before .before .before .if2 .taken) (c .before .before .before .entry-at .ensures) in
+    rw one (c .before .before .delete-one .ensures)
 
 lacks-requires : tie.Need-lacks-requires
 lacks-requires c κs = search needs
@@ -70,19 +63,21 @@ keep-others-requires c κs = search needs
 slice-write-block : tie.Need-slice-write-block
 slice-write-block c = search needs
 
+sort-out-requires : tie.Need-sort-out-requires
+sort-out-requires c κs =
+    let start = c .before .before .before .before .before .before .before .before .before .before .before .before .before .before .before .before .before in
+    let kept = c .before .before .before .keep-others in
+    let small = c .before .before .before .before .before .before .before .before .before .before .count .ensures .small in
+    (written-long (start .args .block .now) (kept .last .0) (kept .result) (start .pre) (kept .kept .0 ∙ list-whole (start .args .block .now) (start .pre)), small, omega (arith, kept .ensures .inside, small))
+
 same-length-4 : tie.Need-same-length-4
-same-length-4 c = search needs
+same-length-4 c = c .before .before .sort-out .kept .0 ∙ search needs
 
 returns-4 : tie.Need-returns-4
 returns-4 c =
-    let at-keep = c .before .before in
-    let else3 = at-keep .before .before in
-    let at-lacks = else3 .before in
-    let at-count = at-lacks .before .before .before .before in
-    let else1 = at-count .before .before in
-    let cleared = else1 .before in
-    let start = cleared .before .before .before .before in
-    delete-done _ _ (start .pre) (sym (cleared .is-cleared .ensures) ∙ else1 .if1 .left) (sym (at-lacks .lacks .ensures) ∙ else3 .if3 .left) (at-count .count .ensures) (at-keep .keep-others .kept .0 ∙ list-whole (start .args .block .now) (start .pre)) (at-keep .keep-others .ensures)
+    let start = c .before .before .before .before .before .before .before .before .before .before .before .before .before .before .before .before .before .before .before .before in
+    let kept = c .before .before .before .before .before .before .keep-others in
+    delete-done _ _ _ (start .pre) (sym (c .before .before .before .before .before .before .before .before .before .before .before .before .before .before .before .before .is-cleared .ensures) ∙ c .before .before .before .before .before .before .before .before .before .before .before .before .before .before .before .if1 .left) (sym (c .before .before .before .before .before .before .before .before .before .lacks .ensures) ∙ c .before .before .before .before .before .before .before .before .if3 .left) (c .before .before .before .before .before .before .before .before .before .before .before .before .before .count .ensures) (kept .kept .0 ∙ list-whole (start .args .block .now) (start .pre)) (kept .ensures) (c .before .before .sort-out .ensures)
 
 pub delete-spec : {M : Type 1} → statement M
 delete-spec =
@@ -105,5 +100,6 @@ delete-spec =
     part-keep-others-end
     keep-others-requires
     slice-write-block
+    sort-out-requires
     same-length-4
     returns-4)

@@ -1,8 +1,10 @@
--- `filter_commands::grow` meets its contract: in place where the entries are few, else by a copy that is stored if it holds them. Assumes nothing.
-use mathlib.Core.Path.{_∙_}
+-- `filter_commands::grow` meets its contract: few entries in place, others by a copy, unless they would pass; what is new is put in order. Assumes nothing.
+use mathlib.Core.Path.{sym, ap, _∙_}
+use lib.ListN.{length}
+use Rattle.entries.specs.Entries.{entriesOf}
 use native.Mathlib.Omega.{arith}
 use Rattle.filter.proofs.Meaning.{list-whole}
-use Rattle.filter_commands.proofs.Commands.{grow-part, grow-over, grow-put}
+use Rattle.filter_commands.proofs.Commands.{not-fewer, written-long, grow-few, grow-part, grow-over, grow-put}
 use borrow.Author.Needs.{needs}
 use Rattle.filter_commands.proofs.grow.Statement.{statement}
 use Rattle.filter_commands.proofs.grow.Tie as tie
@@ -28,13 +30,21 @@ extend-requires c κs = search needs
 slice-write-block : tie.Need-slice-write-block
 slice-write-block c = search needs
 
+sort-in-requires : tie.Need-sort-in-requires
+sort-in-requires c κs =
+    let start = c .before .before .before .before .before .before .before .before .before in
+    let E = c .before .before .before .extend in
+    let whole = list-whole (start .args .block .now) (start .pre .0) in
+    (written-long (start .args .block .now) (E .last .0) (E .result) (start .pre .0) (E .kept .0 ∙ whole), not-fewer whole (start .pre .1) (E .ensures), grow-few (start .args .block .now) (entriesOf (start .args .bytes .now)) (start .pre .0) (start .pre .1) (omega arith) (E .ensures))
+
 same-length : tie.Need-same-length
-same-length c = search needs
+same-length c = c .before .before .sort-in .kept .0 ∙ search needs
 
 returns : tie.Need-returns
 returns c =
-    let start = c .before .before .before .before .before .before .before .before in
-    grow-part (start .pre .0) (start .pre .1) (omega arith) (c .before .before .extend .kept .0 ∙ list-whole (start .args .block .now) (start .pre .0)) (c .before .before .extend .ensures)
+    let start = c .before .before .before .before .before .before .before .before .before .before .before .before in
+    let E = c .before .before .before .before .before .before .extend in
+    grow-part (start .pre .0) (start .pre .1) _ (omega arith) (E .kept .0 ∙ list-whole (start .args .block .now) (start .pre .0)) (E .ensures) (c .before .before .sort-in .ensures)
 
 copied-requires : tie.Need-copied-requires
 copied-requires c κs = search needs
@@ -49,9 +59,7 @@ same-length-2 : tie.Need-same-length-2
 same-length-2 c = search needs
 
 returns-2 : tie.Need-returns-2
-returns-2 c =
-    let start = c .before .before .before .before .before .before .before .before .before .before in
-    grow-over (start .pre .0) (start .pre .1) (c .before .before .before .before .copied .ensures) (c .before .before .extend2 .ensures) (c .if2 .taken)
+returns-2 c = grow-over (c .before .before .before .before .before .before .before .before .before .before .pre .0) (c .before .before .before .before .before .before .before .before .before .before .pre .1) (c .before .before .before .before .copied .ensures) (c .before .before .extend2 .ensures) (c .if2 .taken)
 
 sub-put : tie.Need-sub-put
 sub-put c = search needs
@@ -71,14 +79,22 @@ put-requires c κs = search needs
 slice-write-block-2 : tie.Need-slice-write-block-2
 slice-write-block-2 c = search needs
 
+sort-in-requires-2 : tie.Need-sort-in-requires-2
+sort-in-requires-2 c κs =
+    let start = c .before .before .before .before .before .before .before .before .before .before .before .before .before .before .before .before in
+    let whole = list-whole (start .args .block .now) (start .pre .0) in
+    (written-long (start .args .block .now) (c .before .before .before .put .last .0) (c .before .before .before .before .before .before .before .before .extend2 .result) (start .pre .0) (c .before .before .before .put .kept .0 ∙ whole), not-fewer (ap length (c .before .before .before .before .before .before .before .before .before .before .copied .ensures) ∙ whole) (start .pre .1) (c .before .before .before .before .before .before .before .before .extend2 .ensures), omega (arith, c .before .before .before .before .before .before .if2 .left))
+
 same-length-3 : tie.Need-same-length-3
-same-length-3 c = search needs
+same-length-3 c =
+    let start = c .before .before .before .before .before .before .before .before .before .before .before .before .before .before .before .before .before .before .before in
+    let whole = list-whole (start .args .block .now) (start .pre .0) in
+    c .before .before .sort-in2 .kept .0 ∙ written-long (start .args .block .now) (c .before .before .before .before .before .before .put .last .0) (c .before .before .before .before .before .before .before .before .before .before .before .extend2 .result) (start .pre .0) (c .before .before .before .before .before .before .put .kept .0 ∙ whole) ∙ sym (start .pre .0)
 
 returns-3 : tie.Need-returns-3
 returns-3 c =
-    let if2 = c .before .before .before .before .before in
-    let start = if2 .before .before .before .before .before .before .before .before .before .before in
-    grow-put (start .pre .0) (start .pre .1) (if2 .before .before .before .before .copied .ensures) (if2 .before .before .extend2 .ensures) (c .before .before .put .ensures) (c .before .before .put .kept .0 ∙ list-whole (start .args .block .now) (start .pre .0)) (if2 .if2 .left)
+    let start = c .before .before .before .before .before .before .before .before .before .before .before .before .before .before .before .before .before .before .before in
+    grow-put (start .pre .0) (start .pre .1) (c .before .before .before .before .before .before .before .before .before .before .before .before .before .copied .ensures) (c .before .before .before .before .before .before .before .before .before .before .before .extend2 .ensures) _ (c .before .before .before .before .before .before .put .ensures) (c .before .before .before .before .before .before .put .kept .0 ∙ list-whole (start .args .block .now) (start .pre .0)) (c .before .before .before .before .before .before .before .before .before .if2 .left) (c .before .before .sort-in2 .ensures)
 
 pub grow-spec : {M : Type 1} → statement M
 grow-spec =
@@ -91,6 +107,7 @@ grow-spec =
     part-extend-end
     extend-requires
     slice-write-block
+    sort-in-requires
     same-length
     returns
     copied-requires
@@ -104,5 +121,6 @@ grow-spec =
     slice-aggregate-put
     put-requires
     slice-write-block-2
+    sort-in-requires-2
     same-length-3
     returns-3)

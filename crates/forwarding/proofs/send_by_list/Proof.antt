@@ -4,8 +4,8 @@ use borrow.Author.Needs.{needs}
 use Rattle.forwarding.proofs.send_by_list.Statement.{statement}
 use Rattle.forwarding.proofs.send_by_list.Tie as tie
 
-ask-listed-requires : tie.Need-ask-listed-requires
-ask-listed-requires c κs = search needs
+ask-plain-requires : tie.Need-ask-plain-requires
+ask-plain-requires c κs = search needs
 
 carry-requires : tie.Need-carry-requires
 carry-requires c κs = search needs
@@ -18,7 +18,7 @@ returns c = λ ports from more ne h e.
     let at-carry = c .before .before in
     let at-ask = at-carry .before .before in
     let args = at-ask .before .before .before .args in
-    sent-by (args .pgn) ne (at-ask .ask-listed .ensures .0 ports from (args .to) _ h e) (at-carry .carry .ensures ports more)
+    sent-by (args .pgn) ne (at-ask .ask-plain .ensures .0 ports from (args .to) _ h e) (at-carry .carry .ensures ports more)
 
 pub send-by-list-spec : {M : Type 1} → statement M
-send-by-list-spec = tie.close (tie.spec ask-listed-requires carry-requires same-length returns)
+send-by-list-spec = tie.close (tie.spec ask-plain-requires carry-requires same-length returns)

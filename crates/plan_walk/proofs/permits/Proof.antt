@@ -13,26 +13,26 @@ mul-a c = search needs
 add-e : tie.Need-add-e
 add-e c = search needs
 
-mul-ask-list : tie.Need-mul-ask-list
-mul-ask-list c = search needs
+mul-reason-by-list : tie.Need-mul-reason-by-list
+mul-reason-by-list c = search needs
 
-sub-ask-list : tie.Need-sub-ask-list
-sub-ask-list c = search needs
+sub-reason-by-list : tie.Need-sub-reason-by-list
+sub-reason-by-list c = search needs
 
-part-ask-list-start : tie.Need-part-ask-list-start
-part-ask-list-start c = search needs
+part-reason-by-list-start : tie.Need-part-reason-by-list-start
+part-reason-by-list-start c = search needs
 
-part-ask-list-end : tie.Need-part-ask-list-end
-part-ask-list-end c = search needs
+part-reason-by-list-end : tie.Need-part-reason-by-list-end
+part-reason-by-list-end c = search needs
 
-ask-list-requires : tie.Need-ask-list-requires
-ask-list-requires c κs = search needs
+reason-by-list-requires : tie.Need-reason-by-list-requires
+reason-by-list-requires c κs = search needs
 
 crosses-requires : tie.Need-crosses-requires
 crosses-requires c κs = search needs
 
 returns : tie.Need-returns
-returns c = let at-pair = c .before .before .before in let args = at-pair .before .before .args in permit-is (args .lists .now) (args .unit) (args .from) (args .to) (args .pgn) (at-pair .pair-at .result) (at-pair .pair-at .ensures .0) (c .before .ask-list .ensures) (c .crosses .ensures)
+returns c = let at-pair = c .before .before .before in let args = at-pair .before .before .args in permit-is (args .lists .now) (args .unit) (args .from) (args .to) (args .pgn) (at-pair .pair-at .result) (at-pair .pair-at .ensures .0) (c .before .reason-by-list .ensures) (c .crosses .ensures)
 
 pub permits-spec : {M : Type 1} → statement M
 permits-spec =
@@ -41,10 +41,10 @@ permits-spec =
     pair-at-requires
     mul-a
     add-e
-    mul-ask-list
-    sub-ask-list
-    part-ask-list-start
-    part-ask-list-end
-    ask-list-requires
+    mul-reason-by-list
+    sub-reason-by-list
+    part-reason-by-list-start
+    part-reason-by-list-end
+    reason-by-list-requires
     crosses-requires
     returns)

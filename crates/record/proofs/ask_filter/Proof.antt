@@ -50,8 +50,8 @@ returns c =
       A .small,
     )
 
-ask-listed-requires : tie.Need-ask-listed-requires
-ask-listed-requires c κs =
+ask-plain-requires : tie.Need-ask-plain-requires
+ask-plain-requires c κs =
     let at-if = c in
     (search needs, leb-false 3 _ (sym (at-if .before .has-names .ensures) ∙ at-if .if1 .left))
 
@@ -59,7 +59,7 @@ returns-2 : tie.Need-returns-2
 returns-2 c =
     let at-if = c .before in
     let args = at-if .before .before .before .args in
-    let E = c .ask-listed .ensures in
+    let E = c .ask-plain .ensures in
     ((λ ports p q h e. E .0 ports p q (nameAt (modelOf ports (args .words .now) .rest .table) (args .address)) h e), omega (arith, E .1))
 
 pub ask-filter-spec : {M : Type 1} → statement M
@@ -75,5 +75,5 @@ ask-filter-spec =
     part-ask-named-end
     ask-named-requires
     returns
-    ask-listed-requires
+    ask-plain-requires
     returns-2)

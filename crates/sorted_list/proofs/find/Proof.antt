@@ -1,7 +1,7 @@
 -- `sorted_list::find` meets its contract: a loop over the places left, one probe a turn. Assumes nothing.
 use native.Mathlib.Omega.{arith}
 use borrow.Author.Needs.{needs}
-use Rattle.sorted_list.proofs.Ceiling.{told}
+use Rattle.sorted_list.proofs.Ceiling.{told-found, told-absent}
 use Rattle.sorted_list.proofs.Halving.{Unprobed, unprobed-all, unprobed-found, unprobed-on, unprobed-none}
 use Rattle.sorted_list.proofs.find.Statement.{statement}
 use Rattle.sorted_list.proofs.find.Tie as tie
@@ -30,10 +30,13 @@ mul-y c = omega arith
 shared-slice-read-y : tie.Need-shared-slice-read-y Inv-loop μ-loop
 shared-slice-read-y c = omega arith
 
+add-result : tie.Need-add-result Inv-loop μ-loop
+add-result c = omega arith
+
 returns : tie.Need-returns Inv-loop μ-loop
 returns c =
     let at = c .before .before .before in
-    told _ _ _ (at .before .before .pre .0) (at .before .before .pre .1) (unprobed-found (at .loop .inv) (omega arith) (c .if1 .taken))
+    told-found _ _ _ (at .before .before .pre .0) (at .before .before .pre .1) (unprobed-found (at .loop .inv) (omega arith) (c .if1 .taken))
 
 add-if-below : tie.Need-add-if-below Inv-loop μ-loop
 add-if-below c = omega arith
@@ -63,7 +66,7 @@ loop-again c =
     unprobed-on (asked .before .before .before .loop .inv) (omega arith) (up .if-below .ensures .0) (up .if-below .ensures .1) (c .if-below2 .ensures .0) (c .if-below2 .ensures .1) (asked .if1 .left)
 
 returns-2 : tie.Need-returns-2 Inv-loop μ-loop
-returns-2 c = told _ _ _ (c .before .before .before .pre .0) (c .before .before .before .pre .1) (unprobed-none (c .before .loop .inv) (omega arith))
+returns-2 c = told-absent _ _ _ (c .before .before .before .pre .0) (c .before .before .before .pre .1) (unprobed-none (c .before .loop .inv) (omega arith))
 
 pub find-spec : {M : Type 1} → statement M
 find-spec =
@@ -77,6 +80,7 @@ find-spec =
     add-y
     mul-y
     shared-slice-read-y
+    add-result
     returns
     add-if-below
     if-below-requires

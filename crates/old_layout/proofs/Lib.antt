@@ -1,0 +1,4 @@
+mod Commands
+mod Calls
+mod Shrunk
+pub mod Same

@@ -1,0 +1,2 @@
+pub mod OldLayout
+pub mod Same
