@@ -83,6 +83,12 @@ fn payloads() {
     check(include_str!("../scripts/payloads.txt"), include_str!("../scripts/payloads.out"));
 }
 
+/// Every function at every length, and every filling byte wrong by itself.
+#[test]
+fn bodies() {
+    check(include_str!("../scripts/bodies.txt"), include_str!("../scripts/bodies.out"));
+}
+
 /// The old box's hole: the port number one up.
 #[test]
 fn one_up() {
