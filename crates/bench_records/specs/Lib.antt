@@ -1,3 +1,4 @@
 pub mod Records
 pub mod Turning
 pub mod Again
+pub mod Literals

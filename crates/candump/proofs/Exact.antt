@@ -46,7 +46,7 @@ less : (n : ℕ) → suc n - 1 ≡ n
 less n = omega arith
 
 -- behind the time they are the same
-alike-rest : (s t cs : List ℕ) → alike (length s) cs (s ++ t) ≡ true → drop (length s) cs ≡ t
+pub alike-rest : (s t cs : List ℕ) → alike (length s) cs (s ++ t) ≡ true → drop (length s) cs ≡ t
 unfolding alike
 alike-rest [] t cs h = alike-same cs t h
 alike-rest (x ∷ s) t [] h = absurd (never h)

@@ -164,7 +164,7 @@ parts-frame a p q r s = rw (le-leb 1 (a .port) p, le-leb (a .port) 4 q, lt-ltb (
 -- ---- a line that is written
 pub record Goes (room : ℕ) (a : Arrival) : Type 0 where
   pub fits : 51 ≤ room
-  pub last : a .port ≤ 4
+  pub named : a .port ≤ 4
   pub short : a .len ≤ 8
 
 pub goes : (room : ℕ) (a : Arrival) → lineRefusal room a ≡ 0 → Goes room a
@@ -176,7 +176,7 @@ goes room a h =
     let four = passed (ltb 8 (a .len)) 3 0 (three .1) in
     record {
       fits = ltb-false room 51 (two .0);
-      last = leb-true (a .port) 4 (and-right (leb 1 (a .port)) _ (not-false _ (one .0)));
+      named = leb-true (a .port) 4 (and-right (leb 1 (a .port)) _ (not-false _ (one .0)));
       short = ltb-false 8 (a .len) (four .0);
     }
 

@@ -15,7 +15,7 @@ returns c = line-refused (c .before .line-refusal .ensures) (c .if1 .taken)
 put-requires : tie.Need-put-requires
 put-requires c κs =
     let went = goes _ (c .before .before .before .before .args .a) (sym (c .before .before .line-refusal .ensures) ∙ c .before .if1 .left) in
-    (went .fits, went .last, went .short)
+    (went .fits, went .named, went .short)
 
 same-length : tie.Need-same-length
 same-length c = search needs
