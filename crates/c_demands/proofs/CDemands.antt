@@ -15,7 +15,8 @@ use Rattle.demand_2.specs.Demand2.{SameTo}
 use Rattle.demand_2.proofs.Demand2.{demand-2}
 use Rattle.demand_3.proofs.Demand3.{demand-3, powered-good}
 use Rattle.c_demands.specs.Exported.{Powered, powered, PoweredFour, poweredFour, Handed, handed}
-use Rattle.c_demands.specs.CDemands.{wordsOf, Exported, Gave, Made, frame-made, take-made, message-made, start-made, quiet-made, unit-made, counts-made, queue-made, Listed, CDemands}
+use Rattle.c_demands.specs.CDemands.{Exported, Gave, Made, frame-made, take-made, message-made, start-made, quiet-made, unit-made, counts-made, queue-made, Listed, CDemands}
+use Rattle.c_demands.specs.Words.{wordsOf}
 use Rattle.c_demands.proofs.Calls.{is-call, is-none, answered, message-tells, message-none}
 use Rattle.c_demands.proofs.Numbers.{exact-number}
 use Rattle.c_demands.proofs.Lists.{leads}

@@ -28,8 +28,8 @@ use Rattle.unit.specs.Count.{portsOf}
 use Rattle.unit.specs.Model.{modelOf, rowAt, recordLength, rowsFrom}
 use Rattle.refusals.specs.Refusals.{frameRefusal, takeRefusal, startRefusal, quietRefusal, lengthRefusal}
 use Rattle.bridge.specs.Calls.{Call, FrameIn, TakeOut, Message, Start, Quiet, ReadUnit, refusal, performed, next, queueAt, messaged, frameAnswer, takeAnswer, startAnswer, unitAnswer, countsAnswer, Calling, Framing, TakingOut, Messaging, Starting, Quieting, Reading, Counting}
-use Rattle.flat_answers.specs.Answers.{frameLength, takeLength, bytesLength, unitLength, countsLength, frameWords, takeWords, bytesOfTaken, unitWords}
-use Rattle.deorasaeng.specs.Interface.{lentRefusal, Served, messageLength, startLength, filled, over, startWords, repliedTo, takenFrom, FrameCall, TakeCall, MessageCall, StartCall, UnitCall, CountsCall, QueueCall}
+use Rattle.flat_answers.specs.Answers.{frameLength, takeLength, bytesLength, unitLength, countsLength, takeWords, bytesOfTaken}
+use Rattle.deorasaeng.specs.Interface.{lentRefusal, Served, messageLength, startLength, over, repliedTo, takenFrom, FrameCall, TakeCall, MessageCall, StartCall, UnitCall, CountsCall, QueueCall}
 use Rattle.bridge.specs.Calls.{gave as takenIn}
 use Rattle.deorasaeng.proofs.Numbers.{not-0, frame-lent, frame-number, take-lent, take-lent-bytes, take-number, silent, replied-as, start-lent, start-number, unit-lent, unit-number, counts-lent, counts-number, queue-lent, queue-lent-bytes, queue-number}
 use Rattle.deorasaeng.proofs.Calls.{frame-refusal, start-refusal, counts-refusal}
@@ -42,7 +42,14 @@ use Rattle.demand_3.specs.Demand3.{Answer, ToFrame, ToTake, ToMessage, ToStart,
 use Rattle.demand_3.specs.Demand3 as demand-3
 use Rattle.c_demands.specs.Exported.{Arrived, arrived, Handed, handed, Started, started, Quieted, quieted, ToldUnit, toldUnit, ToldCounts, toldCounts, TookQueue, tookQueue, blockOf, withBlock}
 use Rattle.c_demands.specs.Exported.{Took as TookOut, took as tookOut}
-use Rattle.c_demands.specs.CDemands.{wordsOf, Exported, CFrame, CTake, CMessage, CStart, CQuiet, CUnit, CCounts, CTakeQueue, Gave, gave, Made, frame-made, take-made, message-made, start-made, quiet-made, unit-made, counts-made, queue-made, lends, callOf, Tells, of-frame, of-take, of-refused-take, of-message, of-start, of-quiet, of-unit, of-refused-unit, of-counts, of-queue, portless, refusedLent, IsCall, IsNone}
+use Rattle.c_demands.specs.CDemands.{Exported, CFrame, CTake, CMessage, CStart, CQuiet, CUnit, CCounts, CTakeQueue, Gave, gave, Made, frame-made, take-made, message-made, start-made, quiet-made, unit-made, counts-made, queue-made, lends, callOf, Tells, of-frame, of-take, of-refused-take, of-message, of-start, of-quiet, of-unit, of-refused-unit, of-counts, of-queue, portless, refusedLent, IsCall, IsNone}
+use Rattle.address_claims.specs.declared.Event.{Event}
+use Rattle.address_claims.specs.declared.Event.the-variants.{Nothing, Withdrew, Defended, Displaced, Recorded, Refreshed, TookOver, Beaten}
+use Rattle.address_claims.specs.Events.{eventNumber, oldName}
+use Rattle.unit.specs.declared.Claim.{Claim}
+use Rattle.unit.specs.declared.Claim.the-variants.{Unstarted, Claiming, Claimed, Lost}
+use Rattle.unit.specs.Own.{claimWord}
+use Rattle.c_demands.specs.Words.{eventWord, oldNameWord, stateWord, wordsOf}
 
 -- ---- the record
 module _ {ports : ℕ} {w w′ : List ℕ} {k : Call} {r : ℕ} (e : r ≡ refusal ports (length w) (modelOf ports w .rest) k) (S : Served ports w w′ k r) where
@@ -249,6 +256,33 @@ module _ (ports : ℕ) (w : List ℕ) (port : ℕ) {answer bytes block told writ
       let b : written ≡ bytes = rw (ne-eqb r 0 z) at (Q .writes) in
       record { unchanged = rw (Q .refused z) (put-back w port); refused = rw (n, t, b) }
 
+-- ---- the words
+event-is : (e : Event) → eventNumber e ≡ eventWord e
+event-is Nothing = refl
+event-is Withdrew = refl
+event-is Defended = refl
+event-is Displaced = refl
+event-is Recorded = refl
+event-is Refreshed = refl
+event-is (TookOver old) = refl
+event-is Beaten = refl
+
+old-name-is : (e : Event) → oldName e ≡ oldNameWord e
+old-name-is Nothing = refl
+old-name-is Withdrew = refl
+old-name-is Defended = refl
+old-name-is Displaced = refl
+old-name-is Recorded = refl
+old-name-is Refreshed = refl
+old-name-is (TookOver old) = refl
+old-name-is Beaten = refl
+
+state-is : (c : Claim) → claimWord c ≡ stateWord c
+state-is Unstarted = refl
+state-is Claiming = refl
+state-is Claimed = refl
+state-is Lost = refl
+
 -- ---- every exported function
 either : (a b : Bool) → (a && b) ≡ false → (a ≡ false) ⊎ (b ≡ false)
 either true b e = inr e
@@ -262,7 +296,7 @@ is-call full (frame-made (arrived κs w w′ b b′ a a′ port id r f)) l =
     record {
       answer = ToFrame (frameAnswer (portsOf (w .now)) (length (w .now)) (modelOf (portsOf (w .now)) (w .now)) port id (b .now));
       made = demand-3.frame-made (made.arrived (κs .0, (κs .1 .0, tt)) w w′ b b′ port id _ (λ _. P .0));
-      tells = of-frame {port = port} {id = id} {bytes = b .now} {answer = a .now} {g = gave r (a′ .now) []} (frameAnswer (portsOf (w .now)) (length (w .now)) (modelOf (portsOf (w .now)) (w .now)) port id (b .now)) (rw (F .tells, P .1));
+      tells = of-frame {port = port} {id = id} {bytes = b .now} {answer = a .now} {g = gave r (a′ .now) []} (frameAnswer (portsOf (w .now)) (length (w .now)) (modelOf (portsOf (w .now)) (w .now)) port id (b .now)) (rw (F .tells, P .1, event-is _, old-name-is _));
     }
 is-call full (take-made (tookOut κs w w′ a a′ b b′ port r f)) l =
     let T = f tt in
@@ -296,7 +330,7 @@ is-call full (start-made (started κs w w′ a a′ r f)) l =
     record {
       answer = ToStart (startAnswer (portsOf (w .now)) (length (w .now)) (modelOf (portsOf (w .now)) (w .now)));
       made = demand-3.start-made (made.started (κs .0, tt) w w′ _ (λ _. P .0));
-      tells = of-start {answer = a .now} {g = gave r (a′ .now) []} (startAnswer (portsOf (w .now)) (length (w .now)) (modelOf (portsOf (w .now)) (w .now))) (rw (S .tells, P .1));
+      tells = of-start {answer = a .now} {g = gave r (a′ .now) []} (startAnswer (portsOf (w .now)) (length (w .now)) (modelOf (portsOf (w .now)) (w .now))) (rw (S .tells, P .1, state-is _));
     }
 is-call full (quiet-made (quieted κs w w′ r f)) l =
     record { answer = ToQuiet r; made = demand-3.quiet-made (made.quieted κs w w′ r (λ _. f tt)); tells = of-quiet {g = gave r [] []} r refl }
@@ -307,7 +341,7 @@ is-call full (unit-made (toldUnit κs w w′ a a′ r f)) l =
       | yes z ↦ record {
         answer = ToUnit (Told (modelOf (portsOf (w .now)) (w .now) .rest .own));
         made = demand-3.unit-made (made.told (κs .0, tt) w w _ (λ _. reading-is U e (unit-found U e z)));
-        tells = of-unit {answer = a .now} {g = gave r (a′ .now) []} (modelOf (portsOf (w .now)) (w .now) .rest .own) (rw (U .tells, z));
+        tells = of-unit {answer = a .now} {g = gave r (a′ .now) []} (modelOf (portsOf (w .now)) (w .now) .rest .own) (rw (U .tells, z, state-is (modelOf (portsOf (w .now)) (w .now) .rest .own .claim)));
       }
       | no h ↦ record {
         answer = ToUnit (UnitAnswer.Refused r);

@@ -3,3 +3,4 @@ pub mod Numbers
 pub mod Lists
 pub mod Unchanged
 pub mod CDemands
+pub mod Plans

@@ -78,7 +78,7 @@ pub data ToldCounts : (words : List ℕ) (port : ℕ) (answer : List ℕ) (r : �
       → ToldCounts (w .now) port (a .now) r (a′ .now)
 
 -- deorasaeng_take_queue on the queue of a port that there is, where it lies in the record: that block was lent and came back, and no other word was. Its contract
--- is `QueueCall`, the clause of the code (`queue-clause` of CDemands.antt).
+-- is `QueueCall`, the clause of the code (`queue-clause` of Clauses.antt).
 abbrev pub blockOf : List ℕ → ℕ → List ℕ
 blockOf words port = take blockLength (drop (queueAt port) words)
 
