@@ -1,11 +1,8 @@
-// The numbers of include/deorasaeng.h beside the code's: the header is read, and each name's number is compared with what the code has. The names come from standard input, one to a line, and the code's numbers
-// follow in the same order. The words of an answer are compared by where the code writes a value, the numbers of refusals by calls that are refused so.
-mod header;
-
+// The C header: its text comes from standard input, with a mark for each number, and is written with the code's number in the place of each. What is written is include/deorasaeng.h, byte for byte. The numbers of
+// refusals are those of calls that are refused so, the words of an answer are told by where the code writes a value.
 use address_claims::Event;
 use bridge::FrameAnswer;
 use filter::Reason;
-use header::Meaning;
 use libc::STDIN_FILENO;
 use libc::STDOUT_FILENO;
 use queue::Frame;
@@ -13,66 +10,53 @@ use queue::Taken;
 use queue::Tally;
 use unit::Claim;
 use unit::Unit;
+ghost use Prim.Native.Nat.{_≤_};
+ghost use lib.ListN.{length};
 
-// How far the names are passed, and how many of them have the code's number.
-struct Passed {
-    at: usize,
-    same: u64,
-}
+// What stands for a number.
+const MARK: u8 = b'@';
 
-fn text(word: &[u8]) {
-    io::write_all(STDOUT_FILENO, word);
-}
-
-fn number(n: u64) {
-    io::print_decimal(STDOUT_FILENO, n);
-}
-
-// A name's line: 1 where the header's number is the code's, else 0.
-fn compare(head: &[u8], name: &[u8], code: u64) -> u64 {
-    text(name);
-    match header::find(head, name) {
-        Meaning::Number(n) => {
-            text(b" ");
-            number(n);
-            if n == code {
-                text(b", as in the code\n");
-                return 1;
-            }
-            text(b" DIFFERS, the code has ");
+// Where the next mark stands, or the end.
+fn marked(text: &[u8], from: usize) -> usize
+    requires { ⌜ from ≤ length (now text) ⌝ }
+    ensures { λ r. ⌜ (from ≤ r) × (r ≤ length (now (text .entry))) ⌝ }
+{
+    let mut at = from;
+    while at < text.len() {
+        if text[at] == MARK {
+            return at;
         }
-        Meaning::Nothing => {
-            text(b" IS MISSING, the code has ");
-        }
+        at += 1;
     }
-    number(code);
-    text(b"\n");
-    0
+    at
 }
 
-// The next name, whose number in the code is given.
-fn next(head: &[u8], names: &[u8], p: Passed, code: u64) -> Passed {
-    let at = p.at;
-    if names.len() < at {
-        return p;
+// The text up to the next mark, and a number in its place: where the text goes on.
+fn next(text: &[u8], from: usize, number: u64) -> usize
+    requires { ⌜ from ≤ length (now text) ⌝ }
+    ensures { λ r. ⌜ r ≤ length (now (text .entry)) ⌝ }
+{
+    let at = marked(text, from);
+    io::write_all(STDOUT_FILENO, &text[from..at]);
+    if at < text.len() {
+        io::print_decimal(STDOUT_FILENO, number);
+        return at + 1;
     }
-    let end = header::name_end(names, at);
-    let same = compare(head, &names[at..end], code);
-    Passed {
-        at: end + 1,
-        same: std::num::wrapping_add_u64(p.same, same),
-    }
+    at
 }
 
-// The next names, one for each number.
-fn all(head: &[u8], names: &[u8], from: Passed, codes: &[u64]) -> Passed {
-    let mut p = from;
+// The same with one number after the other.
+fn all(text: &[u8], from: usize, numbers: &[u64]) -> usize
+    requires { ⌜ from ≤ length (now text) ⌝ }
+    ensures { λ r. ⌜ r ≤ length (now (text .entry)) ⌝ }
+{
+    let mut at = from;
     let mut i: usize = 0;
-    while i < codes.len() {
-        p = next(head, names, p, codes[i]);
+    while i < numbers.len() {
+        at = next(text, at, numbers[i]);
         i += 1;
     }
-    p
+    at
 }
 
 // Where a value stands in an answer.
@@ -87,15 +71,18 @@ fn place_of(answer: &[u64], value: u64) -> u64 {
     answer.len() as u64
 }
 
-// The next names, one for each value: its place in an answer.
-fn places(head: &[u8], names: &[u8], from: Passed, answer: &[u64], values: &[u64]) -> Passed {
-    let mut p = from;
+// The same with the places of values in an answer.
+fn places(text: &[u8], from: usize, answer: &[u64], values: &[u64]) -> usize
+    requires { ⌜ from ≤ length (now text) ⌝ }
+    ensures { λ r. ⌜ r ≤ length (now (text .entry)) ⌝ }
+{
+    let mut at = from;
     let mut i: usize = 0;
     while i < values.len() {
-        p = next(head, names, p, place_of(answer, values[i]));
+        at = next(text, at, place_of(answer, values[i]));
         i += 1;
     }
-    p
+    at
 }
 
 // ---- the numbers of refusals, each by a call that is refused so
@@ -125,11 +112,10 @@ fn message(words: &mut [u64], port: u32, requester: u32, payload: &[u8]) -> Give
     Given { number, answer }
 }
 
-// WRONG_PORT_COUNT, DONE, WRONG_PORT, WRONG_STORAGE.
-fn call_numbers(words: &mut [u64]) -> [u64; 4] {
+// DONE, WRONG_PORT, WRONG_STORAGE.
+fn call_numbers(words: &mut [u64]) -> [u64; 3] {
     let mut short = [0u64; 1];
     [
-        deorasaeng::deorasaeng_power_on_ports(words, 1, 0x50, 9) as u64,
         deorasaeng::deorasaeng_power_on(words, 1, 0x50) as u64,
         frame_number(words, 0, 0, b""),
         deorasaeng::deorasaeng_quiet(&mut short) as u64,
@@ -150,12 +136,9 @@ fn tool(words: &mut [u64], payload: &[u8]) -> u64 {
     message(words, 1, 0x21, payload).number
 }
 
-// NOT_CLAIMED, WRONG_STATE.
-fn state_numbers(words: &mut [u64]) -> [u64; 2] {
-    [
-        tool(words, b"\x00\x12\xFF\xFF\xFF\xFF\xFF\xFF"),
-        deorasaeng::deorasaeng_quiet(words) as u64,
-    ]
+// NOT_CLAIMED, of an Unstarted unit.
+fn early_number(words: &mut [u64]) -> [u64; 1] {
+    [tool(words, b"\x00\x12\xFF\xFF\xFF\xFF\xFF\xFF")]
 }
 
 // WRONG_PAYLOAD, WRONG_ADDRESS, WRONG_FUNCTION.
@@ -167,15 +150,23 @@ fn message_numbers(words: &mut [u64]) -> [u64; 3] {
     ]
 }
 
-// WRONG_PAIR, ACCESS_DENIED, WRONG_PARAMETER, WRONG_BODY, WRONG_ENTRY, WRONG_MODE.
-fn payload_numbers(words: &mut [u64]) -> [u64; 6] {
+// WRONG_PAIR, ACCESS_DENIED, WRONG_BODY, WRONG_MODE.
+fn payload_numbers(words: &mut [u64]) -> [u64; 4] {
     [
         tool(words, b"\x00\x11\xFF\xFF\xFF\xFF\xFF\xFF"),
         message(words, 3, 0x21, b"\x00\x12\xFF\xFF\xFF\xFF\xFF\xFF").number,
-        tool(words, b"\x85\x12\x03\xFF\xFF\xFF\xFF\xFF"),
         tool(words, b"\x00\x12\xFF\xFF\xFF\xFF\xFF\xFF\xFF"),
-        tool(words, b"\x02\x12\xFF\xFF\xFF\xFF\xFF\xFF"),
         tool(words, b"\x06\x12\x02\xF1\xFE\x00\xFF\xFF"),
+    ]
+}
+
+// WRONG_STATE, WRONG_ENTRY, WRONG_PARAMETER, WRONG_PORT_COUNT, after which the unit is a new one.
+fn late_numbers(words: &mut [u64]) -> [u64; 4] {
+    [
+        deorasaeng::deorasaeng_quiet(words) as u64,
+        tool(words, b"\x02\x12\xFF\xFF\xFF\xFF\xFF\xFF"),
+        tool(words, b"\x85\x12\x03\xFF\xFF\xFF\xFF\xFF"),
+        deorasaeng::deorasaeng_power_on_ports(words, 1, 0x50, 9) as u64,
     ]
 }
 
@@ -183,14 +174,14 @@ fn payload_numbers(words: &mut [u64]) -> [u64; 6] {
 const TOO_MANY: [u8; 6 + 3 * Unit::LIST_SIZE] =
     *b"\x06\x13\x00\x00\xFE\x00\x01\xFE\x00\x02\xFE\x00\x03\xFE\x00\x04\xFE\x00\x05\xFE\x00\x06\xFE\x00\x07\xFE\x00\x08\xFE\x00\x09\xFE\x00\x0A\xFE\x00\x0B\xFE\x00\x0C\xFE\x00\x0D\xFE\x00\x0E\xFE\x00\x0F\xFE\x00\x10\xFE\x00\x11\xFE\x00\x12\xFE\x00\x13\xFE\x00\x14\xFE\x00\x15\xFE\x00\x16\xFE\x00\x17\xFE\x00\x18\xFE\x00\x19\xFE\x00\x1A\xFE\x00\x1B\xFE\x00\x1C\xFE\x00\x1D\xFE\x00\x1E\xFE\x00\x1F\xFE\x00\x20\xFE\x00";
 
-// IS_CLEARED, NOT_CLEARED, PGN_ABSENT, LIST_FULL: pair 1 to 2 has a list, pair 1 to 3 is cleared.
+// NOT_CLEARED, IS_CLEARED, LIST_FULL, PGN_ABSENT: pair 1 to 2 has a list, pair 1 to 3 is cleared.
 fn list_numbers(words: &mut [u64]) -> [u64; 4] {
     tool(words, b"\x06\x12\x01\xF1\xFE\x00\xFF\xFF");
     [
-        tool(words, b"\x02\x13\xF1\xFE\x00\xFF\xFF\xFF"),
         tool(words, b"\x06\x12\x01\xF1\xFE\x00\xFF\xFF"),
-        tool(words, b"\x03\x12\xF2\xFE\x00\xFF\xFF\xFF"),
+        tool(words, b"\x02\x13\xF1\xFE\x00\xFF\xFF\xFF"),
         tool(words, &TOO_MANY),
+        tool(words, b"\x03\x12\xF2\xFE\x00\xFF\xFF\xFF"),
     ]
 }
 
@@ -237,43 +228,57 @@ fn plan_numbers() -> [u64; 2] {
     [plan_number(2), plan_number(1)]
 }
 
-// The numbers of an Unstarted unit.
-fn early_numbers(head: &[u8], names: &[u8], from: Passed, words: &mut [u64]) -> Passed {
-    let mut p = all(head, names, from, &version());
-    p = all(head, names, p, &call_numbers(words));
-    p = all(head, names, p, &frame_numbers(words));
-    all(head, names, p, &state_numbers(words))
+// VERSION, and the numbers of an Unstarted unit.
+fn early_numbers(text: &[u8], words: &mut [u64]) -> usize
+    ensures { λ r. ⌜ r ≤ length (now (text .entry)) ⌝ }
+{
+    let mut at = all(text, 0, &version());
+    at = all(text, at, &call_numbers(words));
+    at = all(text, at, &frame_numbers(words));
+    all(text, at, &early_number(words))
 }
 
 // The numbers of a Claimed one.
-fn claimed_numbers(head: &[u8], names: &[u8], from: Passed, words: &mut [u64]) -> Passed {
-    let mut p = all(head, names, from, &message_numbers(words));
-    p = all(head, names, p, &payload_numbers(words));
-    all(head, names, p, &list_numbers(words))
+fn claimed_numbers(text: &[u8], from: usize, words: &mut [u64]) -> usize
+    requires { ⌜ from ≤ length (now text) ⌝ }
+    ensures { λ r. ⌜ r ≤ length (now (text .entry)) ⌝ }
+{
+    let mut at = all(text, from, &message_numbers(words));
+    at = all(text, at, &payload_numbers(words));
+    at = all(text, at, &list_numbers(words));
+    all(text, at, &late_numbers(words))
 }
 
 // ---- published numbers
 // FEWEST_PORTS, MOST_PORTS.
 const PORT_COUNTS: [u64; 2] = [Unit::FEWEST_PORTS as u64, Unit::MOST_PORTS as u64];
 
-// The length of the record for every number of ports.
-fn record_lengths(head: &[u8], names: &[u8], from: Passed) -> Passed {
-    let mut p = from;
-    let mut ports: usize = 2;
-    while ports <= 8 {
-        p = next(head, names, p, Unit::record_length(ports) as u64);
-        ports += 1;
-    }
-    p
+// RECORD_WORDS, QUEUE_WORDS, RECORD_PAIR_WORDS, REPLY_BYTES, FRAME_BYTES, QUEUES_AT.
+fn record_lengths() -> [u64; 6] {
+    [
+        Unit::record_length(4) as u64,
+        queue::BLOCK_LENGTH as u64,
+        filter::BLOCK_SIZE as u64,
+        refusals::LONGEST_MESSAGE as u64,
+        flat_answers::FRAME_BYTES as u64,
+        Unit::QUEUES_AT as u64,
+    ]
 }
 
-// QUEUE_WORDS, RECORD_PAIR_WORDS, REPLY_BYTES, QUEUES_AT, FRAME_BYTES, and the lengths of the answers to a frame, a take, a message, Start, of the unit, of the counts and of a plan.
+// RECORD_WORDS_2, 3, 5, 6, 7, 8.
+fn other_lengths() -> [u64; 6] {
+    [
+        Unit::record_length(2) as u64,
+        Unit::record_length(3) as u64,
+        Unit::record_length(5) as u64,
+        Unit::record_length(6) as u64,
+        Unit::record_length(7) as u64,
+        Unit::record_length(8) as u64,
+    ]
+}
+
+// The lengths of the answers to a frame, a take, a message, Start, of the unit, of the counts and of a plan; MOST_SEGMENTS, MOST_UNITS, PLAN_PORT_WORDS, PLAN_LIST_WORDS, PAIR_WORDS.
 const LENGTHS: [u64; 12] = [
-    queue::BLOCK_LENGTH as u64,
-    filter::BLOCK_SIZE as u64,
-    refusals::LONGEST_MESSAGE as u64,
-    Unit::QUEUES_AT as u64,
-    flat_answers::FRAME_BYTES as u64,
     deorasaeng::FRAME_WORDS as u64,
     deorasaeng::TAKE_WORDS as u64,
     deorasaeng::MESSAGE_WORDS as u64,
@@ -281,10 +286,6 @@ const LENGTHS: [u64; 12] = [
     deorasaeng::UNIT_WORDS as u64,
     deorasaeng::COUNTS_WORDS as u64,
     deorasaeng::PLAN_WORDS as u64,
-];
-
-// MOST_SEGMENTS, MOST_UNITS, PLAN_PORT_WORDS, PLAN_LIST_WORDS, PAIR_WORDS.
-const PLAN: [u64; 5] = [
     plan_shape::SEGMENTS as u64,
     plan_shape::UNITS as u64,
     plan_shape::PORTS_LENGTH as u64,
@@ -411,48 +412,57 @@ fn counts_answer() -> [u64; deorasaeng::COUNTS_WORDS] {
 // COUNTS_WAITING, COUNTS_ACCEPTED, COUNTS_TAKEN.
 const COUNTS_VALUES: [u64; 3] = [1, 9, 10];
 
-// What is read of the unit and of a port.
-fn read_answers(head: &[u8], names: &[u8], from: Passed) -> Passed {
-    let p = places(head, names, from, &unit_answer(), &UNIT_VALUES);
-    places(head, names, p, &counts_answer(), &COUNTS_VALUES)
+// The lengths and numbers that stand in the header before the words of the answers.
+fn published(text: &[u8], from: usize, words: &mut [u64]) -> usize
+    requires { ⌜ from ≤ length (now text) ⌝ }
+    ensures { λ r. ⌜ r ≤ length (now (text .entry)) ⌝ }
+{
+    let mut at = all(text, from, &plan_numbers());
+    at = all(text, at, &pgns(words));
+    at = all(text, at, &PORT_COUNTS);
+    at = all(text, at, &record_lengths());
+    at = all(text, at, &other_lengths());
+    all(text, at, &LENGTHS)
 }
 
-fn answers(head: &[u8], names: &[u8], from: Passed, words: &mut [u64]) -> Passed {
-    let mut p = places(head, names, from, &frame_answer(), &FRAME_VALUES);
-    p = places(head, names, p, &take_answer(), &TAKE_VALUES);
-    p = places(head, names, p, &message_answer(words), &MESSAGE_VALUES);
-    p = places(head, names, p, &claim(words), &START_VALUES);
-    read_answers(head, names, p)
+// What a frame, a take and a message are answered with, and the reasons.
+fn answers(text: &[u8], from: usize, words: &mut [u64]) -> usize
+    requires { ⌜ from ≤ length (now text) ⌝ }
+    ensures { λ r. ⌜ r ≤ length (now (text .entry)) ⌝ }
+{
+    let mut at = places(text, from, &frame_answer(), &FRAME_VALUES);
+    at = all(text, at, &reasons());
+    at = places(text, at, &take_answer(), &TAKE_VALUES);
+    places(text, at, &message_answer(words), &MESSAGE_VALUES)
 }
 
-fn compare_all(head: &[u8], names: &[u8]) -> u64 {
+// What Start tells, what is read of the unit and of a port, states and events.
+fn readings(text: &[u8], from: usize, words: &mut [u64]) -> usize
+    requires { ⌜ from ≤ length (now text) ⌝ }
+    ensures { λ r. ⌜ r ≤ length (now (text .entry)) ⌝ }
+{
+    let mut at = places(text, from, &claim(words), &START_VALUES);
+    at = places(text, at, &unit_answer(), &UNIT_VALUES);
+    at = places(text, at, &counts_answer(), &COUNTS_VALUES);
+    at = all(text, at, &states());
+    all(text, at, &events())
+}
+
+// The header.
+fn write_header(text: &[u8]) {
     let mut words = [0u64; Unit::RECORD_LENGTH];
-    let mut p = Passed { at: 0, same: 0 };
-    p = early_numbers(head, names, p, &mut words);
+    let mut at = early_numbers(text, &mut words);
     claim(&mut words);
-    p = claimed_numbers(head, names, p, &mut words);
-    p = all(head, names, p, &plan_numbers());
-    p = all(head, names, p, &pgns(&mut words));
-    p = all(head, names, p, &PORT_COUNTS);
-    p = record_lengths(head, names, p);
-    p = all(head, names, p, &LENGTHS);
-    p = all(head, names, p, &PLAN);
-    p = answers(head, names, p, &mut words);
-    p = all(head, names, p, &states());
-    p = all(head, names, p, &events());
-    p = all(head, names, p, &reasons());
-    p.same
+    at = claimed_numbers(text, at, &mut words);
+    claim(&mut words);
+    at = published(text, at, &mut words);
+    at = answers(text, at, &mut words);
+    at = readings(text, at, &mut words);
+    io::write_all(STDOUT_FILENO, &text[at..]);
 }
 
 fn main() {
     let mut space = io::large_buffer();
-    let mut lines = io::buffer();
-    let file = os::open_read(b"deorasaeng.h");
-    let n = io::read_full(file, &mut space);
-    let m = io::read_full(STDIN_FILENO, &mut lines);
-    let same = compare_all(&space[..n], &lines[..m]);
-    number(same);
-    text(b" as in the code, of ");
-    number(header::count(&space[..n], b"DEORASAENG_"));
-    text(b" in the header\n");
+    let n = io::read_full(STDIN_FILENO, &mut space);
+    write_header(&space[..n]);
 }

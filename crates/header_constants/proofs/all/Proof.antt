@@ -1,4 +1,4 @@
--- `all` is safe and ends: the measure is the numbers that are left. Assumes nothing.
+-- `all` meets its contract: within the text, one number after the other. Assumes nothing.
 use Prim.Native.Nat.{_≤_, _-_}
 use lib.ListN.{length}
 use borrow.Author.Needs.{needs}
@@ -6,10 +6,10 @@ use Rattle.header_constants.proofs.all.Statement.{statement}
 use Rattle.header_constants.proofs.all.Tie as tie
 
 abbrev Inv-loop : tie.InvT-loop
-Inv-loop head names codes p₀ i₀ p i = i ≤ length codes
+Inv-loop text from numbers at₀ i₀ at i = (i ≤ length numbers) × (at ≤ length text)
 
 abbrev μ-loop : tie.MeasureT-loop
-μ-loop head names codes p₀ i₀ p i = length codes - i
+μ-loop text from numbers at₀ i₀ at i = length numbers - i
 
 loop-holds : tie.Need-loop-holds Inv-loop μ-loop
 loop-holds c = search needs

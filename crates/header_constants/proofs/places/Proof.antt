@@ -1,4 +1,4 @@
--- `places` is safe and ends: the measure is the values that are left. Assumes nothing.
+-- `places` meets its contract: within the text, one value after the other. Assumes nothing.
 use Prim.Native.Nat.{_≤_, _-_}
 use lib.ListN.{length}
 use borrow.Author.Needs.{needs}
@@ -6,10 +6,10 @@ use Rattle.header_constants.proofs.places.Statement.{statement}
 use Rattle.header_constants.proofs.places.Tie as tie
 
 abbrev Inv-loop : tie.InvT-loop
-Inv-loop head names answer values p₀ i₀ p i = i ≤ length values
+Inv-loop text from answer values at₀ i₀ at i = (i ≤ length values) × (at ≤ length text)
 
 abbrev μ-loop : tie.MeasureT-loop
-μ-loop head names answer values p₀ i₀ p i = length values - i
+μ-loop text from answer values at₀ i₀ at i = length values - i
 
 loop-holds : tie.Need-loop-holds Inv-loop μ-loop
 loop-holds c = search needs

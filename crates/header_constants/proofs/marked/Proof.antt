@@ -1,24 +1,21 @@
--- `header::behind_blanks` meets its contract: the loop goes on within the text. Assumes nothing.
+-- `marked` meets its contract: the loop goes on within the text. Assumes nothing.
 use Prim.Native.Nat.{_≤_, _-_}
 use lib.ListN.{length}
 use borrow.Author.Needs.{needs}
-use Rattle.header_constants.proofs.header.behind_blanks.Statement.{statement}
-use Rattle.header_constants.proofs.header.behind_blanks.Tie as tie
+use Rattle.header_constants.proofs.marked.Statement.{statement}
+use Rattle.header_constants.proofs.marked.Tie as tie
 
 abbrev Inv-loop : tie.InvT-loop
-Inv-loop text i at₀ at = at ≤ length text
+Inv-loop text from at₀ at = (from ≤ at) × (at ≤ length text)
 
 abbrev μ-loop : tie.MeasureT-loop
-μ-loop text i at₀ at = length text - at
+μ-loop text from at₀ at = length text - at
 
 loop-holds : tie.Need-loop-holds Inv-loop μ-loop
 loop-holds c = search needs
 
 shared-slice-read-if1 : tie.Need-shared-slice-read-if1 Inv-loop μ-loop
 shared-slice-read-if1 c = search needs
-
-shared-slice-read-if2 : tie.Need-shared-slice-read-if2 Inv-loop μ-loop
-shared-slice-read-if2 c = search needs
 
 returns : tie.Need-returns Inv-loop μ-loop
 returns c = search needs
@@ -35,15 +32,14 @@ loop-again c = search needs
 returns-2 : tie.Need-returns-2 Inv-loop μ-loop
 returns-2 c = search needs
 
-pub behind-blanks-spec : {M : Type 1} → statement M
-behind-blanks-spec =
+pub marked-spec : {M : Type 1} → statement M
+marked-spec =
     tie.close
     (tie.spec
     Inv-loop
     μ-loop
     loop-holds
     shared-slice-read-if1
-    shared-slice-read-if2
     returns
     add-at
     loop-less
