@@ -1,17 +1,13 @@
--- Whether a NAME stands in the table, by its places; and the scan for it, as a loop does it. Assumes nothing.
+-- Whether a NAME stands in the table, by its places. Assumes nothing.
 use mathlib.Core.Path.{_≡_, refl, sym, _∙_}
 use mathlib.Core.Bool.{Bool, true, false, _||_, or-false, or-assoc, or-true, true≢false}
 use mathlib.Core.List.{List, [], _∷_}
-use Prim.Native.Nat.{ℕ, zero, suc, _+_, _≤_, _<_}
+use Prim.Native.Nat.{ℕ, zero, suc, _<_}
 use native.Mathlib.Nat.{not-suc-le-zero, le-of-suc-le-suc}
-use native.Mathlib.Numerals.{add-one}
-use native.Mathlib.Omega.{arith}
 use lib.ListN.{length, getD, take}
-use lib.Seq.{take-all}
 use Rattle.addresses.specs.declared.Place.{Place}
 use Rattle.addresses.specs.declared.Place.the-variants.{Free}
-use Rattle.addresses.specs.Table.{places, tableOf, heldBy, standsIn}
-use Rattle.addresses.proofs.Words.{table-length}
+use Rattle.addresses.specs.Table.{heldBy, standsIn}
 
 -- a NAME that holds a place stands in the table
 pub stands-at : (name : ℕ) (table : List Place) (i : ℕ) → heldBy name (getD table i Free) ≡ true → standsIn name table ≡ true
@@ -45,25 +41,3 @@ stands-more name [] i h = absurd (not-suc-le-zero h)
 stands-more name (p ∷ ps) zero h = or-false (heldBy name p)
 stands-more name (p ∷ ps) (suc i) h =
     rw (stands-more name ps i (le-of-suc-le-suc h)) (sym (or-assoc (heldBy name p) (standsIn name (take i ps)) (heldBy name (getD ps i Free))))
-
--- ---- the scan of `holds`: the NAME stands at none of the first i addresses
-pub record Unseen (words : List ℕ) (name i : ℕ) : Type 0 where
-  pub within : i ≤ places
-  pub none : standsIn name (take i (tableOf words)) ≡ false
-
-module _ {words : List ℕ} {name : ℕ} where
-  pub unseen-start : Unseen words name 0
-  unfolding standsIn
-  unseen-start = record { within = omega arith; none = refl }
-
-  pub unseen-more : {i : ℕ} {r : Bool} → Unseen words name i → i < places → r ≡ heldBy name (getD (tableOf words) i Free) → r ≡ false → Unseen words name (i + 1)
-  unseen-more {i} U h e f = record {
-    within = omega arith;
-    none = rw (add-one i, stands-more name (tableOf words) i (omega (arith, table-length words)), U .none, ← e, f);
-  }
-
-  pub unseen-found : {i : ℕ} {r : Bool} → Unseen words name i → r ≡ heldBy name (getD (tableOf words) i Free) → r ≡ true → true ≡ standsIn name (tableOf words)
-  unseen-found {i} U e t = sym (stands-at name (tableOf words) i (sym e ∙ t))
-
-  pub unseen-done : {i : ℕ} → Unseen words name i → places ≤ i → false ≡ standsIn name (tableOf words)
-  unseen-done {i} U h = sym (rw (take-all i (tableOf words) (omega (arith, table-length words))) at (U .none))

@@ -119,21 +119,6 @@ pub fn past_others(table: &[u64], word: usize, start: usize, value: u64) -> usiz
     address
 }
 
-// Whether a NAME holds an address.
-pub fn holds(table: &[u64], name: u64) -> bool
-    requires { ⌜ length (now table) ≡ tableLength ⌝ }
-    ensures { λ r. ⌜ r ≡ standsIn name (tableOf (now (table .entry))) ⌝ }
-{
-    let mut address: usize = 0;
-    while address < PLACES {
-        if is_held_by(table, address, name) {
-            return true;
-        }
-        address += 1;
-    }
-    false
-}
-
 // The addresses recorded on a port, rising, at the start of `out`, without the address `except` (254 or more leaves out none); how many.
 pub fn list_on(table: &[u64], port: u64, except: usize, out: &mut [u8]) -> usize
     requires { ⌜ (length (now table) ≡ tableLength) × (places ≤ length (now out)) ⌝ }

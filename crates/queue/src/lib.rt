@@ -224,12 +224,3 @@ impl Queue {
         }
     }
 }
-
-// The take on a queue that is lent, which is all that the transmit routine of one port is handed.
-pub fn take_from(queue: &mut Queue) -> Taken
-    ensures { λ r. ⌜ Taking (now (queue .entry) .words) (now (queue .exit) .words) r ⌝ }
-{
-    let t = (*queue).take();
-    *queue = t.queue;
-    t.taken
-}
