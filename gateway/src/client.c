@@ -1,6 +1,5 @@
 #include "client.h"
 
-#include "clock.h"
 #include "unix_socket.h"
 
 #include <errno.h>
@@ -9,11 +8,10 @@
 #include <sys/time.h>
 #include <unistd.h>
 
-#define PATIENCE_SECONDS 5
-
-int client_connect(const char *path)
+/* A connection to the socket at the path, or -1 with errno. */
+static int connect_to(const char *path, int64_t patience)
 {
-    const struct timeval limit = {PATIENCE_SECONDS, 0};
+    const struct timeval limit = {(time_t)(patience / CLOCK_SECOND), (suseconds_t)(patience % CLOCK_SECOND / 1000)};
     struct sockaddr_un address;
     if (!unix_socket_address(path, &address))
         return -1;
@@ -29,7 +27,8 @@ int client_connect(const char *path)
     return -1;
 }
 
-bool client_send(int fd, const char *bytes, size_t length)
+/* Sends the bytes whole. False with errno. */
+static bool send_all(int fd, const char *bytes, size_t length)
 {
     while (length > 0) {
         ssize_t put = send(fd, bytes, length, MSG_NOSIGNAL);
@@ -62,9 +61,8 @@ static bool await(int fd, int64_t deadline)
     }
 }
 
-ssize_t client_receive(int fd, char *bytes, size_t size, enum client_until until)
+static ssize_t receive(int fd, char *bytes, size_t size, enum client_until until, int64_t deadline)
 {
-    int64_t deadline = clock_now() + PATIENCE_SECONDS * CLOCK_SECOND;
     size_t length = 0;
     for (;;) {
         if (!await(fd, deadline))
@@ -85,11 +83,24 @@ ssize_t client_receive(int fd, char *bytes, size_t size, enum client_until until
     }
 }
 
+ssize_t client_exchange(const char *path, const char *line, size_t length, char *reply, size_t size, enum client_until until, int64_t patience)
+{
+    int64_t deadline = clock_now() + patience;
+    int fd = connect_to(path, patience);
+    if (fd < 0)
+        return -1;
+    ssize_t got = send_all(fd, line, length) ? receive(fd, reply, size, until, deadline) : -1;
+    int number = errno;
+    if (close(fd) == 0)
+        errno = number;
+    return got;
+}
+
 const char *client_error(int number)
 {
     switch (number) {
     case ETIMEDOUT:
-        return "no answer within 5 s";
+        return "no answer within 5 s"; /* CLIENT_PATIENCE */
     case EMSGSIZE:
         return "an answer longer than any gateway's";
     case ECONNREFUSED:

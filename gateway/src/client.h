@@ -1,21 +1,20 @@
-/* The other end of the gateway's sockets, for the programs that a person runs. Everything is given up after 5 s. */
+/* The other end of the gateway's sockets, for the programs that a person runs and for the service page. */
 #ifndef GATEWAY_CLIENT_H
 #define GATEWAY_CLIENT_H
 
-#include <stdbool.h>
+#include "clock.h"
+
 #include <stddef.h>
 #include <sys/types.h>
 
-/* A connection to the socket at the path, or -1 with errno. */
-int client_connect(const char *path);
-
-/* Sends the bytes whole. False with errno. */
-bool client_send(int fd, const char *bytes, size_t length);
+/* How long a person waits. */
+#define CLIENT_PATIENCE (5 * CLOCK_SECOND)
 
 enum client_until { CLIENT_END, CLIENT_LINE };
 
-/* What comes until the other end closes, or until its first line is whole, with a 0 behind it: the length, or -1 with errno (EMSGSIZE: more than fits). */
-ssize_t client_receive(int fd, char *bytes, size_t size, enum client_until until);
+/* Connects to the socket at the path, sends the line, of length 0 for none, and takes what comes until the other end closes, or until its first line is whole, with a 0
+   behind it: the length, or -1 with errno (EMSGSIZE: more than fits, ETIMEDOUT: the other end was waited for longer than `patience`). */
+ssize_t client_exchange(const char *path, const char *line, size_t length, char *reply, size_t size, enum client_until until, int64_t patience);
 
 /* errno in words. */
 const char *client_error(int number);

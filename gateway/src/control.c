@@ -215,8 +215,10 @@ size_t control_line(struct gateway *gateway, const struct history_sender *sender
     struct json json;
     if (!control_request_read(line, length, &request, error))
         return control_error(error, answer, size);
+    struct history_sender whose = *sender;
+    memcpy(whose.who, request.who, sizeof whose.who);
     json_begin(&json, answer, size);
     json_object(&json, NULL);
-    answer_request(&json, gateway, sender, &request, now);
+    answer_request(&json, gateway, &whose, &request, now);
     return finish(&json, size);
 }

@@ -6,9 +6,6 @@
 #include "control_request.h"
 #include "gateway.h"
 
-/* An answer is no longer than this. */
-#define CONTROL_ANSWER_BYTES 65536
-
 /* Does what a line says, behind which a 0 stands, and writes the answer, a line with its end: its length. A line that is no request changes nothing. */
 size_t control_line(struct gateway *gateway, const struct history_sender *sender, const char *line, size_t length, int64_t now, char *answer, size_t size);
 

@@ -10,7 +10,6 @@
 #include <inttypes.h>
 #include <stdio.h>
 #include <string.h>
-#include <unistd.h>
 
 #define REPLY_BYTES 131072
 #define INPUT_BYTES 65536
@@ -266,26 +265,13 @@ static int show(const char *reply)
     return error != NULL || number != 0;
 }
 
-/* Sends the line and takes the answer: its length, or -1 with errno. */
-static ssize_t exchange(const char *path, const char *line, size_t length, char *reply, size_t size)
-{
-    int fd = client_connect(path);
-    if (fd < 0)
-        return -1;
-    ssize_t got = client_send(fd, line, length) ? client_receive(fd, reply, size, CLIENT_LINE) : -1;
-    int number = errno;
-    if (close(fd) == 0)
-        errno = number;
-    return got;
-}
-
 static int run(const struct order *order)
 {
     static char line[CONTROL_LINE_BYTES + 2], reply[REPLY_BYTES];
     size_t length = write_line(order, line, sizeof line);
     if (length == 0)
         return 2;
-    ssize_t got = exchange(order->path, line, length, reply, sizeof reply);
+    ssize_t got = client_exchange(order->path, line, length, reply, sizeof reply, CLIENT_LINE, CLIENT_PATIENCE);
     bool whole = got > 0 && reply[got - 1] == '\n' && *reply == '{' && json_whole(reply, (size_t)got);
     if (!whole) {
         complain(order->path, got < 0 ? client_error(errno) : "an answer that is empty, cut or garbled");

@@ -11,7 +11,8 @@
 #define ENTRY_MAX 0xFFFFFE     /* three bytes; FF FF FF is filling */
 #define SOURCE_MAX 255
 
-enum member { MEMBER_DO = 1, MEMBER_PORT = 2, MEMBER_FROM = 4, MEMBER_TO = 8, MEMBER_MODE = 16, MEMBER_PGNS = 32, MEMBER_GUARD = 64, MEMBER_PGN = 128, MEMBER_SOURCE = 256, MEMBER_NAME = 512, MEMBER_MASK = 1024 };
+enum member { MEMBER_DO = 1, MEMBER_PORT = 2, MEMBER_FROM = 4, MEMBER_TO = 8, MEMBER_MODE = 16, MEMBER_PGNS = 32, MEMBER_GUARD = 64, MEMBER_PGN = 128, MEMBER_SOURCE = 256, MEMBER_NAME = 512, MEMBER_MASK = 1024,
+              MEMBER_WHO = 2048 };
 
 #define PAIR (MEMBER_FROM | MEMBER_TO)
 #define LIST (PAIR | MEMBER_MODE | MEMBER_PGNS)
@@ -39,7 +40,7 @@ static const struct {
 } MEMBERS[] = {
     {"do", MEMBER_DO},     {"port", MEMBER_PORT}, {"from", MEMBER_FROM},        {"to", MEMBER_TO},   {"mode", MEMBER_MODE},
     {"pgns", MEMBER_PGNS}, {"pgn", MEMBER_PGN},   {"if_list_is", MEMBER_GUARD}, {"source", MEMBER_SOURCE},
-    {"name", MEMBER_NAME}, {"mask", MEMBER_MASK},
+    {"name", MEMBER_NAME}, {"mask", MEMBER_MASK}, {"who", MEMBER_WHO},
 };
 #define MEMBERS_COUNT (sizeof MEMBERS / sizeof MEMBERS[0])
 
@@ -115,6 +116,21 @@ static bool read_hex(const char *value, const char *name, uint64_t *number, char
     return number_read_hex(digits, number) || wrong(error, "%s is not a string of up to 16 hex digits", name);
 }
 
+/* Printable ASCII without blanks, quotes and backslashes: a word that the log and the journal can have as it is. */
+static bool read_who(const char *value, char who[HISTORY_WHO + 1], char *error)
+{
+    char word[HISTORY_WHO + 2];
+    json_read_string(value, word, sizeof word);
+    size_t length = strlen(word);
+    for (size_t i = 0; i < length; i++)
+        if (word[i] <= ' ' || word[i] > '~' || word[i] == '"' || word[i] == '\\')
+            length = 0;
+    if (length == 0 || length > HISTORY_WHO)
+        return wrong(error, "who is not a word of 1 to %d printable characters", HISTORY_WHO);
+    memcpy(who, word, length + 1);
+    return true;
+}
+
 static bool read_command(const char *value, enum control_command *command, char *error)
 {
     for (int i = 0; i < CONTROL_COMMANDS; i++)
@@ -150,6 +166,8 @@ static bool read_member(enum member member, const char *value, struct control_re
         return read_hex(value, "name", &request->name, error);
     case MEMBER_MASK:
         return read_hex(value, "mask", &request->mask, error);
+    case MEMBER_WHO:
+        return read_who(value, request->who, error);
     }
     return false;
 }
@@ -187,7 +205,7 @@ static const char *name_of(unsigned set)
 /* What holds of members together. */
 static bool judge(struct control_request *request, unsigned found, char *error)
 {
-    unsigned needed = COMMANDS[request->command].needed, allowed = needed | COMMANDS[request->command].allowed | MEMBER_DO | MEMBER_PORT;
+    unsigned needed = COMMANDS[request->command].needed, allowed = needed | COMMANDS[request->command].allowed | MEMBER_DO | MEMBER_PORT | MEMBER_WHO;
     const char *command = COMMANDS[request->command].name;
     if ((needed & ~found) != 0)
         return wrong(error, "%s needs %s", command, name_of(needed & ~found));

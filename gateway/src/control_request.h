@@ -2,10 +2,13 @@
 #ifndef GATEWAY_CONTROL_REQUEST_H
 #define GATEWAY_CONTROL_REQUEST_H
 
+#include "history.h"
 #include "lists.h"
 
 /* A line is no longer, without its end. */
 #define CONTROL_LINE_BYTES 16384
+/* An answer is no longer than this. */
+#define CONTROL_ANSWER_BYTES 65536
 /* More PGNs than a message holds: that refusal is the unit's. */
 #define CONTROL_ENTRIES 2048
 #define CONTROL_ERROR_BYTES 120
@@ -17,6 +20,7 @@ enum control_command { CONTROL_READ, CONTROL_ADD, CONTROL_DELETE, CONTROL_CREATE
 struct control_request {
     enum control_command command;
     uint32_t port;      /* the tool is on this port, 1 where none is given */
+    char who[HISTORY_WHO + 1]; /* for whom it is done, in the words of the program, or "" */
     bool pair;          /* From and To are given */
     uint32_t from, to;  /* 0 to 15 */
     enum list_mode mode;

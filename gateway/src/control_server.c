@@ -59,7 +59,7 @@ static void receive(const struct server_client *client, struct control_client *o
 
 static void do_line(struct server_client *client, struct control_client *own, struct gateway *gateway, int64_t now)
 {
-    const struct history_sender sender = {true, (uint32_t)client->who.pid, client->who.uid, client->who.gid};
+    const struct history_sender sender = {true, (uint32_t)client->who.pid, client->who.uid, client->who.gid, ""};
     char *end = memchr(own->line, '\n', own->length);
     size_t length = end == NULL ? own->length : (size_t)(end - own->line), done = end == NULL ? length : length + 1;
     own->line[length] = '\0';

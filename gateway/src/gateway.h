@@ -7,6 +7,7 @@
 #include "options.h"
 #include "port.h"
 #include "saver.h"
+#include "turns.h"
 #include "unit.h"
 
 /* What became of the frames of a directed pair since the program began: crossed + lost are those that the reasons let through. */
@@ -22,6 +23,7 @@ struct gateway {
     struct pair_counts pairs[GATEWAY_PORTS_MAX][GATEWAY_PORTS_MAX]; /* from port p to port q at [p - 1][q - 1] */
     struct history history;
     struct names names;
+    struct turns turns;
     int controllers;         /* the socket to ask the kernel about controllers with, or -1 */
     struct lists lists;      /* from the file */
     struct saver saver;

@@ -16,10 +16,14 @@ struct history_frame {
     uint64_t reasons;     /* DEORASAENG_REASON reads one */
 };
 
+/* Whom a program says it sends for, without its end. */
+#define HISTORY_WHO 32
+
 /* Who sent a command: a tool on a bus, or a program of this machine through the control socket. */
 struct history_sender {
     bool control;
-    uint32_t pid, uid, gid; /* of that program */
+    uint32_t pid, uid, gid;    /* of that program */
+    char who[HISTORY_WHO + 1]; /* its own word for whom it does it, or "" */
 };
 
 struct history_command {

@@ -9,15 +9,19 @@ void json_begin(struct json *json, char *bytes, size_t size)
     *json = (struct json){bytes, size, 0, false, false};
 }
 
-static void put(struct json *json, const char *text)
+static void put_bytes(struct json *json, const char *text, size_t length)
 {
-    size_t length = strlen(text);
     if (json->full || length > json->size - json->length) {
         json->full = true;
         return;
     }
     memcpy(json->bytes + json->length, text, length);
     json->length += length;
+}
+
+static void put(struct json *json, const char *text)
+{
+    put_bytes(json, text, strlen(text));
 }
 
 static void put_quoted(struct json *json, const char *text)
@@ -122,4 +126,10 @@ void json_null(struct json *json, const char *name)
 {
     put_name(json, name);
     put(json, "null");
+}
+
+void json_copy(struct json *json, const char *name, const char *value, size_t length)
+{
+    put_name(json, name);
+    put_bytes(json, value, length);
 }

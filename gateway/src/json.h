@@ -26,5 +26,6 @@ void json_number(struct json *json, const char *name, uint64_t value);
 void json_milliseconds(struct json *json, const char *name, int64_t ns); /* as seconds with three decimals, not below 0 */
 void json_bool(struct json *json, const char *name, bool value);
 void json_null(struct json *json, const char *name);
+void json_copy(struct json *json, const char *name, const char *value, size_t length); /* a value of another document, as it stands */
 
 #endif

@@ -42,9 +42,10 @@ static const char *behind_brackets(const char *at)
     return NULL;
 }
 
-/* Behind a value, or NULL. */
-static const char *behind(const char *value)
+const char *json_behind(const char *value)
 {
+    if (value == NULL)
+        return NULL;
     if (*value == '"')
         return behind_string(value);
     if (*value == '{' || *value == '[')
@@ -55,7 +56,7 @@ static const char *behind(const char *value)
 
 const char *json_next(const char *element)
 {
-    const char *end = element == NULL ? NULL : behind(element);
+    const char *end = json_behind(element);
     end = end == NULL ? NULL : skip_blanks(end);
     return end == NULL || *end != ',' ? NULL : skip_blanks(end + 1);
 }

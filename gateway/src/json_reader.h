@@ -22,6 +22,9 @@ const char *json_value(const char *name);
 const char *json_first(const char *array);
 const char *json_next(const char *element);
 
+/* The place behind a value; NULL where there is none. */
+const char *json_behind(const char *value);
+
 /* How many elements an array has; 0 for what is none. */
 size_t json_length(const char *array);
 

@@ -53,18 +53,19 @@ static int open_signals(void)
     return signalfd(-1, &set, SFD_NONBLOCK | SFD_CLOEXEC);
 }
 
-static bool open_status(struct loop *loop, const char *path)
+static bool open_status(struct loop *loop, const struct options *options)
 {
-    if (path == NULL)
+    if (options->status == NULL)
         return true;
-    return server_listen(&loop->status, path, S_IRUSR | S_IWUSR, (gid_t)-1) ? watch(loop, loop->status.fd, SOURCE_STATUS) : failed(path);
+    mode_t mode = S_IRUSR | S_IWUSR | (options->status_group == NULL ? 0 : S_IRGRP | S_IWGRP);
+    return server_listen(&loop->status, options->status, mode, options->status_gid) ? watch(loop, loop->status.fd, SOURCE_STATUS) : failed(options->status);
 }
 
 static bool open_control(struct loop *loop, const struct options *options)
 {
     if (options->control == NULL)
         return true;
-    return server_listen(&loop->control.server, options->control, S_IRUSR | S_IWUSR | S_IRGRP | S_IWGRP, options->group)
+    return server_listen(&loop->control.server, options->control, S_IRUSR | S_IWUSR | S_IRGRP | S_IWGRP, options->control_gid)
                ? watch(loop, loop->control.server.fd, SOURCE_CONTROL) : failed(options->control);
 }
 
@@ -87,7 +88,7 @@ bool loop_open(struct loop *loop, struct gateway *gateway)
     if (loop->links < 0)
         return failed("rtnetlink");
     return watch(loop, loop->timer, SOURCE_TIMER) && watch(loop, loop->signals, SOURCE_SIGNALS) && watch(loop, loop->links, SOURCE_LINKS) &&
-           open_status(loop, gateway->options.status) && open_control(loop, &gateway->options);
+           open_status(loop, &gateway->options) && open_control(loop, &gateway->options);
 }
 
 static int64_t deadline(const struct loop *loop, const struct gateway *gateway)
@@ -267,10 +268,14 @@ static enum step step(struct loop *loop, struct gateway *gateway)
     struct epoll_event events[SOURCES];
     if (!settle(loop, gateway))
         return STEP_FAILED;
+    int64_t sleeps_at = clock_now();
+    if (loop->woke_at != 0)
+        turns_add(&gateway->turns, sleeps_at - loop->woke_at, sleeps_at);
     int count = epoll_wait(loop->epoll, events, SOURCES, -1);
     if (count < 0 && errno != EINTR)
         return failed("epoll_wait") ? STEP_ON : STEP_FAILED;
     int64_t now = clock_now();
+    loop->woke_at = now;
     for (int i = 0; i < count; i++) {
         enum step next = dispatch(loop, gateway, events[i].data.u32, now);
         if (next != STEP_ON)

@@ -11,6 +11,7 @@ struct loop {
     struct control_server control;
     uint32_t watched[SERVER_CLIENTS]; /* the events that a client of the control socket is in the epoll set for, 0 for none */
     int64_t armed;                    /* when the timer fires */
+    int64_t woke_at;                  /* when this turn began, 0 before the first */
 };
 
 /* False, after a line in the log, where something cannot be had. */

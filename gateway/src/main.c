@@ -48,19 +48,24 @@ static bool open_ports(struct gateway *gateway)
     return true;
 }
 
-/* The group of the control socket. Looked up before the bridge runs, for that allocates. */
-static bool find_group(struct options *options)
+/* The group of a socket. Looked up before the bridge runs, for that allocates. */
+static bool find_group(const char *option, const char *name, gid_t *gid)
 {
     uint32_t number;
-    if (options->control_group == NULL)
+    if (name == NULL)
         return true;
-    const struct group *group = getgrnam(options->control_group);
-    if (group == NULL && !number_read(options->control_group, INT32_MAX, &number)) {
-        fprintf(stderr, "%s: --control-group %s: no such group\n", PROGRAM, options->control_group);
+    const struct group *group = getgrnam(name);
+    if (group == NULL && !number_read(name, INT32_MAX, &number)) {
+        fprintf(stderr, "%s: %s %s: no such group\n", PROGRAM, option, name);
         return false;
     }
-    options->group = group == NULL ? number : group->gr_gid;
+    *gid = group == NULL ? number : group->gr_gid;
     return true;
+}
+
+static bool find_groups(struct options *options)
+{
+    return find_group("--status-group", options->status_group, &options->status_gid) && find_group("--control-group", options->control_group, &options->control_gid);
 }
 
 /* Takes a socket's path away. */
@@ -111,7 +116,7 @@ int main(int argc, char *argv[])
         break;
     }
     log_open(gateway.options.log);
-    if (!find_group(&gateway.options) || !load_lists(&gateway) || !open_ports(&gateway))
+    if (!find_groups(&gateway.options) || !load_lists(&gateway) || !open_ports(&gateway))
         return EXIT_WRONG;
     return run(&gateway);
 }

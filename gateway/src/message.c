@@ -24,7 +24,7 @@ static void tell(const struct history_command *command, const struct message_ans
     char entry[WORDS_BYTES], who[WORDS_BYTES];
     entry_words(answer, entry);
     if (command->sender.control)
-        snprintf(who, sizeof who, "process %" PRIu32 " of user %" PRIu32, command->sender.pid, command->sender.uid);
+        snprintf(who, sizeof who, "process %" PRIu32 " of user %" PRIu32 "%s%s", command->sender.pid, command->sender.uid, command->sender.who[0] == '\0' ? "" : " for ", command->sender.who);
     else
         snprintf(who, sizeof who, "address %" PRIu32, command->requester);
     if (command->number == 0)

@@ -8,16 +8,34 @@ static void drop(struct names *names, uint64_t name)
             names->at[address].held = false;
 }
 
-void names_event(struct names *names, uint64_t event, uint32_t address, uint64_t name, uint32_t port)
+static void conflict(struct name_place *place, uint64_t rival, int64_t now)
 {
+    place->conflicts++;
+    place->rival = rival;
+    place->conflict_at = now;
+}
+
+void names_event(struct names *names, const struct names_claim *claim, int64_t now)
+{
+    uint64_t event = claim->event;
     if (event == DEORASAENG_NO_EVENT)
         return;
-    drop(names, name);
-    if (event == DEORASAENG_WITHDREW || event == DEORASAENG_DEFENDED || event == DEORASAENG_BEATEN || address >= UNIT_ADDRESSES)
+    if (event != DEORASAENG_REFRESHED)
+        drop(names, claim->name);
+    if (event == DEORASAENG_WITHDREW || claim->address >= UNIT_ADDRESSES)
         return;
-    names->at[address].held = true;
-    names->at[address].name = name;
-    names->at[address].port = port;
+    struct name_place *place = &names->at[claim->address];
+    if (event == DEORASAENG_DEFENDED || event == DEORASAENG_BEATEN) {
+        conflict(place, claim->name, now);
+        return;
+    }
+    if (event == DEORASAENG_DISPLACED || event == DEORASAENG_TOOK_OVER)
+        conflict(place, claim->before, now);
+    if (event != DEORASAENG_REFRESHED)
+        place->since = now;
+    place->held = true;
+    place->name = claim->name;
+    place->port = claim->port;
 }
 
 void names_start(struct names *names, uint32_t address)

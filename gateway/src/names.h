@@ -6,15 +6,25 @@
 #include "unit.h"
 
 struct names {
-    struct {
+    struct name_place {
         bool held;
         uint32_t port; /* where it was heard last */
         uint64_t name;
+        int64_t since;       /* when that NAME got the address */
+        uint32_t conflicts;  /* how often two NAMEs claimed the address, whoever holds it now .. */
+        uint64_t rival;      /* .. the last one that did not get it .. */
+        int64_t conflict_at; /* .. and when */
     } at[UNIT_ADDRESSES];
 };
 
-/* A claim of `name` for `address` was heard at a port and led to this event. */
-void names_event(struct names *names, uint64_t event, uint32_t address, uint64_t name, uint32_t port);
+/* A claim that was heard at a port, and what it led to. */
+struct names_claim {
+    uint64_t event, name;
+    uint32_t address, port;
+    uint64_t before; /* who held the address: with TookOver another NAME, with Displaced the unit */
+};
+
+void names_event(struct names *names, const struct names_claim *claim, int64_t now);
 
 /* The unit itself claims the address: who had it, has it no more. */
 void names_start(struct names *names, uint32_t address);

@@ -19,7 +19,8 @@ const char OPTIONS_USAGE[] =
     "  --name NAME        the unit's NAME, 64 bits in hex (ISO 11783-5), unique on the buses\n"
     "  --address ADDRESS  the address it claims, 0 to 253, decimal or 0x hex\n"
     "  --lists FILE       filter lists, set from FILE at start and saved there when a command changed one\n"
-    "  --status PATH      a Unix socket that answers each connection with the state as JSON\n"
+    "  --status PATH      a Unix socket that answers each connection with the state as JSON; its rights are the owner's\n"
+    "  --status-group G   its group, a name or a number, which may ask then too\n"
     "  --control PATH     a Unix socket that does commands, a JSON object a line; its rights are 0660\n"
     "  --control-group G  its group, a name or a number; else that of the program\n"
     "  --log LEVEL        error, warning, info (the default) or debug\n"
@@ -27,11 +28,12 @@ const char OPTIONS_USAGE[] =
     "  --version          the version of this program and of the unit's interface\n"
     "It ends on SIGTERM, SIGINT or SIGHUP with a summary and status 0; 2 is a wrong command line, lists file or interface.\n";
 
-enum option_code { OPTION_NAME = 256, OPTION_ADDRESS, OPTION_LISTS, OPTION_STATUS, OPTION_CONTROL, OPTION_CONTROL_GROUP, OPTION_LOG, OPTION_VERSION };
+enum option_code { OPTION_NAME = 256, OPTION_ADDRESS, OPTION_LISTS, OPTION_STATUS, OPTION_STATUS_GROUP, OPTION_CONTROL, OPTION_CONTROL_GROUP, OPTION_LOG, OPTION_VERSION };
 
 static const struct option OPTIONS[] = {
     {"name", required_argument, NULL, OPTION_NAME},     {"address", required_argument, NULL, OPTION_ADDRESS},
     {"lists", required_argument, NULL, OPTION_LISTS},   {"status", required_argument, NULL, OPTION_STATUS},
+    {"status-group", required_argument, NULL, OPTION_STATUS_GROUP},
     {"control", required_argument, NULL, OPTION_CONTROL}, {"control-group", required_argument, NULL, OPTION_CONTROL_GROUP},
     {"log", required_argument, NULL, OPTION_LOG},       {"version", no_argument, NULL, OPTION_VERSION},
     {"help", no_argument, NULL, 'h'},                   {NULL, 0, NULL, 0},
@@ -73,6 +75,9 @@ static bool read_value(int option, const char *value, struct options *options, s
     case OPTION_CONTROL:
         options->control = value;
         return socket_path("--control", value, error);
+    case OPTION_STATUS_GROUP:
+        options->status_group = value;
+        return true;
     case OPTION_CONTROL_GROUP:
         options->control_group = value;
         return true;
@@ -115,13 +120,13 @@ static bool read_interfaces(int count, char *words[], struct options *options, c
 
 static bool missing(const struct given *given, const struct options *options, char *error)
 {
-    if (given->name && given->address && (options->control_group == NULL || options->control != NULL))
+    bool control = options->control_group != NULL && options->control == NULL, status = options->status_group != NULL && options->status == NULL;
+    if (!given->name || !given->address)
+        snprintf(error, ERROR_SIZE, "%s is needed", given->name ? "--address" : "--name");
+    else if (control || status)
+        snprintf(error, ERROR_SIZE, "--%s-group is for --%s, which is not given", control ? "control" : "status", control ? "control" : "status");
+    else
         return false;
-    if (given->name && given->address) {
-        snprintf(error, ERROR_SIZE, "--control-group is for --control, which is not given");
-        return true;
-    }
-    snprintf(error, ERROR_SIZE, "%s is needed", given->name ? "--address" : "--name");
     return true;
 }
 
@@ -130,7 +135,7 @@ enum options_read options_read(int argc, char *argv[], struct options *options, 
     struct given given = {false, false};
     memset(options, 0, sizeof *options);
     options->log = LOG_INFO;
-    options->group = (gid_t)-1;
+    options->status_gid = options->control_gid = (gid_t)-1;
     optind = 0; /* the scan begins anew, for a second call */
     opterr = 0;
     for (;;) {

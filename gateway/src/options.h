@@ -17,9 +17,11 @@ struct options {
     uint32_t address;                          /* its preferred address, 0 to 253 */
     const char *lists;                         /* the lists file, or NULL */
     const char *status;                        /* the status socket's path, or NULL */
+    const char *status_group;                  /* its group, by name or number, or NULL: its rights are then the owner's alone .. */
+    gid_t status_gid;                          /* .. as a number, once it is looked up; -1 for none */
     const char *control;                       /* the control socket's path, or NULL */
     const char *control_group;                 /* its group, by name or number, or NULL for that of the program .. */
-    gid_t group;                               /* .. as a number, once it is looked up; -1 for none */
+    gid_t control_gid;                         /* .. as a number, once it is looked up; -1 for none */
     enum log_level log;
     uint32_t ports;                            /* how many interfaces there are .. */
     const char *interfaces[GATEWAY_PORTS_MAX]; /* .. port p's at p - 1 */

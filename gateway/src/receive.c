@@ -87,7 +87,9 @@ static void event_came(struct gateway *gateway, const struct port *port, const s
 {
     if (answer->event == DEORASAENG_NO_EVENT)
         return;
-    names_event(&gateway->names, answer->event, identifier_source(frame->can_id), name_of(frame), port->number);
+    const struct names_claim claim = {answer->event, name_of(frame), identifier_source(frame->can_id), port->number,
+                                      answer->event == DEORASAENG_DISPLACED ? gateway->options.name : answer->old_name};
+    names_event(&gateway->names, &claim, now);
     tell_event(port, frame, answer);
     if (answer->event == DEORASAENG_DEFENDED)
         gateway_contended(gateway, now);
@@ -113,7 +115,7 @@ static void send_answer(struct gateway *gateway, struct port *port, const struct
 static void message_arrived(struct gateway *gateway, struct port *port, const struct can_frame *frame, int64_t now)
 {
     static struct message_answer answer;
-    static const struct history_sender BUS = {false, 0, 0, 0};
+    static const struct history_sender BUS = {false, 0, 0, 0, ""};
     uint32_t requester = identifier_source(frame->can_id);
     if (!transmit_has_room(&port->transmit)) {
         port->counts.unheard++;

@@ -8,7 +8,6 @@
 #include <inttypes.h>
 #include <stdio.h>
 #include <string.h>
-#include <unistd.h>
 
 #define DOCUMENT_BYTES (STATUS_BYTES + 1)
 #define WORD_BYTES 128 /* an interface's name, `unix:PATH`, is the longest */
@@ -256,6 +255,9 @@ static void show_commands(const char *commands)
         printf("  %s port %" PRIu64 " %s %" PRIu64 ": function %" PRIu64 ", pair %s: %" PRIu64 " (%s)", time, number_in(command, "port"),
                control ? "control, user" : "address", number_in(command, control ? "uid" : "requester"), number_in(command, "function"), pair,
                number_in(command, "number"), words);
+        json_read_string(json_member(command, "who"), words, sizeof words);
+        if (words[0] != '\0')
+            printf(" for %s", words);
         show_field(command, "entry", "entry");
         show_field(command, "to", "to port");
         show_field(command, "absent", "PGN absent");
@@ -266,14 +268,7 @@ static void show_commands(const char *commands)
 /* The document into `document`, with a 0 at its end: its length, or -1 with errno. */
 static ssize_t fetch(const char *path)
 {
-    int fd = client_connect(path);
-    if (fd < 0)
-        return -1;
-    ssize_t length = client_receive(fd, document, DOCUMENT_BYTES, CLIENT_END);
-    int number = errno;
-    if (close(fd) == 0)
-        errno = number;
-    return length;
+    return client_exchange(path, NULL, 0, document, DOCUMENT_BYTES, CLIENT_END, CLIENT_PATIENCE);
 }
 
 /* Each list has a mode: a document without would show a pair as cleared that is not. */

@@ -21,6 +21,20 @@ static void write_head(struct json *json, const struct status_moment *moment)
     json_string(json, "time", text);
 }
 
+/* How often an address was claimed by two NAMEs, and the last one that did not get it. */
+static void write_conflicts(struct json *json, const struct name_place *place, const struct status_moment *moment)
+{
+    json_number(json, "conflicts", place->conflicts);
+    if (place->conflicts == 0) {
+        json_null(json, "last_conflict");
+        return;
+    }
+    json_object(json, "last_conflict");
+    status_time(json, moment, place->conflict_at);
+    json_hex(json, "name", place->rival);
+    json_end_object(json);
+}
+
 static void write_unit(struct json *json, const struct gateway *gateway, const struct status_moment *moment, const struct unit_losses *losses)
 {
     struct unit_answer told = unit_tell(&gateway->unit);
@@ -38,6 +52,15 @@ static void write_unit(struct json *json, const struct gateway *gateway, const s
         json_number(json, "losses", losses->general);
     else
         json_null(json, "losses");
+    write_conflicts(json, &gateway->names.at[told.preferred % UNIT_ADDRESSES], moment);
+    json_end_object(json);
+}
+
+static void write_loop(struct json *json, const struct turns *turns, int64_t now)
+{
+    json_object(json, "loop");
+    json_number(json, "worst_us", (uint64_t)(turns->worst / 1000));
+    json_number(json, "recent_worst_us", (uint64_t)(turns_recent(turns, now) / 1000));
     json_end_object(json);
 }
 
@@ -102,28 +125,36 @@ static void write_name(struct json *json, uint64_t name)
     write_field(json, "identity", fields.identity, 21);
 }
 
-static void write_port_addresses(struct json *json, const struct gateway *gateway, uint32_t port)
+static void write_address(struct json *json, const struct name_place *place, uint32_t address, const struct status_moment *moment)
+{
+    json_object(json, NULL);
+    json_number(json, "address", address);
+    if (place->held) {
+        write_name(json, place->name);
+        json_object(json, "since");
+        status_time(json, moment, place->since);
+        json_end_object(json);
+    } else
+        json_null(json, "name");
+    write_conflicts(json, place, moment);
+    json_end_object(json);
+}
+
+static void write_port_addresses(struct json *json, const struct gateway *gateway, uint32_t port, const struct status_moment *moment)
 {
     uint8_t addresses[UNIT_ADDRESSES];
     int count = unit_addresses(&gateway->unit, port, addresses);
     json_object(json, NULL);
     json_number(json, "port", port);
     json_array(json, "addresses");
-    for (int i = 0; i < count; i++) {
-        json_object(json, NULL);
-        json_number(json, "address", addresses[i]);
-        if (gateway->names.at[addresses[i]].held)
-            write_name(json, gateway->names.at[addresses[i]].name);
-        else
-            json_null(json, "name");
-        json_end_object(json);
-    }
+    for (int i = 0; i < count; i++)
+        write_address(json, &gateway->names.at[addresses[i]], addresses[i], moment);
     json_end_array(json);
     json_end_object(json);
 }
 
 /* The address table, a port at a time; null while the unit is not Claimed and answers nobody. */
-static void write_addresses(struct json *json, const struct gateway *gateway)
+static void write_addresses(struct json *json, const struct gateway *gateway, const struct status_moment *moment)
 {
     if (unit_state(&gateway->unit) != DEORASAENG_STATE_CLAIMED) {
         json_null(json, "addresses");
@@ -131,7 +162,7 @@ static void write_addresses(struct json *json, const struct gateway *gateway)
     }
     json_array(json, "addresses");
     for (uint32_t port = 1; port <= gateway->options.ports; port++)
-        write_port_addresses(json, gateway, port);
+        write_port_addresses(json, gateway, port, moment);
     json_end_array(json);
 }
 
@@ -145,10 +176,11 @@ size_t status_write(const struct gateway *gateway, int64_t now, int64_t wall, ch
     json_object(&json, NULL);
     write_head(&json, &moment);
     write_unit(&json, gateway, &moment, &losses);
+    write_loop(&json, &gateway->turns, now);
     status_ports(&json, gateway, &moment);
     status_pairs(&json, gateway, &losses);
     write_lists(&json, gateway);
-    write_addresses(&json, gateway);
+    write_addresses(&json, gateway, &moment);
     status_frames(&json, gateway, &moment);
     status_commands(&json, gateway, &moment);
     json_end_object(&json);

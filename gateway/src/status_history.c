@@ -68,6 +68,8 @@ static void write_sender(struct json *json, const struct history_command *comman
     json_number(json, "pid", command->sender.pid);
     json_number(json, "uid", command->sender.uid);
     json_number(json, "gid", command->sender.gid);
+    if (command->sender.who[0] != '\0')
+        json_string(json, "who", command->sender.who);
 }
 
 static void write_command(struct json *json, const struct history_command *command, const struct status_moment *moment)

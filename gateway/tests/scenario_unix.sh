@@ -17,4 +17,10 @@ kill $listener; wait $listener 2>/dev/null
 check "of the frames that wait the lowest identifier goes first, 11 bits before 29 that begin alike" equal "$(awk '{ sub(/.*#/, "", $3); printf $3 " " }' heard)" "01 05 04 03 02 "
 bus_rate vcan1 0
 
+echo "== rights of the sockets"
+gateway_start --status-group $(id -g) --control control --control-group $(id -g)
+check "the group's where a group is given" equal "$(stat -c '%a %g' $STATUS control | tr '\n' ' ')" "660 $(id -g) 660 $(id -g) "
+check "the status tells how long a turn of the loop took" equal "$(status | grep -c '"loop":{"worst_us":[1-9][0-9]*,"recent_worst_us":[1-9]')" 1
+gateway_stop
+
 check "the sanitizers have nothing to say" equal "$(cat sanitizer.* 2>/dev/null)" ""

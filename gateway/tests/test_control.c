@@ -11,7 +11,7 @@
 #include <sys/wait.h>
 
 static char answer[CONTROL_ANSWER_BYTES + 1];
-static const struct history_sender SENDER = {true, 4711, 1000, 1001};
+static const struct history_sender SENDER = {true, 4711, 1000, 1001, ""};
 
 /* Does a line; its answer is one line, and whole. */
 static const char *tell(const char *line)
@@ -64,6 +64,19 @@ static void commands(void)
     CHECK(gives("{\"do\":\"reset\",\"from\":1,\"to\":2}", "{\"number\":0,\"words\":\"done\",\"lists\""));
     const struct history_command *last = history_command(&gateway.history, 0);
     CHECK(last->sender.control && last->sender.pid == 4711 && last->sender.uid == 1000 && last->sender.gid == 1001 && last->function == 133 && last->port == 1);
+    bench_close();
+}
+
+/* For whom a program does it: a word of its own, in the journal and the status beside who the kernel says it is. */
+static void for_whom(void)
+{
+    bench_claimed(4);
+    CHECK(gives("{\"do\":\"clear\",\"from\":1,\"to\":2,\"who\":\"<b>&'anna\"}", "{\"number\":0,"));
+    CHECK_TEXT(history_command(&gateway.history, 0)->sender.who, "<b>&'anna");
+    CHECK(gives("{\"who\":\"12345678901234567890123456789012\",\"do\":\"clear\",\"from\":1,\"to\":2,\"port\":3}", "{\"number\":11,"));
+    CHECK_TEXT(history_command(&gateway.history, 0)->sender.who, "12345678901234567890123456789012");
+    CHECK(gives("{\"do\":\"clear\",\"from\":1,\"to\":2}", "{\"number\":0,"));
+    CHECK_TEXT(history_command(&gateway.history, 0)->sender.who, "");
     bench_close();
 }
 
@@ -168,6 +181,13 @@ static const char *const WRONG[][2] = {
     {"{\"do\":\"name\",\"from\":1,\"to\":2,\"pgn\":0,\"name\":\"1\",\"mask\":1}", "mask is not a string of up to 16 hex digits"},
     {"{\"do\":\"name\",\"from\":1,\"to\":2,\"pgn\":0,\"name\":\"1\"}", "name needs mask"},
     {"{\"do\":\"ask\",\"from\":1,\"to\":2,\"pgn\":0,\"source\":1}", "ask has no to"},
+    {"{\"do\":\"read\",\"who\":\"\"}", "who is not a word of 1 to 32 printable characters"},
+    {"{\"do\":\"read\",\"who\":7}", "who is not a word"},
+    {"{\"do\":\"read\",\"who\":\"a b\"}", "who is not a word"},
+    {"{\"do\":\"read\",\"who\":\"a\\\"b\"}", "who is not a word"},
+    {"{\"do\":\"read\",\"who\":\"\xC3\xA4\"}", "who is not a word"},
+    {"{\"do\":\"read\",\"who\":\"123456789012345678901234567890123\"}", "who is not a word"},
+    {"{\"do\":\"read\",\"who\":\"a\",\"who\":\"a\"}", "who stands there twice"},
 };
 
 static void wrong_lines(void)
@@ -191,6 +211,7 @@ static const char *const SEEDS[] = {
     "{\"do\":\"clear\",\"from\":1,\"to\":15}", "{\"do\":\"replace\",\"from\":3,\"to\":1,\"mode\":\"block\",\"pgns\":[65265],\"if_list_is\":{\"mode\":\"block\",\"pgns\":[61444]}}",
     "{\"do\":\"reset\",\"from\":1,\"to\":2}", "{\"do\":\"ask\",\"from\":1,\"pgn\":61444,\"source\":33,\"port\":2}", "{\"do\":\"replace\",\"from\":1,\"to\":4,\"mode\":\"cleared\",\"pgns\":[]}",
     "{\"do\":\"name\",\"from\":1,\"to\":2,\"pgn\":65265,\"name\":\"A00086000AC00123\",\"mask\":\"FFFFFFFFFFFFFFFF\"}",
+    "{\"do\":\"clear\",\"from\":1,\"to\":2,\"who\":\"anna\"}",
 };
 
 /* A seed with some bytes changed, taken out, put in or joined with another's end. */
@@ -426,6 +447,7 @@ int main(int argc, char *argv[])
 {
     log_open(LOG_ERROR);
     commands();
+    for_whom();
     refusals();
     names();
     guards();

@@ -53,6 +53,26 @@ static void reader(void)
     CHECK_TEXT(text, "000");
     json_read_string(NULL, text, sizeof text);
     CHECK_TEXT(text, "");
+    CHECK(json_behind(json_member(DOCUMENT, "empty")) == json_member(DOCUMENT, "empty") + 2 && json_behind(NULL) == NULL && json_behind("12") == NULL);
+    CHECK(*json_behind(json_member(DOCUMENT, "text")) == ',' && *json_behind(list) == ',' && *json_behind(json_member(DOCUMENT, "no")) == '}');
+}
+
+/* Values of another document, as they stand. */
+static void copies(void)
+{
+    struct json json;
+    char bytes[64];
+    const char *list = json_member(DOCUMENT, "list");
+    json_begin(&json, bytes, sizeof bytes);
+    json_object(&json, NULL);
+    json_copy(&json, "a", list, (size_t)(json_behind(list) - list));
+    json_copy(&json, "b", "null", 4);
+    json_end_object(&json);
+    static const char WANTED[] = "{\"a\":[1,{\"yes\":true,\"none\":null}],\"b\":null}";
+    CHECK(!json.full && json.length == sizeof WANTED - 1 && memcmp(bytes, WANTED, json.length) == 0);
+    json_begin(&json, bytes, 3);
+    json_copy(&json, NULL, "null", 4);
+    CHECK(json.full);
 }
 
 static bool whole(const char *text)
@@ -101,6 +121,7 @@ int main(void)
 {
     writer();
     reader();
+    copies();
     CHECK(json_whole(DOCUMENT, sizeof DOCUMENT - 1));
     values();
     cut();

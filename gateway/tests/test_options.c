@@ -36,9 +36,6 @@ static void good(void)
     CHECK(options.name == UINT64_MAX && options.address == 253 && options.log == LOG_DEBUG);
     CHECK_TEXT(options.lists, "l");
     CHECK_TEXT(options.status, "s");
-    CHECK(READ("--name", "1", "--address", "1", "--control", "c", "--control-group", "g", "a", "b") == OPTIONS_RUN && options.group == (gid_t)-1);
-    CHECK_TEXT(options.control, "c");
-    CHECK_TEXT(options.control_group, "g");
     CHECK(READ("--help") == OPTIONS_HELP && READ("-h") == OPTIONS_HELP && READ("--version") == OPTIONS_VERSION);
     CHECK(READ("--name", "1", "--address", "0", "a", "b") == OPTIONS_RUN && options.address == 0);
     CHECK(READ("--name", "1", "--address", "0XfD", "a", "b") == OPTIONS_RUN && options.address == 253);
@@ -83,8 +80,6 @@ static void wrong(void)
     CHECK(READ("--name", "1", "--address", "1", "--status", "", "a", "b", "c", "d") == OPTIONS_WRONG);
     CHECK(READ("--name", "1", "--address", "1", "--control", "", "a", "b") == OPTIONS_WRONG);
     CHECK_TEXT(error, "--control: a socket's path has 1 to 107 bytes");
-    CHECK(READ("--name", "1", "--address", "1", "--control-group", "g", "a", "b") == OPTIONS_WRONG);
-    CHECK_TEXT(error, "--control-group is for --control, which is not given");
     CHECK(READ("--nonsense", "a", "b", "c", "d") == OPTIONS_WRONG);
     CHECK_TEXT(error, "--nonsense: no such option");
     CHECK(READ("-x", "a", "b", "c", "d") == OPTIONS_WRONG);
@@ -92,9 +87,23 @@ static void wrong(void)
     CHECK_TEXT(error, "--name: a value is missing");
 }
 
+static void groups(void)
+{
+    CHECK(READ("--name", "1", "--address", "1", "--control", "c", "--control-group", "g", "a", "b") == OPTIONS_RUN && options.control_gid == (gid_t)-1);
+    CHECK_TEXT(options.control, "c");
+    CHECK_TEXT(options.control_group, "g");
+    CHECK(READ("--name", "1", "--address", "1", "--status", "s", "--status-group", "g", "a", "b") == OPTIONS_RUN && options.status_gid == (gid_t)-1);
+    CHECK_TEXT(options.status_group, "g");
+    CHECK(READ("--name", "1", "--address", "1", "--control-group", "g", "a", "b") == OPTIONS_WRONG);
+    CHECK_TEXT(error, "--control-group is for --control, which is not given");
+    CHECK(READ("--name", "1", "--address", "1", "--control", "c", "--status-group", "g", "a", "b") == OPTIONS_WRONG);
+    CHECK_TEXT(error, "--status-group is for --status, which is not given");
+}
+
 int main(void)
 {
     good();
     wrong();
+    groups();
     return checks_end("options");
 }

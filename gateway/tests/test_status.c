@@ -138,6 +138,54 @@ static void address_names(void)
     bench_close();
 }
 
+/* Since when an address is a NAME's, and who contended for it. */
+static void address_conflicts(void)
+{
+    uint8_t name[8] = {5, 0, 0, 0, 0, 0, 0, 0x30};
+    bench_claimed(2);
+    bench_frame(2, 0x18EEFF21, name, 8, 2 * CLOCK_SECOND);
+    bench_frame(2, 0x18EEFF21, name, 8, 3 * CLOCK_SECOND);
+    const char *address = json_first(json_member(element(json_member(document(9 * CLOCK_SECOND), "addresses"), 1), "addresses"));
+    CHECK(strncmp(json_member(json_member(address, "since"), "seconds"), "2.000", 5) == 0);
+    CHECK(number(address, "conflicts") == 0 && *json_member(address, "last_conflict") == 'n');
+    name[0] = 6; /* a higher NAME is beaten */
+    bench_frame(1, 0x18EEFF21, name, 8, 4 * CLOCK_SECOND);
+    address = json_first(json_member(element(json_member(document(9 * CLOCK_SECOND), "addresses"), 1), "addresses"));
+    CHECK(number(address, "conflicts") == 1 && json_is_string(json_member(json_member(address, "last_conflict"), "name"), "3000000000000006"));
+    CHECK(strncmp(json_member(json_member(address, "since"), "seconds"), "2.000", 5) == 0 && json_is_string(json_member(address, "name"), "3000000000000005"));
+    name[0] = 4; /* a lower one takes over */
+    bench_frame(2, 0x18EEFF21, name, 8, 5 * CLOCK_SECOND);
+    address = json_first(json_member(element(json_member(document(9 * CLOCK_SECOND), "addresses"), 1), "addresses"));
+    CHECK(number(address, "conflicts") == 2 && json_is_string(json_member(json_member(address, "last_conflict"), "name"), "3000000000000005"));
+    CHECK(strncmp(json_member(json_member(address, "since"), "seconds"), "5.000", 5) == 0 && json_is_string(json_member(address, "name"), "3000000000000004"));
+    bench_frame(2, 0x18EEFF00 | OWN_ADDRESS, name, 8, 6 * CLOCK_SECOND); /* of the unit's: defended, then lost */
+    const char *unit = json_member(document(9 * CLOCK_SECOND), "unit");
+    CHECK(number(unit, "conflicts") == 1 && json_is_string(json_member(json_member(unit, "last_conflict"), "name"), "3000000000000004"));
+    gateway.options.name = OWN_NAME;
+    name[7] = 0x10;
+    bench_frame(2, 0x18EEFF00 | OWN_ADDRESS, name, 8, 7 * CLOCK_SECOND);
+    unit = json_member(document(9 * CLOCK_SECOND), "unit");
+    CHECK(number(unit, "conflicts") == 2 && json_is_string(json_member(json_member(unit, "last_conflict"), "name"), "20001C000AC00123"));
+    bench_close();
+}
+
+static void worst_turns(void)
+{
+    bench_claimed(2);
+    turns_add(&gateway.turns, 900 * 1000, CLOCK_SECOND);
+    turns_add(&gateway.turns, 100 * 1000, 2 * CLOCK_SECOND);
+    const char *loop = json_member(document(3 * CLOCK_SECOND), "loop");
+    CHECK(number(loop, "worst_us") == 900 && number(loop, "recent_worst_us") == 900);
+    turns_add(&gateway.turns, 300 * 1000, 12 * CLOCK_SECOND);
+    CHECK(number(json_member(document(13 * CLOCK_SECOND), "loop"), "recent_worst_us") == 900);
+    turns_add(&gateway.turns, 200 * 1000, 23 * CLOCK_SECOND);
+    loop = json_member(document(24 * CLOCK_SECOND), "loop");
+    CHECK(number(loop, "worst_us") == 900 && number(loop, "recent_worst_us") == 300);
+    CHECK(number(json_member(document(35 * CLOCK_SECOND), "loop"), "recent_worst_us") == 200);
+    CHECK(number(json_member(document(50 * CLOCK_SECOND), "loop"), "recent_worst_us") == 0);
+    bench_close();
+}
+
 static void full_lists(struct lists *lists)
 {
     memset(lists, 0, sizeof *lists);
@@ -157,7 +205,7 @@ static void full_history(void)
 {
     for (uint32_t i = 0; i < HISTORY_SIZE; i++) {
         const struct history_frame frame = {INT64_MAX / 2, 8, 0x1FFFFFFF, 0, 255, 255, UINT64_C(0x66666666)};
-        const struct history_command command = {INT64_MAX / 2, {true, UINT32_MAX, UINT32_MAX, UINT32_MAX}, 8, 253, 255, 255, 5, 594, 8, 262143};
+        const struct history_command command = {INT64_MAX / 2, {true, UINT32_MAX, UINT32_MAX, UINT32_MAX, "<<<<<<<<<<<<<<<<<<<<<<<<<<<<<<<<"}, 8, 253, 255, 255, 5, 594, 8, 262143};
         history_add_frame(&gateway.history, &frame);
         history_add_command(&gateway.history, &command);
     }
@@ -350,6 +398,8 @@ int main(void)
     commands();
     rings();
     address_names();
+    address_conflicts();
+    worst_turns();
     longest();
     socket_clients();
     controllers();

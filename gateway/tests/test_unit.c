@@ -206,7 +206,7 @@ static void names(void)
             struct can_frame claim = frame(0x18EEFF00 | address, bytes, 8), out;
             unit_frame(&unit, port, &claim, &got);
             CHECK(got.number == 0);
-            names_event(&heard, got.event, address, (uint64_t)bytes[7] << 56 | bytes[0], port);
+            names_event(&heard, &(struct names_claim){got.event, (uint64_t)bytes[7] << 56 | bytes[0], address, port, got.old_name}, i);
             if (i == 100 && unit_start(&unit, &own_lost) == 0 && unit_state(&unit) == DEORASAENG_STATE_CLAIMING) {
                 names_start(&heard, OWN_ADDRESS);
                 CHECK(unit_quiet(&unit) == 0);
