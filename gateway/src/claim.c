@@ -39,7 +39,7 @@ static bool start(struct gateway *gateway, int64_t now)
         bool lost = (own_lost >> i & 1) != 0;
         gateway->ports[i].counts.own += !lost;
         gateway->ports[i].counts.own_lost += lost;
-        port_joined(&gateway->ports[i]);
+        port_joined(&gateway->ports[i], now);
         if (lost)
             port_lost(&gateway->ports[i], now);
     }

@@ -7,8 +7,8 @@
 #include "options.h"
 #include "port.h"
 #include "saver.h"
-#include "turns.h"
 #include "unit.h"
+#include "worst.h"
 
 /* What became of the frames of a directed pair since the program began: crossed + lost are those that the reasons let through. */
 struct pair_counts {
@@ -23,7 +23,7 @@ struct gateway {
     struct pair_counts pairs[GATEWAY_PORTS_MAX][GATEWAY_PORTS_MAX]; /* from port p to port q at [p - 1][q - 1] */
     struct history history;
     struct names names;
-    struct turns turns;
+    struct worst turns;      /* how long a turn of the loop took */
     int controllers;         /* the socket to ask the kernel about controllers with, or -1 */
     struct lists lists;      /* from the file */
     struct saver saver;

@@ -21,6 +21,9 @@ enum source {
     SOURCES = SOURCE_CONTROL_CLIENT + SERVER_CLIENTS
 };
 
+/* Of late the worst turn is that of the last 10 to 20 s. */
+#define TURNS_WINDOW (10 * CLOCK_SECOND)
+
 enum step { STEP_ON, STEP_END, STEP_FAILED };
 
 static bool failed(const char *what)
@@ -74,6 +77,7 @@ bool loop_open(struct loop *loop, struct gateway *gateway)
     server_begin(&loop->status);
     server_begin(&loop->control.server);
     gateway->controllers = controller_open(); /* without it the status has no word on controllers */
+    gateway->turns.window = TURNS_WINDOW;
     loop->armed = CLOCK_NEVER;
     loop->epoll = epoll_create1(EPOLL_CLOEXEC);
     if (loop->epoll < 0)
@@ -270,7 +274,7 @@ static enum step step(struct loop *loop, struct gateway *gateway)
         return STEP_FAILED;
     int64_t sleeps_at = clock_now();
     if (loop->woke_at != 0)
-        turns_add(&gateway->turns, sleeps_at - loop->woke_at, sleeps_at);
+        worst_add(&gateway->turns, sleeps_at - loop->woke_at, sleeps_at);
     int count = epoll_wait(loop->epoll, events, SOURCES, -1);
     if (count < 0 && errno != EINTR)
         return failed("epoll_wait") ? STEP_ON : STEP_FAILED;

@@ -27,11 +27,10 @@ uint64_t port_waiting(const struct port *port)
     return port->counts.accepted + port->counts.own - port->counts.taken;
 }
 
-void port_joined(struct port *port)
+void port_joined(struct port *port, int64_t now)
 {
-    uint64_t waiting = port_waiting(port);
-    if (waiting > port->high_water)
-        port->high_water = waiting;
+    port->waiting.window = CLOCK_SECOND;
+    worst_add(&port->waiting, (int64_t)port_waiting(port), now);
 }
 
 void port_lost(struct port *port, int64_t now)

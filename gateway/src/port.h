@@ -5,6 +5,7 @@
 #include "interface.h"
 #include "transmit.h"
 #include "unit.h"
+#include "worst.h"
 
 /* Frames that are no matter of this bridge. */
 enum other_kind { OTHER_ELEVEN_BIT, OTHER_REMOTE, OTHER_FD, OTHER_ERROR, OTHER_KINDS };
@@ -36,7 +37,7 @@ struct port {
     int64_t retry_at;        /* when to try again after ENOBUFS */
     int64_t assume_at;       /* when the frame with the kernel counts as sent, its echo maybe having been dropped */
     int64_t look_at;         /* a bus without CAN that is gone is not looked for before this */
-    uint64_t high_water;     /* the most frames that waited at once */
+    struct worst waiting;    /* the most frames that waited at once, ever and in the last second or two */
     int64_t lost_at;         /* when the last frame was lost, or arrival missed; 0 for never */
     int64_t tell_at;         /* the next line about losses is not before this */
     struct {
@@ -51,7 +52,7 @@ bool port_open(struct port *port, uint32_t number, const char *interface);
 uint64_t port_waiting(const struct port *port);
 
 /* Frames joined the queue, or were lost there. */
-void port_joined(struct port *port);
+void port_joined(struct port *port, int64_t now);
 void port_lost(struct port *port, int64_t now);
 
 /* Sends what there is to send, if the interface can: a frame is taken from the unit only then. */

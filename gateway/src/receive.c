@@ -47,7 +47,7 @@ static void count_answer(struct gateway *gateway, const struct port *arrival, co
         pair->lost += lost;
         pair->reasons[DEORASAENG_REASON(answer->reasons, exit->number) % UNIT_REASONS]++;
         if (accepted || answer->own_sent)
-            port_joined(exit);
+            port_joined(exit, now);
         if (lost || own_lost)
             port_lost(exit, now);
     }

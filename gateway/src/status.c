@@ -56,11 +56,11 @@ static void write_unit(struct json *json, const struct gateway *gateway, const s
     json_end_object(json);
 }
 
-static void write_loop(struct json *json, const struct turns *turns, int64_t now)
+static void write_loop(struct json *json, const struct worst *turns, int64_t now)
 {
     json_object(json, "loop");
-    json_number(json, "worst_us", (uint64_t)(turns->worst / 1000));
-    json_number(json, "recent_worst_us", (uint64_t)(turns_recent(turns, now) / 1000));
+    json_number(json, "worst_us", (uint64_t)(turns->ever / 1000));
+    json_number(json, "recent_worst_us", (uint64_t)(worst_recent(turns, now) / 1000));
     json_end_object(json);
 }
 

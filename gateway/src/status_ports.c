@@ -59,7 +59,8 @@ static void write_queue(struct json *json, const struct gateway *gateway, const 
     json_end_array(json);
     json_number(json, "accepted", counts.accepted);
     json_number(json, "taken", counts.taken);
-    json_number(json, "high_water", port->high_water);
+    json_number(json, "high_water", (uint64_t)port->waiting.ever);
+    json_number(json, "recent_high", (uint64_t)worst_recent(&port->waiting, moment->now));
     if (port->lost_at == 0)
         json_null(json, "last_loss");
     else {

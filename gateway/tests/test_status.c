@@ -68,6 +68,7 @@ static void frames(void)
     for (int i = 0; i < 33; i++)
         bench_frame(1, 0x18FEF121, NULL, 0, 2 * CLOCK_SECOND);
     bench_frame(3, 0x18FEF1FF, NULL, 0, 3 * CLOCK_SECOND);
+    CHECK(number(json_member(element(json_member(document(2500 * CLOCK_MS), "ports"), 2), "queue"), "recent_high") == 32);
     const char *all = document(4 * CLOCK_SECOND), *ring = json_member(all, "frames"), *pair = json_first(json_member(all, "pairs"));
     CHECK(json_length(ring) == 34 && number(element(ring, 0), "number") == 5 && number(element(ring, 0), "port") == 3);
     CHECK(json_is_string(json_member(element(ring, 0), "time"), "2026-11-18T11:06:43.123Z"));
@@ -82,7 +83,7 @@ static void frames(void)
     CHECK(number(pair, "to") == 3 && number(pair, "crossed") == 32 && number(pair, "lost") == 1 && number(pair, "losses") == 1);
     CHECK(number(json_member(pair, "reasons"), "cleared") == 33 && number(json_member(all, "unit"), "losses") == 1);
     const char *port = element(json_member(all, "ports"), 2), *queue = json_member(port, "queue");
-    CHECK(number(queue, "high_water") == 32 && json_read_number(element(json_member(queue, "waiting_by_priority"), 6)) == 32);
+    CHECK(number(queue, "high_water") == 32 && number(queue, "recent_high") == 0 && json_read_number(element(json_member(queue, "waiting_by_priority"), 6)) == 32);
     CHECK(number(queue, "accepted") == 33 && number(queue, "taken") == 1 && *json_member(json_member(port, "controller"), "bit_rate") == 'n');
     CHECK(strncmp(json_member(json_member(queue, "last_loss"), "seconds"), "2.000", 5) == 0);
     CHECK(*json_member(json_member(json_first(json_member(all, "ports")), "queue"), "last_loss") == 'n');
@@ -172,13 +173,14 @@ static void address_conflicts(void)
 static void worst_turns(void)
 {
     bench_claimed(2);
-    turns_add(&gateway.turns, 900 * 1000, CLOCK_SECOND);
-    turns_add(&gateway.turns, 100 * 1000, 2 * CLOCK_SECOND);
+    gateway.turns.window = 10 * CLOCK_SECOND;
+    worst_add(&gateway.turns, 900 * 1000, CLOCK_SECOND);
+    worst_add(&gateway.turns, 100 * 1000, 2 * CLOCK_SECOND);
     const char *loop = json_member(document(3 * CLOCK_SECOND), "loop");
     CHECK(number(loop, "worst_us") == 900 && number(loop, "recent_worst_us") == 900);
-    turns_add(&gateway.turns, 300 * 1000, 12 * CLOCK_SECOND);
+    worst_add(&gateway.turns, 300 * 1000, 12 * CLOCK_SECOND);
     CHECK(number(json_member(document(13 * CLOCK_SECOND), "loop"), "recent_worst_us") == 900);
-    turns_add(&gateway.turns, 200 * 1000, 23 * CLOCK_SECOND);
+    worst_add(&gateway.turns, 200 * 1000, 23 * CLOCK_SECOND);
     loop = json_member(document(24 * CLOCK_SECOND), "loop");
     CHECK(number(loop, "worst_us") == 900 && number(loop, "recent_worst_us") == 300);
     CHECK(number(json_member(document(35 * CLOCK_SECOND), "loop"), "recent_worst_us") == 200);
@@ -233,7 +235,7 @@ static void full_gateway(void)
         struct port *port = &gateway.ports[i];
         memset(&port->counts, 0xFF, sizeof port->counts);
         memset(port->interface.name, '"', INTERFACE_NAME_BYTES - 1);
-        port->high_water = UINT64_MAX;
+        port->waiting.ever = INT64_MAX;
         port->lost_at = INT64_MAX / 2;
     }
 }

@@ -5,14 +5,18 @@
 
 #include <string.h>
 
+static uint8_t small(const char *value)
+{
+    uint64_t number = json_read_number(value);
+    return (uint8_t)(number > UINT8_MAX ? UINT8_MAX : number);
+}
+
 static void read_waiting(const char *port, uint8_t waiting[SAMPLE_RANKS])
 {
     uint32_t rank = 0;
     const char *counts = json_member(json_member(port, "queue"), "waiting_by_priority");
-    for (const char *count = json_first(counts); count != NULL && rank < SAMPLE_RANKS; count = json_next(count), rank++) {
-        uint64_t value = json_read_number(count);
-        waiting[rank] = (uint8_t)(value > UINT8_MAX ? UINT8_MAX : value);
-    }
+    for (const char *count = json_first(counts); count != NULL && rank < SAMPLE_RANKS; count = json_next(count), rank++)
+        waiting[rank] = small(count);
 }
 
 /* What was lost since the document before. Where the total fell the gateway is a new one. */
@@ -35,6 +39,7 @@ void samples_add(struct samples *samples, const char *status, int64_t wall)
         return;
     for (const char *port = json_first(json_member(status, "ports")); port != NULL && place < SAMPLE_PORTS; port = json_next(port), place++) {
         read_waiting(port, sample->waiting[place]);
+        sample->most[place] = small(json_member(json_member(port, "queue"), "recent_high"));
         sample->lost[place] = read_lost(samples, place, port);
     }
     samples->ports = place;
@@ -46,8 +51,6 @@ static void put_sample(struct json *json, const char *name, const struct sample 
     json_array(json, name);
     json_number(json, NULL, (uint64_t)(sample->wall / 1000000));
     if (!sample->alive) {
-        json_null(json, NULL);
-        json_null(json, NULL);
         json_end_array(json);
         return;
     }
@@ -62,6 +65,10 @@ static void put_sample(struct json *json, const char *name, const struct sample 
     json_array(json, NULL);
     for (uint32_t place = first; place < last; place++)
         json_number(json, NULL, sample->lost[place]);
+    json_end_array(json);
+    json_array(json, NULL);
+    for (uint32_t place = first; place < last; place++)
+        json_number(json, NULL, sample->most[place]);
     json_end_array(json);
     json_end_array(json);
 }

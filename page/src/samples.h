@@ -1,4 +1,4 @@
-/* The last ten minutes, a second at a time: how many frames waited at each port by rank, and how many were lost there. */
+/* The last ten minutes, a second at a time: how many frames waited at each port by rank, the most that waited at once, and how many were lost there. */
 #ifndef PAGE_SAMPLES_H
 #define PAGE_SAMPLES_H
 
@@ -16,6 +16,7 @@ struct sample {
     int64_t wall;                                 /* the time of day, in ns */
     bool alive;                                   /* the gateway answered; else the rest is 0 */
     uint8_t waiting[SAMPLE_PORTS][SAMPLE_RANKS];
+    uint8_t most[SAMPLE_PORTS];                   /* that waited at once of late */
     uint32_t lost[SAMPLE_PORTS];                  /* in this second, missed arrivals among them */
 };
 
@@ -30,7 +31,8 @@ struct samples {
 /* One more: of a status document that is whole, or NULL where the gateway did not answer. */
 void samples_add(struct samples *samples, const char *status, int64_t wall);
 
-/* Puts them as {"ports":[1,2],"samples":[[MILLISECONDS,[[WAITING BY RANK],..],[LOST,..]],..]}, the oldest first, of one port or of all (0). What was not answered has null for both. */
+/* Puts them as {"ports":[1,2],"samples":[[MILLISECONDS,[[WAITING BY RANK],..],[LOST,..],[MOST,..]],..]}, the oldest first, of one port or of
+   all (0). What was not answered has the time alone. */
 void samples_put(struct json *json, const struct samples *samples, uint32_t port);
 
 /* Puts the last one alone, as a member; null where there is none. */

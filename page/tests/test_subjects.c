@@ -181,7 +181,7 @@ static void commands(void)
 
 static const char STATUS[] =
     "{\"schema\":1,\"time\":\"T\",\"unit\":{\"name\":\"N\",\"losses\":9},\"loop\":{\"worst_us\":1},\"secret\":7,"
-    "\"ports\":[{\"port\":1,\"interface\":\"a\",\"lost\":1,\"own_lost\":0,\"missed\":2,\"queue\":{\"waiting_by_priority\":[0,0,0,1,0,0,2,0]}},{\"port\":2,\"interface\":\"b\",\"lost\":5,\"own_lost\":0,"
+    "\"ports\":[{\"port\":1,\"interface\":\"a\",\"lost\":1,\"own_lost\":0,\"missed\":2,\"queue\":{\"waiting_by_priority\":[0,0,0,1,0,0,2,0],\"recent_high\":7}},{\"port\":2,\"interface\":\"b\",\"lost\":5,\"own_lost\":0,"
     "\"missed\":0,\"queue\":{\"waiting_by_priority\":[9,0,0,0,0,0,0,0]}},{\"port\":3,\"interface\":\"c\",\"lost\":0,\"own_lost\":0,\"missed\":0,\"queue\":{\"waiting_by_priority\":[]}}],"
     "\"pairs\":[{\"from\":1,\"to\":2},{\"from\":1,\"to\":3},{\"from\":3,\"to\":2}],\"lists\":[{\"from\":1,\"to\":3,\"pgns\":[7]},{\"from\":2,\"to\":3}],\"lists_saved\":true,"
     "\"addresses\":[{\"port\":1,\"addresses\":[]},{\"port\":2,\"addresses\":[5]}],"
@@ -229,11 +229,11 @@ static void ten_minutes(void)
     json_begin(&json, text, sizeof text - 1);
     samples_put(&json, &samples, 1);
     text[json.length] = '\0';
-    CHECK_TEXT(text, "{\"ports\":[1],\"samples\":[[1000,[[0,0,0,1,0,0,2,0]],[0]],[2000,null,null],[3000,[[0,0,0,1,0,0,2,0]],[2]]]}");
+    CHECK_TEXT(text, "{\"ports\":[1],\"samples\":[[1000,[[0,0,0,1,0,0,2,0]],[0],[7]],[2000],[3000,[[0,0,0,1,0,0,2,0]],[2],[7]]]}");
     json_begin(&json, text, sizeof text - 1);
     samples_put_last(&json, NULL, &samples, 2);
     text[json.length] = '\0';
-    CHECK_TEXT(text, "[3000,[[9,0,0,0,0,0,0,0]],[0]]");
+    CHECK_TEXT(text, "[3000,[[9,0,0,0,0,0,0,0]],[0],[0]]");
     samples.totals[1] = 100; /* the gateway is a new one */
     samples_add(&samples, STATUS, 4000 * CLOCK_MS);
     CHECK(samples.at[3].lost[1] == 5);

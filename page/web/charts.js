@@ -30,25 +30,30 @@ const FRAME = { left: 30, right: 8, top: 12, bottom: 22 };
 const across = WIDTH - FRAME.left - FRAME.right;
 const down = HEIGHT - FRAME.top - FRAME.bottom;
 const xAt = (secondsAgo) => FRAME.left + across * (1 - secondsAgo / SPAN);
+const sum = (counts) => counts.reduce((all, count) => all + count, 0);
 const yAt = (frames) => FRAME.top + down * (1 - frames / PLACES);
 
-// The area of the ranks from 0 to `rank`, as a step for each second; gaps where the bridge was not heard.
-function areaPath(samples, now, rank) {
-  const parts = [];
-  let run = [];
-  const close = () => {
-    if (run.length === 0) return;
-    const top = run.map(([x, y], i) => `${i === 0 ? 'M' : 'L'}${x.toFixed(1)} ${y.toFixed(1)} h${(across / SPAN).toFixed(2)}`).join('');
-    parts.push(`${top}V${yAt(0)}H${run[0][0].toFixed(1)}Z`);
-    run = [];
-  };
+// Runs of seconds that follow each other; gaps where the bridge was not heard.
+function runs(samples, now, height) {
+  const all = [[]];
   for (const sample of samples) {
-    if (!sample.waiting) { close(); continue; }
-    const frames = sample.waiting.slice(0, rank + 1).reduce((sum, count) => sum + count, 0);
-    run.push([xAt((now - sample.time) / 1000 + 1), yAt(frames)]);
+    if (!sample.waiting) all.push([]);
+    else all.at(-1).push(`${xAt((now - sample.time) / 1000 + 1).toFixed(1)} ${yAt(height(sample)).toFixed(1)}`);
   }
-  close();
-  return parts.join('');
+  return all.filter((run) => run.length > 0);
+}
+
+const STEP = `h${(across / SPAN).toFixed(2)}`;
+
+// The area of the ranks from 0 to `rank`, as a step for each second.
+function areaPath(samples, now, rank) {
+  return runs(samples, now, (sample) => sum(sample.waiting.slice(0, rank + 1)))
+    .map((run) => `${run.map((point, i) => `${i === 0 ? 'M' : 'L'}${point}${STEP}`).join('')}V${yAt(0)}H${run[0].split(' ')[0]}Z`).join('');
+}
+
+// The line of the most that waited at once.
+function peakPath(samples, now) {
+  return runs(samples, now, (sample) => Math.max(sample.most, sum(sample.waiting))).map((run) => run.map((point, i) => `${i === 0 ? 'M' : 'L'}${point}${STEP}`).join('')).join('');
 }
 
 function axes() {
@@ -62,20 +67,22 @@ function axes() {
   return [lines, times];
 }
 
-// Samples are { time in ms, waiting by rank or null, lost }.
+// Samples are { time in ms, waiting by rank or null, lost, most at once }.
 export function queueChart(port) {
   const areas = Array.from({ length: RANKS }, (unused, rank) => svg('path', { class: `rank${rank}` })).reverse();
+  const peak = svg('path', { class: 'peak' });
   const marks = svg('path', { class: 'loss' });
-  const node = svg('svg', { class: 'chart', viewBox: `0 0 ${WIDTH} ${HEIGHT}`, role: 'img' }, axes(), areas, marks);
+  const node = svg('svg', { class: 'chart', viewBox: `0 0 ${WIDTH} ${HEIGHT}`, role: 'img' }, axes(), areas, peak, marks);
   return {
     node,
     update(samples, now) {
       const recent = samples.filter((sample) => now - sample.time < SPAN * 1000);
       areas.forEach((area, i) => area.setAttribute('d', areaPath(recent, now, RANKS - 1 - i)));
+      peak.setAttribute('d', peakPath(recent, now));
       marks.setAttribute('d', recent.filter((sample) => sample.lost > 0)
-        .map((sample) => `M${xAt((now - sample.time) / 1000).toFixed(1)} ${FRAME.top - 9}v8`).join(''));
-      const most = Math.max(0, ...recent.map((sample) => sample.waiting?.reduce((sum, count) => sum + count, 0) ?? 0));
-      const lost = recent.reduce((sum, sample) => sum + sample.lost, 0);
+        .map((sample) => `M${xAt((now - sample.time) / 1000 + 0.5).toFixed(1)} ${FRAME.top - 9}v8`).join(''));
+      const most = Math.max(0, ...recent.map((sample) => (sample.waiting ? Math.max(sample.most, sum(sample.waiting)) : 0)));
+      const lost = sum(recent.map((sample) => sample.lost));
       node.setAttribute('aria-label', t('chartAlt', port, most, number(lost)));
     },
   };

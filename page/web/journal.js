@@ -16,7 +16,7 @@ const UNIT_FUNCTIONS = [128, 130];
 function what(one) {
   if (UNIT_FUNCTIONS.includes(one.function)) return commandWord(one.function);
   const [from, to] = one.pair;
-  return `${commandWord(one.function)}, ${from} → ${to === ALL ? '*' : to}`;
+  return `${commandWord(one.function)}, ${from}\u00a0→\u00a0${to === ALL ? '*' : to}`;
 }
 
 function result(one) {

@@ -9,7 +9,7 @@ let retry = 0;
 const past = []; // { seconds, ports: Map port -> { in, out } }
 
 const SAMPLES = 600;
-export const samples = []; // [time in ms, [waiting by rank] of each port or null, [lost] of each port or null], the last ten minutes at most
+export const samples = []; // [time in ms, then of each port: waiting by rank, lost, most at once; or the time alone], the last ten minutes at most
 
 export const live = { status: null, alive: false, age: 0, received: 0, linked: false, stale: true };
 

@@ -16,12 +16,12 @@ function samplesOf(history, port) {
   const place = history.ports.indexOf(port);
   const known = history.samples.at(-1)?.[0] ?? 0;
   return [...history.samples, ...samples.filter(([time]) => time > known)].slice(-KEPT)
-    .map(([time, waiting, lost]) => ({ time, waiting: waiting?.[place] ?? null, lost: lost?.[place] ?? 0 }));
+    .map(([time, waiting, lost, most]) => ({ time, waiting: waiting?.[place] ?? null, lost: lost?.[place] ?? 0, most: most?.[place] ?? 0 }));
 }
 
 function legend() {
   return el('ul', { class: 'legend' }, Array.from({ length: RANKS }, (unused, rank) => el('li', null, el('span', { class: `swatch rank${rank}` }), t('priority', rank))),
-    el('li', null, el('span', { class: 'swatch loss' }), t('lost')));
+    el('li', null, el('span', { class: 'swatch peak' }), t('mostAtOnce')), el('li', null, el('span', { class: 'swatch loss' }), t('lost')));
 }
 
 // The last reset of each counter that the journal has: "12" for a pair, "" for the unit.
