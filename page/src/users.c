@@ -158,6 +158,13 @@ static bool hash_password(const char *password, char hash[USER_HASH + 1], char *
     return true;
 }
 
+/* The new file is whose the old one was, with its rights: the page may read it by its group. */
+static bool keep_rights(const char *path, int fd)
+{
+    struct stat old;
+    return stat(path, &old) != 0 || (fchown(fd, old.st_uid, old.st_gid) == 0 && fchmod(fd, old.st_mode & (S_IRUSR | S_IWUSR | S_IRGRP)) == 0);
+}
+
 /* Written beside, synced and renamed, so that a power cut leaves the old file or the new. */
 static bool write_file(const char *path, const struct users *users, char *error)
 {
@@ -175,7 +182,7 @@ static bool write_file(const char *path, const struct users *users, char *error)
         else
             fprintf(file, "%s %s %s\n", user->name, role_word(user->role), user->hash);
     }
-    bool done = fflush(file) == 0 && fsync(fd) == 0;
+    bool done = fflush(file) == 0 && keep_rights(path, fd) && fsync(fd) == 0;
     done = fclose(file) == 0 && done && rename(beside, path) == 0;
     return done || wrong(error, "%s: %s", beside, strerror(errno));
 }

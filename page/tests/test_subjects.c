@@ -57,6 +57,7 @@ static void users_file(void)
     CHECK(!user_password_fits("another one", users.at[0].hash) && !user_password_fits("x", "$nonsense") && !user_password_fits("x", ""));
     CHECK(chmod(path, 0644) == 0 && !users_load(path, &users, error) && strstr(error, "0600") != NULL);
     CHECK(chmod(path, 0640) == 0 && users_load(path, &users, error));
+    CHECK(users_set(path, "otto", "owner", "yet another", error) && stat(path, &about) == 0 && (about.st_mode & 0777) == 0640);
     CHECK(unlink(path) == 0 && rmdir(folder) == 0);
 }
 
