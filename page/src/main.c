@@ -8,6 +8,7 @@
 #include <signal.h>
 #include <stdio.h>
 #include <string.h>
+#include <termios.h>
 #include <time.h>
 #include <unistd.h>
 
@@ -24,15 +25,29 @@ static bool load_users(const struct options *options, struct users *users)
     return false;
 }
 
-/* Puts a user into the file; the password is a line of standard input. */
+/* A line of standard input, which a terminal does not show. */
+static void read_password(char *password, int size)
+{
+    struct termios before, silent;
+    bool terminal = tcgetattr(STDIN_FILENO, &before) == 0;
+    if (terminal) {
+        silent = before;
+        silent.c_lflag &= ~(tcflag_t)ECHO;
+        terminal = tcsetattr(STDIN_FILENO, TCSAFLUSH, &silent) == 0;
+        fputs("password: ", stderr);
+    }
+    if (fgets(password, size, stdin) == NULL)
+        password[0] = '\0';
+    password[strcspn(password, "\r\n")] = '\0';
+    if (terminal && tcsetattr(STDIN_FILENO, TCSAFLUSH, &before) == 0)
+        fputs("\n", stderr);
+}
+
+/* Puts a user into the file. */
 static int set_user(const struct options *options)
 {
     char password[USER_PASSWORD + 2], error[USERS_ERROR];
-    if (isatty(STDIN_FILENO) == 1)
-        fputs("password: ", stderr);
-    if (fgets(password, sizeof password, stdin) == NULL)
-        password[0] = '\0';
-    password[strcspn(password, "\r\n")] = '\0';
+    read_password(password, sizeof password);
     bool done = users_set(options->users, options->set_name, options->set_role, password, error);
     explicit_bzero(password, sizeof password);
     if (!done)

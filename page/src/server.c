@@ -11,6 +11,8 @@
 #include <unistd.h>
 
 #define CONNECTIONS 256
+/* Of these one machine may have so many; on the loopback all are one. */
+#define CONNECTIONS_OF_ONE 64
 #define IDLE_SECONDS 30U
 #define HEADER_BYTES 32768
 #define PEM_BYTES 65536
@@ -193,7 +195,8 @@ static struct MHD_Daemon *start_daemon(struct server *server, const char *certif
     struct MHD_OptionItem tls[] = {
         {MHD_OPTION_HTTPS_MEM_CERT, 0, (void *)(uintptr_t)certificate}, {MHD_OPTION_HTTPS_MEM_KEY, 0, (void *)(uintptr_t)key}, {MHD_OPTION_END, 0, NULL}};
     return MHD_start_daemon(flags, 0, NULL, NULL, handle, server, MHD_OPTION_EXTERNAL_LOGGER, library_log, NULL, MHD_OPTION_SOCK_ADDR, &options->address.any,
-                            MHD_OPTION_CONNECTION_LIMIT, (unsigned)CONNECTIONS, MHD_OPTION_CONNECTION_TIMEOUT, IDLE_SECONDS, MHD_OPTION_CONNECTION_MEMORY_LIMIT,
+                            MHD_OPTION_CONNECTION_LIMIT, (unsigned)CONNECTIONS, MHD_OPTION_PER_IP_CONNECTION_LIMIT,
+                            options->loopback ? 0U : (unsigned)CONNECTIONS_OF_ONE, MHD_OPTION_CONNECTION_TIMEOUT, IDLE_SECONDS, MHD_OPTION_CONNECTION_MEMORY_LIMIT,
                             (size_t)HEADER_BYTES, MHD_OPTION_STRICT_FOR_CLIENT, 1, MHD_OPTION_NOTIFY_COMPLETED, completed, NULL, MHD_OPTION_UNESCAPE_CALLBACK,
                             leave_escapes, NULL, MHD_OPTION_ARRAY,
                             certificate == NULL ? tls + 2 : tls, MHD_OPTION_END);

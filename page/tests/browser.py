@@ -84,7 +84,7 @@ class Browser:
 
     def picture(self, folder, name):
         if folder:
-            height = min(1500, self.run("return Math.max(document.documentElement.scrollHeight, 300)"))
+            height = min(1000, self.run("return Math.max(document.documentElement.scrollHeight, 300)"))
             width = self.run("return innerWidth")
             shot = self.driver.execute_cdp_cmd("Page.captureScreenshot", {"format": "webp", "quality": 60, "captureBeyondViewport": True,
                                                                           "clip": {"x": 0, "y": 0, "width": width, "height": height, "scale": 0.85}})

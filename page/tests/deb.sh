@@ -1,39 +1,44 @@
 #!/usr/bin/env bash
-# The page's Debian package beside the gateway's in a fresh root (debootstrap, kept in target/page-root): installed, both started by their services' own commands as their users, the page asked, taken away.
-# Needs root's rights, and installs debootstrap and curl where they are not there. usage: make check-deb
+# The page's Debian package beside the gateway's, on a copy of this machine that lasts as long as the test (an overlay in memory, in a mount namespace of its own): installed, both started by their services' own
+# commands as their users, the page asked, taken away. Needs root's rights. usage: make check-deb
 set -euo pipefail
 tests=$(cd "$(dirname "$0")" && pwd)
 clone=$(cd "$tests/../.." && pwd)
-keep=$clone/target/page-root
-root=$keep/try
+if [ -z "${PAGE_DEB_PACKAGES:-}" ]; then
+    PAGE_DEB_PACKAGES="$(make -s -C "$clone/gateway" deb) $(make -s -C "$clone/page" deb)"
+    command -v curl >/dev/null || "$clone/scripts/install" curl
+    as_root=(); [ "$(id -u)" = 0 ] || as_root=(sudo)
+    exec "${as_root[@]}" env PAGE_DEB_PACKAGES="$PAGE_DEB_PACKAGES" unshare --mount "$0"
+fi
+read -r gateway_package page_package <<<"$PAGE_DEB_PACKAGES"
+keep=$(mktemp -d /dev/shm/page-deb.XXXXXX)
+root=$keep/root
 RUN=$keep TMP=$keep
 . "$clone/gateway/tests/checks.sh"
-as_root=(); [ "$(id -u)" = 0 ] || as_root=(sudo)
-inside() { "${as_root[@]}" chroot "$root" "$@"; }
-mkdir -p "$keep"
-gateway_package=$(make -s -C "$clone/gateway" deb) page_package=$(make -s -C "$clone/page" deb)
-for program in debootstrap curl; do command -v $program >/dev/null || "$clone/scripts/install" $program; done
-if [ ! -d "$keep/fresh" ]; then
-    read -r site release _ < <(apt-get indextargets --format '$(SITE) $(RELEASE)' 'Created-By: Packages' | sort -u)
-    echo "check-deb: making a fresh $release of $site in target/page-root" >&2
-    "${as_root[@]}" rm -rf "$keep/making"
-    "${as_root[@]}" debootstrap --variant=minbase --include=adduser,libmicrohttpd12 "$release" "$keep/making" "$site" >"$keep/debootstrap.log"
-    "${as_root[@]}" mv "$keep/making" "$keep/fresh"
-fi
-"${as_root[@]}" rm -rf "$root"
-"${as_root[@]}" cp -a "$keep/fresh" "$root"
+inside() { chroot "$root" "$@"; }
 processes=""
-finish() { for process in $processes; do "${as_root[@]}" kill "$process" 2>/dev/null || :; done; sleep 0.5; "${as_root[@]}" rm -rf "$root"; }
+finish() {
+    for process in $processes; do kill "$process" 2>/dev/null || :; done
+    sleep 0.5
+    umount -R -l "$root"
+    rm -rf "$keep"
+}
 trap finish EXIT
+: >"$keep/log" >"$keep/page.log"
+mkdir "$keep/upper" "$keep/work" "$root"
+mount -t overlay overlay -o "lowerdir=/,upperdir=$keep/upper,workdir=$keep/work" "$root"
+mount --bind /dev "$root/dev"
+mount -t proc proc "$root/proc"
+mount -t tmpfs tmpfs "$root/run"
 
 # What systemd makes of a unit's ExecStart= and of the file that it names: ${X} is a word, $X are words. As the unit's user, with its groups and no more rights than that.
-start() { # SERVICE, then setpriv's word on groups
-    "${as_root[@]}" chroot "$root" setpriv --reuid="$2" --regid="$2" "$3" --no-new-privs sh -c ". /etc/default/$1
+start() { # SERVICE USER, and setpriv's word on groups; in a process of its own, which becomes it
+    exec chroot "$root" setpriv --reuid="$2" --regid="$2" "$3" --no-new-privs sh -c ". /etc/default/$1
 eval \"set -- \$(sed -n '/^ExecStart=/ { s///; s/\${[A-Z]*}/\"&\"/g; p }' /usr/lib/systemd/system/$1.service)\"
 exec \"\$@\""
 }
 set +e
-"${as_root[@]}" cp "$gateway_package" "$root/gateway.deb"; "${as_root[@]}" cp "$page_package" "$root/page.deb"
+cp "$gateway_package" "$root/gateway.deb"; cp "$page_package" "$root/page.deb"
 inside dpkg -i /gateway.deb /page.deb >"$keep/dpkg.log" 2>&1
 check "both install" [ $? = 0 ]
 check "the users file is empty, and the page's user may read it" equal "$(inside stat -c '%U %G %a %s' /etc/deorasaeng/users)" "root deorasaeng-page 640 0"
@@ -43,7 +48,7 @@ inside sed -i 's#^OPTIONS=.*#OPTIONS="--listen 127.0.0.1:0"#' /etc/default/deora
 inside install -d -o deorasaeng -g deorasaeng -m 750 /run/deorasaeng
 echo 'a good password' | inside deorasaeng-page --users /etc/deorasaeng/users --set anna owner
 check "a user is set, and the file stays as it was" equal "$? $(inside stat -c '%U %G %a' /etc/deorasaeng/users)" "0 root deorasaeng-page 640"
-inside setpriv --reuid=deorasaeng --regid=deorasaeng --clear-groups deorasaeng-bus serve /run/deorasaeng/a /run/deorasaeng/b >"$keep/buses" & processes=$!
+(exec chroot "$root" setpriv --reuid=deorasaeng --regid=deorasaeng --clear-groups deorasaeng-bus serve /run/deorasaeng/a /run/deorasaeng/b >"$keep/buses") & processes=$!
 within 20 grep -q 'b: open' "$keep/buses"
 start deorasaeng-gateway deorasaeng --clear-groups 2>"$keep/log" & processes="$! $processes"
 check "the gateway claims its address" within 30 logged 'Claimed: address 128'
@@ -57,7 +62,7 @@ answer=$(curl -s -b "$keep/cookies" -H "X-Token: $token" -H "Origin: $address" -
 check "and makes a list" equal "$(echo "$answer" | sed 's/,"words.*//')" '{"number":0'
 check "which the gateway saves" within 10 inside grep -q '^1 2 block 61444' /var/lib/deorasaeng/lists
 check "the page's user may not read the lists file itself" equal "$(inside setpriv --reuid=deorasaeng-page --regid=deorasaeng-page --init-groups cat /var/lib/deorasaeng/lists 2>/dev/null)" ""
-"${as_root[@]}" kill -TERM $page; wait $page
+kill -TERM $page; wait $page
 check "SIGTERM: status 0" equal $? 0
 inside dpkg -r deorasaeng-page >>"$keep/dpkg.log" 2>&1
 check "removed, the users stay" equal "$? $(inside sh -c 'ls /usr/bin/deorasaeng-page 2>/dev/null; grep -c "^anna owner" /etc/deorasaeng/users')" "0 1"
