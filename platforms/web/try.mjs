@@ -9,7 +9,7 @@ const base64 = path => readFileSync(join(root, path)).toString("base64");
 const header = readFileSync(join(root, "include/deorasaeng.h"), "utf8");
 const given = {
     numbers: Object.fromEntries([...header.matchAll(/^#define DEORASAENG_(\w+) (\d+)$/gm)].map(([, name, number]) => [name, Number(number)])),
-    functions: [...header.matchAll(/^uint32_t (deorasaeng_\w+)\(/gm)].map(([, name]) => name),
+    functions: [...header.matchAll(/^uint(?:32|64)_t (deorasaeng_\w+)\(/gm)].map(([, name]) => name),
     library: base64("target/staticlib/wasm32/deorasaeng.wasm"),
     programs: ["morning", "combine"].map(name => ({ name: `${name}.c`, module: base64(`target/examples/wasm32/${name}`), prints: base64(`examples/${name}.out`) })),
 };
