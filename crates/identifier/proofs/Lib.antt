@@ -1,2 +1,3 @@
 pub mod Picture
 pub mod Numbers
+pub mod Turning

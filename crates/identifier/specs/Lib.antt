@@ -1,2 +1,3 @@
 pub mod Identifier
 pub mod Picture
+pub mod Turning

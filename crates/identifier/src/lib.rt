@@ -3,6 +3,7 @@
 ghost use mathlib.Core.Path.{_≡_};
 ghost use mathlib.Core.Bool.{cond};
 ghost use Rattle.identifier.specs.Identifier.{priorityOf, extendedDataPageOf, dataPageOf, pfOf, psOf, saOf, hasDestination, pgnOf, destinationOf, isPgn, tooWide, sentWithoutAddress, wrongSource};
+ghost use Rattle.identifier.specs.Turning.{withSource, withDestination};
 
 // What a bit counts for: divided by that, a number has the bit in the last place.
 const BIT_26: u32 = 67108864;
@@ -151,4 +152,18 @@ pub fn has_wrong_source(id: u32) -> bool
         return !is_sent_without_address(id);
     }
     true
+}
+
+// The identifier with another source address, and else as it is.
+pub fn with_source(id: u32, address: u8) -> u32
+    ensures { λ r. ⌜ r ≡ withSource id address ⌝ }
+{
+    id - id % BIT_8 + address as u32
+}
+
+// The identifier with another PS, the destination where PF is below 240, and else as it is.
+pub fn with_destination(id: u32, address: u8) -> u32
+    ensures { λ r. ⌜ r ≡ withDestination id address ⌝ }
+{
+    id - id % BIT_16 + address as u32 * BIT_8 + id % BIT_8
 }
