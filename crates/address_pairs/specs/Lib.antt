@@ -1,0 +1,3 @@
+pub mod AddressPairs
+pub mod Calls
+pub mod ThereAndBack
