@@ -6,7 +6,7 @@
    bytes may be handed in as NULL, 0; any other may not.
 
    Platform: x86-64 Linux, the System V calling convention, any linker for ELF. Needed are memcpy and memset and nothing else: no heap, no call of the operating
-   system, no data outside the record. SSE registers and the red zone are used. Some 24 KB of code and constants, 15,344 bytes of record for four ports, at most 1.3 KB
+   system, no data outside the record. SSE registers and the red zone are used. Some 25 KB of code and constants, 15,344 bytes of record for four ports, at most 1.3 KB
    of stack, 6 KB in a call on a plan.
    From the same proved module also 64-bit ARM, RISC-V and 32-bit ARM under Linux, Cortex-M4 and M7 without an operating system, and WebAssembly
    (scripts/library --target). On top of what is believed for x86-64 stands, for a 64-bit one, another back end of the same compiler; for a 32-bit one also that offsets
