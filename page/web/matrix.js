@@ -47,10 +47,11 @@ export function open(root) {
     return made.node;
   };
   const rows = all.map((from) => el('tr', null, el('th', { scope: 'row' }, heading(from)), all.map((to) => make(from, to))));
-  root.replaceChildren(el('h1', null, t('matrix')), el('p', { class: 'lead' }, t('matrixLead')),
-    el('div', { class: 'scroll' }, el('table', { class: 'matrix' },
-      el('thead', null, el('tr', null, el('th', { scope: 'col' }, t('fromTo')), all.map((port) => el('th', { scope: 'col' }, heading(port))))),
-      el('tbody', null, rows))));
+  const table = el('table', { class: 'matrix' },
+    el('thead', null, el('tr', null, el('th', { scope: 'col' }, t('fromTo')), all.map((port) => el('th', { scope: 'col' }, heading(port))))),
+    el('tbody', null, rows));
+  table.style.minWidth = `${8 + 9.5 * all.length}rem`; // with many ports it scrolls sideways
+  root.replaceChildren(el('h1', null, t('matrix')), el('p', { class: 'lead' }, t('matrixLead')), el('div', { class: 'scroll' }, table));
   return { update() { for (const one of cells) one.update(); } };
 }
 

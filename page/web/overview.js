@@ -61,7 +61,7 @@ function portCard(port) {
       setText(label, now.interface);
       setText(state, stateWord(now.state));
       state.className = `pill ${now.state === 'up' ? 'good' : 'bad'}`;
-      for (const { what, value } of flows) setText(value, showRate(live.alive ? rate(port, what) : null));
+      for (const { what, value } of flows) setText(value, showRate(rate(port, what)));
       bar.update(now.queue.waiting_by_priority);
       setText(waiting, t('queueWaiting', now.queue.waiting_by_priority.reduce((sum, count) => sum + count, 0)));
       setText(most, t('queueMost', now.queue.high_water));
