@@ -15,6 +15,7 @@ gateway=
 export ASAN_OPTIONS="log_path=$RUN/sanitizer" UBSAN_OPTIONS="log_path=$RUN/sanitizer"
 
 serve() { # BUS [BITS A SECOND]
+    : >served.$1 # what the one before said is no word of this one
     $bus_program serve ${2:+--bitrate $2} $1 >served.$1 & echo $! >served.$1.pid
     within 5 grep -q "$1: open" served.$1
 }
