@@ -1,4 +1,5 @@
-// Puts the page together: the style, the modules as one script, the bundled plan and the proved module into page.html. Gives the page on standard output.
+// Puts the page together: the style, the modules as one script, the bundled plan and the proved module into page.html.
+// Gives the page on standard output.
 // usage: node page/plan/build.mjs MODULE.wasm BUNDLED.plan
 import { readFileSync } from "node:fs";
 import { dirname, join } from "node:path";

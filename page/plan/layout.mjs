@@ -1,4 +1,5 @@
-// Where everything of a plan's picture stands. Buses are bars; a box hangs under the bus that comes first from above, and its further buses hang under it, each below the port that it is on.
+// Where everything of a plan's picture stands. Buses are bars; a box hangs under the bus that comes first from above,
+// and its further buses hang under it, each below the port that it is on.
 import { columns, fromBytes } from "./bytes.mjs";
 import { portsOf } from "./paths.mjs";
 import { listOf } from "./planner.mjs";
@@ -15,7 +16,8 @@ const nameOf = (list, number) => fromBytes(named(list, number));
 function labelLines({ mode, pgns }) {
     if (mode === 0)
         return ["all"];
-    const shown = pgns.length > PGNS ? [...pgns.slice(0, PGNS - 1), `+${pgns.length - PGNS + 1}`] : pgns, lines = [];
+    const rest = `+${pgns.length - PGNS + 1}`, shown = pgns.length > PGNS ? [...pgns.slice(0, PGNS - 1), rest] : pgns;
+    const lines = [];
     for (let i = 0; i < shown.length; i += 2)
         lines.push(shown.slice(i, i + 2).join(" "));
     return [mode === 1 ? "block" : "pass", ...lines.length > 0 ? lines : ["nothing"]];
@@ -24,17 +26,20 @@ function labelLines({ mode, pgns }) {
 const widthOf = (words, letter) => Math.ceil(letter * columns(words));
 const widest = lines => Math.max(...lines.map(line => widthOf(line, LETTER)));
 
-// The trees of a plan: of each the first segment, under it the units that are on it, under these their further segments.
+// The trees of a plan: of each the first segment, under it the units that are on it, under these their further
+// segments.
 function treesOf(plan) {
     const seen = new Set(), trees = [];
-    const unitsOn = segment => plan.units.map((_, i) => i + 1).filter(unit => portsOf(plan, unit).some(one => one.segment === segment));
+    const isOn = (unit, segment) => portsOf(plan, unit).some(one => one.segment === segment);
+    const unitsOn = segment => plan.units.map((_, i) => i + 1).filter(unit => isOn(unit, segment));
     const treeOf = (segment, above) => {
         seen.add(segment);
         return { segment, units: unitsOn(segment).filter(unit => unit !== above).map(unit => unitOf(unit, segment)) };
     };
     const unitOf = (unit, segment) => {
         const ports = portsOf(plan, unit), port = ports.find(one => one.segment === segment)?.port;
-        return { unit, port, lanes: ports.filter(one => one.port !== port).map(one => ({ ...one, bus: treeOf(one.segment, unit) })) };
+        const others = ports.filter(one => one.port !== port);
+        return { unit, port, lanes: others.map(one => ({ ...one, bus: treeOf(one.segment, unit) })) };
     };
     plan.segments.forEach((_, i) => {
         if (!seen.has(i + 1))
@@ -56,8 +61,9 @@ function measureUnit(plan, box) {
         lane.width = Math.max(LANE_LEAST, lane.bus.width, 2 * Math.max(widest(lane.down), widest(lane.up)) + 52);
     }
     const ports = box.lanes.map(lane => lane.port);
-    box.rows = ports.flatMap(from => ports.filter(to => to !== from).map(to => ({ from, to, list: listOf(plan, box.unit, from, to) })));
-    box.rows = box.rows.filter(row => row.list.mode !== 0);
+    const pairs = ports.flatMap(from => ports.filter(to => to !== from).map(to => ({ from, to })));
+    const rows = pairs.map(pair => ({ ...pair, list: listOf(plan, box.unit, pair.from, pair.to) }));
+    box.rows = rows.filter(row => row.list.mode !== 0);
     const lanes = box.lanes.reduce((sum, lane) => sum + lane.width + GAP, -GAP);
     box.width = Math.max(lanes, widthOf(nameOf(plan.units, box.unit), BOLD) + 2 * PADDING, LANE_LEAST);
     const lines = Math.max(0, ...box.lanes.map(lane => Math.max(lane.down.length, lane.up.length)));
@@ -80,7 +86,8 @@ function placeUnit(box, x, y, into) {
     let left = x + (box.width - used) / 2, lowest = box.bottom;
     for (const lane of box.lanes) {
         lane.middle = left + lane.width / 2;
-        lowest = Math.max(lowest, placeBus(lane.bus, left + (lane.width - lane.bus.width) / 2, box.bottom + STUB, into));
+        const busLeft = left + (lane.width - lane.bus.width) / 2;
+        lowest = Math.max(lowest, placeBus(lane.bus, busLeft, box.bottom + STUB, into));
         left += lane.width + GAP;
     }
     return lowest;
@@ -118,4 +125,4 @@ function layout(plan) {
     return Object.assign(into, { height: lowest + MARGIN });
 }
 
-export { BUS, HEAD, LINE, RADIUS, ROW, STUB, TOP, labelLines, layout, nameOf };
+export { BUS, FOOT, HEAD, LINE, RADIUS, ROW, STUB, TOP, labelLines, layout, nameOf };

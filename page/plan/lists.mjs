@@ -8,8 +8,8 @@ const MODES = ["cleared", "block", "pass"];
 // The pairs of a unit that have a list, in order.
 function listedPairs(plan, unit) {
     const ports = portsOf(plan, unit).map(one => one.port);
-    const pairs = ports.flatMap(from => ports.filter(to => to !== from).map(to => ({ from, to, ...listOf(plan, unit, from, to) })));
-    return pairs.filter(pair => pair.mode !== 0);
+    const pairs = ports.flatMap(from => ports.filter(to => to !== from).map(to => ({ from, to })));
+    return pairs.map(pair => ({ ...pair, ...listOf(plan, unit, pair.from, pair.to) })).filter(pair => pair.mode !== 0);
 }
 
 // `1 2 pass 65097`; a PGN once, as the gateway wants it.
@@ -18,7 +18,8 @@ const pairWords = ({ from, to, mode, pgns }) => [from, to, MODES[mode], ...new S
 // A unit's lists file. No byte of a name is there that the gateway would refuse in a comment.
 function listsFile(plan, unit) {
     const name = named(plan.units, unit).replace(/[\x00-\x1F\x7F]/g, "?");
-    return [`# unit ${name}: FROM TO block|pass PGN ..; a pair without a line is cleared`, ...listedPairs(plan, unit).map(pairWords), ""].join("\n");
+    const head = `# unit ${name}: FROM TO block|pass PGN ..; a pair without a line is cleared`;
+    return [head, ...listedPairs(plan, unit).map(pairWords), ""].join("\n");
 }
 
 // A number as the gateway reads it: decimal without a 0 before it, or hex behind 0x. Not a number for what is none.
@@ -44,7 +45,8 @@ function pairOf(words, ports, known) {
     return { from, to, mode: MODES.indexOf(mode), pgns: pgns.map(numberOf) };
 }
 
-// Reads a lists file for a unit: its pairs, how many lines name senders, which a plan has not, and the first line that is wrong.
+// Reads a lists file for a unit: its pairs, how many lines name senders, which a plan has not, and the first line that
+// is wrong.
 function readLists(text, plan, unit) {
     const ports = portsOf(plan, unit).map(one => one.port), pairs = [];
     let names = 0;
@@ -66,16 +68,18 @@ function readLists(text, plan, unit) {
 // Whether a text is a lists file and no plan: its first word is a number.
 const isLists = text => /^[0-9]/.test(text.replace(/^([ \t\r]*(#[^\n]*)?\n)*[ \t\r]*/, ""));
 
-// A plan's text with a unit's pairs put in place of those that stand there, behind its last port. A comment behind a pair goes with it.
+// A plan's text with a unit's pairs put in place of those that stand there, behind its last port. A comment behind a
+// pair goes with it.
 function putPairs(text, unit, pairs) {
     const lines = text.split("\n"), first = line => line.trim().split(/[ \t\r]/)[0];
     const units = lines.flatMap((line, i) => first(line) === "unit" ? [i] : []);
-    const start = units[unit - 1], next = units[unit] ?? lines.findIndex((line, i) => i > start && first(line) === "ask");
-    const end = next < 0 ? lines.length : next;
+    const start = units[unit - 1], ask = lines.findIndex((line, i) => i > start && first(line) === "ask");
+    const end = units[unit] ?? (ask < 0 ? lines.length : ask);
     const kept = lines.slice(start, end).filter(line => first(line) !== "pair");
     const last = kept.findLastIndex(line => first(line) === "port" || first(line) === "unit");
     const made = pairs.map(pair => `  pair ${pairWords(pair)}`);
-    return [...lines.slice(0, start), ...kept.slice(0, last + 1), ...made, ...kept.slice(last + 1), ...lines.slice(end)].join("\n");
+    const parts = [lines.slice(0, start), kept.slice(0, last + 1), made, kept.slice(last + 1), lines.slice(end)];
+    return parts.flat().join("\n");
 }
 
 export { isLists, listedPairs, listsFile, putPairs, readLists };

@@ -1,5 +1,5 @@
 // The page: the text on the left, its picture, the table and the lines on the right, drawn anew as one types.
-import { columns, escaped, fromBytes, toBytes } from "./bytes.mjs";
+import { escaped, fromBytes, toBytes } from "./bytes.mjs";
 import { nameOf } from "./layout.mjs";
 import { isLists, listedPairs, listsFile, putPairs, readLists } from "./lists.mjs";
 import { answer } from "./paths.mjs";
@@ -9,26 +9,31 @@ import { read } from "./reading.mjs";
 import { cell, rows } from "./table.mjs";
 import { tell, words } from "./telling.mjs";
 
-const LINE = 20, SHOWN = 200;
+// The height of a line of text, as the style has it; how many wrong lines and PGNs are shown at most, and how much of a
+// line.
+const LINE = 20, SHOWN = 200, SHOWN_OF_LINE = 5000;
+
 const of = id => document.getElementById(id);
 
-// What is chosen and known: the question that is shown, the plan as it was read last, and whether the text is saved.
-const state = { planner: null, plan: null, pgn: null, segment: null, saved: "" };
+// What is chosen and known: the question that is shown, the text's lines, the plan read of them, and the text as saved.
+const state = { planner: null, plan: null, lines: [], pgn: null, segment: null, saved: "" };
 
-const question = () => state.pgn !== null && state.segment !== null ? { pgn: state.pgn, segment: state.segment } : null;
+const question = () =>
+    state.pgn !== null && state.segment !== null ? { pgn: state.pgn, segment: state.segment } : null;
 
 function say(words) {
     of("message").textContent = words;
 }
 
+const counted = (count, one, more) => `${count} ${count === 1 ? one : more}`;
+
 // The PGNs that a plan speaks of: those asked first, then those listed.
 function pgnsOf(plan) {
-    const pgns = new Set(plan.asks.map(ask => ask.pgn));
-    plan.units.forEach((_, i) => listedPairs(plan, i + 1).forEach(pair => pair.pgns.forEach(pgn => pgns.add(pgn))));
-    return [...pgns];
+    const listed = plan.units.flatMap((_, i) => listedPairs(plan, i + 1)).flatMap(pair => pair.pgns);
+    return [...new Set([...plan.asks.map(ask => ask.pgn), ...listed])];
 }
 
-function chips(place, choices, chosen, choose) {
+function drawChips(place, choices, chosen, choose) {
     place.replaceChildren(...choices.map(({ value, label }) => {
         const chip = document.createElement("button");
         chip.textContent = label;
@@ -40,13 +45,12 @@ function chips(place, choices, chosen, choose) {
 }
 
 function drawChoice() {
-    const { plan } = state;
-    const choices = pgnsOf(plan).slice(0, SHOWN).map(pgn => ({ value: pgn, label: `${pgn}` }));
-    if (state.pgn !== null && !choices.some(one => one.value === state.pgn))
-        choices.push({ value: state.pgn, label: `${state.pgn}` });
-    chips(of("pgns"), choices, state.pgn, pgn => ask({ pgn }));
+    const { plan } = state, pgns = pgnsOf(plan).slice(0, SHOWN);
+    if (state.pgn !== null && !pgns.includes(state.pgn))
+        pgns.push(state.pgn);
+    drawChips(of("pgns"), pgns.map(pgn => ({ value: pgn, label: `${pgn}` })), state.pgn, pgn => ask({ pgn }));
     const segments = plan.segments.map((_, i) => ({ value: i + 1, label: nameOf(plan.segments, i + 1) }));
-    chips(of("segments"), segments, state.segment, segment => ask({ segment }));
+    drawChips(of("segments"), segments, state.segment, segment => ask({ segment }));
     of("nothing").disabled = state.pgn === null && state.segment === null;
 }
 
@@ -58,28 +62,42 @@ function drawPicture() {
         bus.onclick = choose;
         bus.onkeydown = event => { if (event.key === "Enter") choose(); };
     }
-    const chosen = question();
-    of("answer").textContent = chosen ? summary(chosen) : state.plan.segments.length > 0 ? "Choose a PGN and click the bus where it is sent." : "";
+    of("answer").textContent = summary();
 }
 
-function summary({ pgn, segment }) {
-    const answers = answer(state.plan, state.planner, pgn, segment);
-    const silent = answers.flatMap((one, i) => ["stopped", "no path"].includes(one.told) ? [`${nameOf(state.plan.segments, i + 1)} ${fromBytes(words(state.plan, one))}`] : []);
+// The answer in words, with what was left out.
+function summary() {
+    const { plan } = state, chosen = question(), wrong = plan.wrong.length;
+    if (!chosen)
+        return plan.segments.length > 0 ? "Choose a PGN and click the bus where it is sent." : "";
+    const answers = answer(plan, state.planner, chosen.pgn, chosen.segment);
     const heard = answers.filter(one => one.told === "heard").length;
-    return [`${heard} of ${answers.length - 1} other buses hear it.`, ...silent].join(" \u2014 ");
+    const silent = answers.flatMap((one, i) => one.told === "stopped" || one.told === "no path"
+        ? [`${nameOf(plan.segments, i + 1)} ${fromBytes(words(plan, one))}`] : []);
+    const parts = [`${heard} of ${counted(answers.length - 1, "other bus hears", "other buses hear")} it.`, ...silent];
+    const out = wrong > 0 ? `Without the ${counted(wrong, "line that is", "lines that are")} wrong: ` : "";
+    return out + parts.join(" \u2014 ");
 }
 
 // A row for each question; a click on it shows it.
 function drawTable() {
-    const { plan } = state;
-    const head = ["PGN", "", "sent on", ...plan.segments.map((_, i) => nameOf(plan.segments, i + 1))].map(name => `<th>${escaped(name)}</th>`);
-    const body = rows(plan, state.planner).map(row => {
-        const cells = row.answers.map(one => `<td class="${one.told}" title="${escaped(fromBytes(words(plan, one)))}">${escaped(cell(one))}</td>`);
-        const isChosen = row.pgn === state.pgn && row.segment === state.segment;
-        return `<tr class="${isChosen ? "chosen" : ""}" data-pgn="${row.pgn}" data-segment="${row.segment}"><td><button>${row.pgn}</button></td>`
-            + `<td class="comment">${escaped(fromBytes(row.comment))}</td><td>${escaped(nameOf(plan.segments, row.segment))}</td>${cells.join("")}</tr>`;
+    const { plan } = state, segments = plan.segments.map((_, i) => nameOf(plan.segments, i + 1));
+    const head = ["PGN", "", "sent on", ...segments].map(name => `<th>${escaped(name)}</th>`);
+    const body = rows(plan, state.planner, plan.asks).map(row => {
+        const cells = row.answers.map(one => {
+            const whole = escaped(fromBytes(words(plan, one)));
+            return `<td class="${one.told}" title="${whole}">${escaped(cell(one))}</td>`;
+        });
+        const asked = [
+            `<td><button>${row.pgn}</button></td>`, `<td class="comment">${escaped(fromBytes(row.comment))}</td>`,
+            `<td>${escaped(segments[row.segment - 1])}</td>`,
+        ];
+        const kind = row.pgn === state.pgn && row.segment === state.segment ? "chosen" : "";
+        const chosen = `data-pgn="${row.pgn}" data-on="${row.segment}"`;
+        return `<tr class="${kind}" ${chosen}>${[...asked, ...cells].join("")}</tr>`;
     });
-    of("table").innerHTML = body.length > 0 ? `<table><thead><tr>${head.join("")}</tr></thead><tbody>${body.join("")}</tbody></table>` : "";
+    const table = `<table><thead><tr>${head.join("")}</tr></thead><tbody>${body.join("")}</tbody></table>`;
+    of("table").innerHTML = body.length > 0 ? table : "";
 }
 
 function drawWrong() {
@@ -96,18 +114,19 @@ function drawWrong() {
 }
 
 function goTo(line) {
-    const text = of("text"), lines = text.value.split("\n"), start = lines.slice(0, line - 1).join("\n").length + (line > 1 ? 1 : 0);
+    const text = of("text"), before = state.lines.slice(0, line - 1).reduce((sum, one) => sum + one.length + 1, 0);
     text.focus();
-    text.setSelectionRange(start, start + lines[line - 1].length);
+    text.setSelectionRange(before, before + state.lines[line - 1].length);
     text.scrollTop = Math.max(0, LINE * (line - 4));
     drawMarks();
 }
 
 // The numbers of the lines in sight, and what is wrong with them at its place.
 function drawMarks() {
-    const text = of("text"), first = Math.floor(text.scrollTop / LINE) + 1, last = first + Math.ceil(text.clientHeight / LINE);
-    const { lines } = state, wrong = new Map(state.plan.wrong.filter(one => one.line >= first && one.line <= last).map(one => [one.line, one]));
-    const numbers = [], marks = [];
+    const text = of("text"), { lines, plan } = state, numbers = [], marks = [];
+    const first = Math.floor(text.scrollTop / LINE) + 1, last = first + Math.ceil(text.clientHeight / LINE);
+    const inSight = plan.wrong.filter(one => one.line >= first && one.line <= last);
+    const wrong = new Map(inSight.map(one => [one.line, one]));
     for (let line = first; line <= Math.min(last, lines.length); line++) {
         const top = LINE * (line - 1) - text.scrollTop, found = wrong.get(line);
         numbers.push(`<div class="${found ? "bad" : ""}" style="top:${top}px">${line}</div>`);
@@ -119,15 +138,18 @@ function drawMarks() {
 }
 
 function mark(line, { from, to, why }, top, left) {
-    const bytes = toBytes(line.slice(0, 5000)), part = (a, b) => escaped(fromBytes(bytes.slice(a, b)));
-    return `<div style="top:${top}px;left:${left}px">${part(0, from)}<span class="word">${part(from, to)}</span>${part(to)}<span class="why">${escaped(fromBytes(why))}</span></div>`;
+    const bytes = toBytes(line.slice(0, SHOWN_OF_LINE)), part = (a, b) => escaped(fromBytes(bytes.slice(a, b)));
+    const word = `<span class="word">${part(from, to)}</span>`;
+    const told = `<span class="why">${escaped(fromBytes(why))}</span>`;
+    return `<div style="top:${top}px;left:${left}px">${part(0, from)}${word}${part(to)}${told}</div>`;
 }
 
 function drawUnits() {
-    const select = of("unit"), chosen = select.value;
-    select.replaceChildren(...state.plan.units.map((_, i) => new Option(nameOf(state.plan.units, i + 1), i + 1)));
-    select.value = state.plan.units.length >= Number(chosen) && chosen ? chosen : state.plan.units.length > 0 ? "1" : "";
-    of("save-lists").disabled = state.plan.units.length === 0;
+    const { units } = state.plan, select = of("unit"), chosen = Number(select.value);
+    select.replaceChildren(...units.map((_, i) => new Option(nameOf(units, i + 1), i + 1)));
+    if (units.length > 0)
+        select.value = chosen >= 1 && chosen <= units.length ? chosen : 1;
+    of("save-lists").disabled = units.length === 0 || state.plan.wrong.length > 0;
 }
 
 function draw() {
@@ -143,7 +165,7 @@ function refresh() {
     state.plan = read(toBytes(text), state.planner);
     if (state.segment > state.plan.segments.length)
         state.segment = null;
-    of("lines").textContent = tell(state.plan, state.planner).map(fromBytes).join("\n");
+    of("lines").textContent = fromBytes(tell(state.plan, state.planner).join("\n"));
     drawWrong();
     drawUnits();
     draw();
@@ -182,14 +204,17 @@ async function textOf(file) {
 
 // The lists file goes to the unit that is chosen.
 function putLists(text) {
-    const unit = Number(of("unit").value), read = unit ? readLists(toBytes(text), state.plan, unit) : { wrong: "the plan has no unit" };
-    if (read.wrong) {
-        say(`Lists file: ${fromBytes(read.wrong)}. Nothing is changed.`);
+    const unit = Number(of("unit").value);
+    const none = { wrong: "the plan has no unit" };
+    const { wrong, pairs, names } = unit ? readLists(toBytes(text), state.plan, unit) : none;
+    if (wrong) {
+        say(`Lists file: ${fromBytes(wrong)}. Nothing is changed.`);
         return;
     }
-    setText(putPairs(of("text").value, unit, read.pairs));
-    const names = read.names > 0 ? ` ${read.names} lines by NAME are left out: a plan knows no senders.` : "";
-    say(`Unit ${nameOf(state.plan.units, unit)} has the ${read.pairs.length} lists of the file.${names}`);
+    setText(putPairs(of("text").value, unit, pairs));
+    const lists = `${nameOf(state.plan.units, unit)} has ${counted(pairs.length, "list", "lists")} of the file.`;
+    const left = names > 0 ? ` ${counted(names, "line", "lines")} by NAME left out: a plan knows no senders.` : "";
+    say(`Unit ${lists}${left}`);
 }
 
 async function take(file) {
@@ -203,47 +228,73 @@ async function take(file) {
         setText(text);
 }
 
-function listen() {
+// A PGN typed, decimal or hex.
+function takePgn() {
+    const word = of("pgn").value.trim(), pgn = /^([0-9]+|0[xX][0-9a-fA-F]+)$/.test(word) ? Number(word) : NaN;
+    of("pgn").classList.toggle("bad", word !== "" && !isPgn(pgn));
+    if (isPgn(pgn))
+        ask({ pgn });
+}
+
+function listenToFiles() {
     const text = of("text"), left = of("left");
-    text.addEventListener("input", () => { say(""); refresh(); });
-    text.addEventListener("scroll", drawMarks);
-    new ResizeObserver(drawMarks).observe(text);
     for (const id of ["open", "open-lists"])
-        of(id).onchange = event => { take(event.target.files[0]); event.target.value = ""; };
-    of("save-text").onclick = () => { save("machine.plan", "text/plain", text.value); state.saved = text.value; };
-    of("save-picture").onclick = () => save("machine.svg", "image/svg+xml", picture(state.plan, state.planner, question()));
-    of("save-lists").onclick = () => save(`lists-${of("unit").value}.txt`, "text/plain", fromBytes(listsFile(state.plan, Number(of("unit").value))));
-    of("size").onclick = () => of("size").setAttribute("aria-pressed", of("picture").classList.toggle("large"));
-    of("nothing").onclick = () => ask({ pgn: null, segment: null });
-    of("table").onclick = event => {
-        const row = event.target.closest("tr[data-pgn]");
-        if (row)
-            ask({ pgn: Number(row.dataset.pgn), segment: Number(row.dataset.segment) });
+        of(id).onchange = event => {
+            take(event.target.files[0]);
+            event.target.value = "";
+        };
+    of("save-text").onclick = () => {
+        save("machine.plan", "text/plain", text.value);
+        state.saved = text.value;
     };
-    of("pgn").onchange = () => {
-        const pgn = /^([0-9]+|0[xX][0-9a-fA-F]+)$/.test(of("pgn").value.trim()) ? Number(of("pgn").value) : NaN;
-        of("pgn").classList.toggle("bad", of("pgn").value !== "" && !isPgn(pgn));
-        if (isPgn(pgn))
-            ask({ pgn });
+    of("save-picture").onclick = () =>
+        save("machine.svg", "image/svg+xml", picture(state.plan, state.planner, question()));
+    of("save-lists").onclick = () => {
+        const unit = Number(of("unit").value);
+        save(`lists-${unit}.txt`, "text/plain", fromBytes(listsFile(state.plan, unit)));
     };
-    window.addEventListener("dragover", event => { event.preventDefault(); left.classList.add("over"); });
+    window.addEventListener("dragover", event => {
+        event.preventDefault();
+        left.classList.add("over");
+    });
     window.addEventListener("dragleave", () => left.classList.remove("over"));
     window.addEventListener("drop", event => {
         event.preventDefault();
         left.classList.remove("over");
         take(event.dataTransfer.files[0]);
     });
-    window.addEventListener("beforeunload", event => { if (text.value !== state.saved) event.preventDefault(); });
+    window.addEventListener("beforeunload", event => {
+        if (text.value !== state.saved)
+            event.preventDefault();
+    });
+}
+
+function listen() {
+    const text = of("text");
+    text.addEventListener("input", () => {
+        say("");
+        refresh();
+    });
+    text.addEventListener("scroll", drawMarks);
+    new ResizeObserver(drawMarks).observe(text);
+    of("size").onclick = () => of("size").setAttribute("aria-pressed", of("picture").classList.toggle("large"));
+    of("nothing").onclick = () => ask({ pgn: null, segment: null });
+    of("pgn").onchange = takePgn;
+    of("table").onclick = event => {
+        const row = event.target.closest("tr[data-pgn]");
+        if (row)
+            ask({ pgn: Number(row.dataset.pgn), segment: Number(row.dataset.on) });
+    };
+    listenToFiles();
 }
 
 async function start() {
     state.planner = await Planner.of(bytesOfBase64(of("module").textContent));
-    listen();
-    setText(of("bundled").textContent.trim() + "\n");
+    setText(`${of("bundled").textContent.trim()}\n`);
     state.saved = of("text").value;
+    listen();
     const [first] = state.plan.asks;
-    if (first)
-        ask({ pgn: first.pgn, segment: first.segment });
+    ask({ pgn: first.pgn, segment: first.segment });
     document.body.dataset.ready = "yes";
 }
 

@@ -7,7 +7,8 @@ function portsOf(plan, unit) {
     return ports.filter(one => one.segment !== 0);
 }
 
-// The steps from a segment to each that a path leads to, in a plan's first units. A step goes through a unit from one of its ports to another.
+// The steps from a segment to each that a path leads to, in a plan's first units. A step goes through a unit from one
+// of its ports to another.
 function pathsFrom(plan, units, first) {
     const paths = new Map([[first, []]]);
     for (const [segment, steps] of paths)
@@ -20,9 +21,11 @@ function pathsFrom(plan, units, first) {
     return paths;
 }
 
-// A question answered: for each segment what it is told. Who hears is the planner's word; a PGN stops on the way to the first segment of a path that does not.
+// A question answered: for each segment what it is told. Who hears is the planner's word; a PGN stops on the way to the
+// first segment of a path that does not.
 function answer(plan, planner, pgn, first) {
-    const heard = planner.hear(plan, plan.units.length, first, pgn), paths = pathsFrom(plan, plan.units.length, first);
+    const units = plan.units.length, heard = planner.hear(plan, units, first, pgn);
+    const paths = pathsFrom(plan, units, first);
     return plan.segments.map((_, i) => {
         const segment = i + 1, steps = paths.get(segment);
         if (segment === first)

@@ -1,6 +1,8 @@
-// The picture, the table and a unit's lists file of a plan at the shell, by the page's own code and the proved planner inside page/plan.html. `./plan` calls it, with the plan on standard input.
+// The picture, the table and a unit's lists file of a plan at the shell, by the page's own code and the proved planner
+// inside page/plan.html. `./plan` calls it, with the plan on standard input.
 // usage: node page/plan/shell.mjs svg [QUESTION] | table | lists UNIT
-// Status: 0; 1 if a line is wrong, which is told on standard error; 2 for wrong arguments and if something could not be read or written.
+// Status: 0; 1 if a line is wrong, which is told on standard error; 2 for wrong arguments and if something could not be
+// read or written.
 import { readFileSync, writeSync } from "node:fs";
 import { arrayOf, columns, fromBytes } from "./bytes.mjs";
 import { listsFile } from "./lists.mjs";
@@ -20,10 +22,14 @@ function numberOf(word, count, what) {
 
 const made = {
     svg: (plan, planner, question) =>
-        picture(plan, planner, question ? plan.asks[numberOf(question, plan.asks.length, "question") - 1] : null),
-    table: (plan, planner) => arrayOf(table(plan, planner, word => columns(fromBytes(word))).map(line => `${line}\n`).join("")),
+        picture(plan, planner, question ? plan.asks[numberOf(question, plan.answered, "answered question") - 1] : null),
+    table: (plan, planner) => {
+        const lines = table(plan, planner, word => columns(fromBytes(word)));
+        return arrayOf(lines.map(line => `${line}\n`).join(""));
+    },
     // Of a wrong plan there is no lists file: it would let other PGNs through than the plan was to.
-    lists: (plan, planner, unit) => plan.wrong.length > 0 ? "" : arrayOf(listsFile(plan, numberOf(unit, plan.units.length, "unit"))),
+    lists: (plan, planner, unit) =>
+        plan.wrong.length > 0 ? "" : arrayOf(listsFile(plan, numberOf(unit, plan.units.length, "unit"))),
 };
 
 function writeAll(content) {

@@ -16,17 +16,18 @@ function words(plan, { told, stop }) {
     return `does not hear it: unit ${unit}, port ${stop.from} to port ${stop.to}: ${reasonWords(stop.mode)}`;
 }
 
-// The lines of all questions; then how much there was, or what is wrong.
+// The lines of the questions that are answered, and of the lines that are wrong, which come behind them; then how much
+// there was.
 function tell(plan, planner) {
-    const lines = plan.asks.flatMap(({ pgn, segment }) => [
+    const answers = plan.asks.slice(0, plan.answered).flatMap(({ pgn, segment }) => [
         `PGN ${pgn} sent on segment ${named(plan.segments, segment)}`,
         ...answer(plan, planner, pgn, segment).map((one, i) => `  ${named(plan.segments, i + 1)}: ${words(plan, one)}`),
     ]);
-    if (plan.wrong.length > 0)
-        lines.push(...plan.wrong.map(({ line, why }) => `? line ${line}: ${why}`));
-    else
-        lines.push(`segments ${plan.segments.length}, units ${plan.units.length}, answers ${plan.asks.length}`);
-    return lines;
+    const wrong = plan.wrong.map(({ line, why }) => `? line ${line}: ${why}`);
+    const end = plan.wrong.length > 0
+        ? `wrong lines ${plan.wrong.length}`
+        : `segments ${plan.segments.length}, units ${plan.units.length}, answers ${plan.asks.length}`;
+    return [...answers, ...wrong, end];
 }
 
 export { named, tell, words };

@@ -1,6 +1,8 @@
-"""The plan page in chromium, opened from the disk: the bundled machine, a ring, 16 units of 8 ports, umlauts, a megabyte of garbage, files in and out.
+"""The plan page in chromium, opened from the disk: the bundled machine, a ring, 16 units of 8 ports, umlauts, a
+megabyte of garbage, files in and out.
 
-usage: plan_chromium.py ROOT FOLDER, the clone, and where screenshots and downloads go. The proved program has to be there. Lines that begin with ok or FAIL.
+usage: plan_chromium.py ROOT FOLDER, the clone, and where screenshots and downloads go. The proved program has to be
+there. Lines that begin with ok or FAIL.
 """
 import os
 import pathlib
@@ -28,11 +30,13 @@ def judge(name, right, detail=""):
 
 def browser():
     options = webdriver.ChromeOptions()
-    for word in ["--headless=new", "--disable-gpu", "--disable-dev-shm-usage", "--window-size=1500,1000", "--hide-scrollbars"]:
-        options.add_argument(word)
+    words = ["headless=new", "disable-gpu", "disable-dev-shm-usage", "window-size=1500,1000", "hide-scrollbars"]
+    for word in words:
+        options.add_argument(f"--{word}")
     if os.getuid() == 0:  # it runs without a sandbox or not at all
         options.add_argument("--no-sandbox")
-    options.add_experimental_option("prefs", {"download.default_directory": str(FOLDER), "profile.default_content_setting_values.automatic_downloads": 1})
+    automatic = "profile.default_content_setting_values.automatic_downloads"
+    options.add_experimental_option("prefs", {"download.default_directory": str(FOLDER), automatic: 1})
     options.set_capability("goog:loggingPrefs", {"browser": "ALL", "performance": "ALL"})
     return webdriver.Chrome(service=Service("/usr/bin/chromedriver"), options=options)
 
@@ -52,7 +56,11 @@ class Page:
     def put(self, text):
         """Types a text, all at once; gives the seconds until it is drawn."""
         begin = time.monotonic()
-        self.driver.execute_script("const box = document.getElementById('text'); box.value = arguments[0]; box.dispatchEvent(new Event('input'));", text)
+        self.driver.execute_script(
+            "const box = document.getElementById('text'); box.value = arguments[0];"
+            "box.dispatchEvent(new Event('input'));",
+            text,
+        )
         return time.monotonic() - begin
 
     def told(self):
@@ -62,10 +70,18 @@ class Page:
         return self.driver.find_elements(By.CSS_SELECTOR, selector)
 
     def texts(self, selector):
-        return self.driver.execute_script("return [...document.querySelectorAll(arguments[0])].map(one => one.textContent)", selector)
+        script = "return [...document.querySelectorAll(arguments[0])].map(one => one.textContent)"
+        return self.driver.execute_script(script, selector)
 
     def click(self, selector):
-        self.driver.execute_script("const one = document.querySelector(arguments[0]); one.scrollIntoView(); one.dispatchEvent(new MouseEvent('click', { bubbles: true }));", selector)
+        self.driver.execute_script(
+            "const one = document.querySelector(arguments[0]); one.scrollIntoView();"
+            "one.dispatchEvent(new MouseEvent('click', { bubbles: true }));",
+            selector,
+        )
+
+    def choose_unit(self, unit):
+        self.driver.execute_script("document.getElementById('unit').value = arguments[0]", unit)
 
     def shot(self, name):
         self.driver.execute_script("for (const id of ['right', 'picture']) document.getElementById(id).scrollTo(0, 0)")
@@ -84,7 +100,10 @@ class Page:
         """A file dropped on the page."""
         self.driver.execute_script(
             "const data = new DataTransfer(); data.items.add(new File([Uint8Array.from(arguments[1])], arguments[0]));"
-            "window.dispatchEvent(new DragEvent('drop', { dataTransfer: data, bubbles: true, cancelable: true }));", name, list(content))
+            "window.dispatchEvent(new DragEvent('drop', { dataTransfer: data, bubbles: true, cancelable: true }));",
+            name,
+            list(content),
+        )
         time.sleep(0.5)
 
 
@@ -92,16 +111,21 @@ def bundled(page):
     machine = (ROOT / "reference/scripts/machine.plan").read_text()
     judge("the bundled machine is told as by the program", page.told() == printed(machine), page.told())
     judge("6 buses and 3 boxes are drawn", (len(page.all("#picture .bus")), len(page.all("#picture .box"))) == (6, 3))
-    judge("a table of 7 questions by 6 buses", (len(page.all("tbody tr")), len(page.all("tbody tr:first-child td"))) == (7, 9))
+    size = (len(page.all("tbody tr")), len(page.all("tbody tr:first-child td")))
+    judge("a table of 7 questions by 6 buses", size == (7, 9), size)
     page.click("#pgns [data-value='51968']")
     page.click("#picture .bus[data-segment='4']")
-    kinds = [bus.get_attribute("class").split()[1] for bus in sorted(page.all("#picture .bus"), key=lambda bus: int(bus.get_attribute("data-segment")))]
-    judge("a PGN and a bus that are clicked colour who hears", kinds == ["stopped", "heard", "stopped", "sent", "stopped", "nopath"], kinds)
+    buses = sorted(page.all("#picture .bus"), key=lambda bus: int(bus.get_attribute("data-segment")))
+    kinds = [bus.get_attribute("class").split()[1] for bus in buses]
+    wanted = ["stopped", "heard", "stopped", "sent", "stopped", "nopath"]
+    judge("a PGN and a bus that are clicked colour who hears", kinds == wanted, kinds)
     verdicts = {box: page.texts(f"#picture .box[data-unit='{box}'] .verdict text") for box in (1, 2, 3)}
-    judge("the pair and the reason stand in the box where it stops", verdicts == {1: ["\u2715 2 to 1 stopped", "as listed"], 2: ["\u2715 3 to 2 stopped", "as not listed"], 3: []}, verdicts)
+    wanted = {1: ["\u2715 2 to 1 stopped", "as listed"], 2: ["\u2715 3 to 2 stopped", "as not listed"], 3: []}
+    judge("the pair and the reason stand in the box where it stops", verdicts == wanted, verdicts)
     page.click("tbody tr:nth-child(2)")
     page.shot("plan-page")
-    judge("a row of the table is shown", page.texts("#picture .caption") == ["PGN 65267 sent on segment 1 tractor"], page.texts("#picture .caption"))
+    caption = page.texts("#picture .caption")
+    judge("a row of the table is shown", caption == ["PGN 65267 sent on segment 1 tractor"], caption)
     page.click("#nothing")
     judge("no question", page.texts("#picture .caption, #picture .verdict") == [])
 
@@ -112,17 +136,20 @@ def files(page):
     page.click("tbody tr:nth-child(2)")
     picture = xml.etree.ElementTree.fromstring(page.download("machine.svg", "#save-picture"))
     judge("the picture is saved whole", picture.tag.endswith("svg") and len(picture.findall(".//{*}rect")) > 9)
-    page.driver.execute_script("document.getElementById('unit').value = '2'")
+    page.choose_unit(2)
     lists = page.download("lists-2.txt", "#save-lists")
-    judge("the lists file of a unit is saved", lists.splitlines()[1:] == ["1 2 block 65267", "1 3 pass 65097 65267", "2 3 pass", "3 2 pass"], lists)
+    wanted = ["1 2 block 65267", "1 3 pass 65097 65267", "2 3 pass", "3 2 pass"]
+    judge("the lists file of a unit is saved", lists.splitlines()[1:] == wanted, lists)
     told = page.told()
     page.put("\n".join(line for line in machine.splitlines() if not line.startswith("  pair 1 2 block 65267")))
     judge("without a list another bus hears", page.told() != told)
-    page.driver.execute_script("document.getElementById('unit').value = '2'")
+    page.choose_unit(2)
     page.drop("lists-2.txt", lists.encode())
     judge("the lists file is put in again", page.told() == told, page.texts("#message"))
     page.drop("lists-2.txt", b"1 2 block 65267 0xEF01\n")
-    judge("a wrong lists file changes nothing and is told", page.told() == told and page.texts("#message") == ['Lists file: line 1: "0xEF01" is no PGN. Nothing is changed.'], page.texts("#message"))
+    said = page.texts("#message")
+    wanted = ['Lists file: line 1: "0xEF01" is no PGN. Nothing is changed.']
+    judge("a wrong lists file changes nothing and is told", page.told() == told and said == wanted, said)
     page.drop("other.plan", b"segment 1 tractor\r\nask 65097 segment 1\r\n")
     judge("a plan is dropped", page.told() == printed("segment 1 tractor\nask 65097 segment 1\n"), page.told())
 
@@ -131,40 +158,51 @@ def wrong_lines(page):
     for text in (TEXTS / "ring.plan").read_text(), (TEXTS / "wrong.plan").read_text():
         page.put(text)
         judge("a wrong text is told as by the program", page.told() == printed(text), page.told())
-    marks = [(mark.text, mark.find_element(By.CSS_SELECTOR, ".word").text) for mark in page.all("#marks div")]
-    judge("the wrong word is marked where it stands", [word for _, word in marks] == ["65267,65256"], marks)
+    words = page.texts("#marks .word")
+    judge("each wrong word is marked where it stands", words == ["loader", "65267,65256", "0xEF01", "trailer"], words)
+    judge("each wrong line is listed", len(page.all("#wrong li")) == 4 and not page.all("#save-lists:enabled"))
     page.put((TEXTS / "ring.plan").read_text())
-    names = page.texts("#picture .box.ringed .name") + page.texts("#picture .bus.ringed text")
-    judge("the ring is drawn with its names", page.all("#picture .closing") and page.all("#picture .around") and {"1 tractor", "1 cab", "3 drawbar"} <= set(names), names)
+    names = set(page.texts("#picture .box.ringed .name") + page.texts("#picture .bus.ringed text"))
+    drawn = page.all("#picture .closing") and page.all("#picture .around")
+    judge("the ring is drawn with its names", drawn and {"1 tractor", "1 cab", "3 drawbar"} <= names, names)
     page.shot("plan-ring")
 
 
 def large(page):
     text = (TEXTS / "large.plan").read_text()
     seconds = page.put(text)
-    judge("16 units, two of 8 ports with all their lists, are told as by the program", page.told() == printed(text), page.told()[-300:])
-    judge("they are drawn within a second", seconds < 1 and len(page.all("#picture .box")) == 16, seconds)
+    told = page.told()
+    judge("16 units, two of 8 ports with all lists, are told as by the program", told == printed(text), told[-300:])
+    judge("they are drawn within two seconds", seconds < 2 and len(page.all("#picture .box")) == 16, seconds)
     page.click("tbody tr:nth-child(1)")
     page.shot("plan-large")
-    full = "".join(f"segment {n}\n" for n in range(1, 17)) + "".join(
-        f"unit {unit}\n" + "".join(f"port {port} segment {(unit + port) % 16 + 1}\n" for port in range(1, 9)) for unit in range(1, 17))
-    page.put(full)
-    judge("16 units with 8 ports each are a ring, told as by the program", page.told() == printed(full) and "(29)" in page.told(), page.told()[-300:])
+    lines = [f"segment {segment}" for segment in range(1, 17)]
+    for unit in range(1, 17):
+        lines += [f"unit {unit}"] + [f"port {port} segment {(unit + port) % 16 + 1}" for port in range(1, 9)]
+    full = "\n".join(lines)
+    seconds = page.put(full)
+    told = page.told()
+    is_same = told == printed(full) and told.count("(29)") > 90
+    judge("16 units with 8 ports each are told as by the program, ring by ring", is_same, told[-300:])
+    judge("they are told within five seconds", seconds < 5, seconds)
 
 
 def umlauts(page):
     text = (TEXTS / "umlauts.plan").read_text()
     page.put(text)
     judge("umlauts are told as by the program", page.told() == printed(text), page.told())
-    judge("umlauts are drawn", {"1 Schlepper-Ü", "2 Anhänger"} <= set(page.texts("#picture .bus text")), page.texts("#picture .bus text"))
+    drawn = page.texts("#picture .bus text")
+    judge("umlauts are drawn", {"1 Schlepper-Ü", "2 Anhänger"} <= set(drawn), drawn)
     page.drop("old.plan", text.encode("windows-1252"))
-    judge("a file of Windows-1252 is read and told so", page.told() == printed(text) and "Windows-1252" in page.texts("#message")[0], page.texts("#message"))
+    said = page.texts("#message")
+    is_read = page.told() == printed(text) and "Windows-1252" in said[0]
+    judge("a file of Windows-1252 is read and told so", is_read, said)
 
 
 def garbage(page):
     made = random.Random(44)
     letters = "".join(map(chr, range(32, 127))) + "\n\t\u00e4\u0416\u4e2d\U0001f69c"
-    words = ["segment", "unit", "port", "pair", "ask", "1", "2", "pass", "block", "65097", "\n", "#", "\"", "0xFEF1"]
+    words = ["segment", "unit", "port", "pair", "ask", "1", "2", "pass", "block", "65097", "\n", "#", '"', "0xFEF1"]
     megabyte = {
         "letters": "".join(made.choices(letters, k=1_000_000)),
         "words": " ".join(made.choices(words, k=250_000)),
@@ -173,23 +211,26 @@ def garbage(page):
         "empty lines": "\n" * 1_000_000,
     }
     for name, text in megabyte.items():
-        seconds = page.put(text)
         # the browser's own box takes its time with a million lines
-        most = 60 if name == "empty lines" else 10
-        judge(f"1 MB of {name}: told as by the program, within {most} s", page.told() == printed(text) and seconds < most, f"{seconds} s: {page.told()[:200]}")
-    judge("behind it the page goes on", page.put("segment 1\nask 0 segment 1\n") < 10 and page.told() == printed("segment 1\nask 0 segment 1\n"))
+        most = 60 if name == "empty lines" else 20
+        seconds = page.put(text)
+        is_same = page.told() == printed(text)
+        judge(f"1 MB of {name}: told as by the program, within {most} s", is_same and seconds < most, f"{seconds} s")
+    small = "segment 1\nask 0 segment 1\n"
+    judge("behind it the page goes on", page.put(small) < 20 and page.told() == printed(small))
 
 
 def every_example(page):
     texts = (ROOT / "crates/plan_examples/stdin").read_bytes().split(b"\f")[:-1]
-    shown = [text.decode() for text in texts if b"\xff" not in text and is_utf8(text)]
+    shown = [text.decode() for text in texts if is_utf8(text)]
     differing = []
     for text in shown:
         # the box has no carriage return
         page.put(text.replace("\r\n", "\n").replace("\r", " "))
         if page.told() != printed(text):
             differing.append(text)
-    judge(f"{len(shown)} texts of plan_examples, typed into the page, are told as by the program", len(shown) > 80 and not differing, differing[:1])
+    name = f"{len(shown)} texts of plan_examples, typed into the page, are told as by the program"
+    judge(name, len(shown) > 80 and not differing, differing[:1])
 
 
 def is_utf8(text):
@@ -206,8 +247,9 @@ def main():
         page = Page(driver)
         for part in (bundled, files, wrong_lines, large, umlauts, garbage, every_example):
             part(page)
-        asked = [entry["message"] for entry in driver.get_log("performance") if "Network.requestWillBeSent\"" in entry["message"]]
-        away = [one for one in asked if '"url":"file:' not in one and '"url":"blob:' not in one and '"url":"data:' not in one]
+        log = [entry["message"] for entry in driver.get_log("performance")]
+        asked = [message for message in log if 'Network.requestWillBeSent"' in message]
+        away = [one for one in asked if not any(f'"url":"{kind}:' in one for kind in ("file", "blob", "data"))]
         judge("nothing is asked of a network", len(asked) > 0 and not away, away)
         errors = [entry["message"] for entry in driver.get_log("browser") if entry["level"] == "SEVERE"]
         judge("no error in the console", not errors, errors)

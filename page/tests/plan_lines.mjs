@@ -1,5 +1,7 @@
-// The page's reader and the proved program `plan` on the same texts: those of `plan_examples`, then generated ones, right and wrong; each must give the same lines. Then the lists file of every unit, and back.
-// usage: node page/tests/plan_lines.mjs PLAN EXAMPLES TEXTS, the program, the texts of plan_examples and the generated ones, each text ended by a form feed
+// The page's reader and the proved program `plan` on the same texts: those of `plan_examples`, then generated ones,
+// right and wrong; each must give the same lines. Then the lists file of every unit, and back.
+// usage: node page/tests/plan_lines.mjs PLAN EXAMPLES TEXTS, the program, the texts of plan_examples and the generated
+// ones, each text ended by a form feed
 import { spawnSync } from "node:child_process";
 import { readFileSync } from "node:fs";
 import { isLists, listsFile, putPairs, readLists } from "../plan/lists.mjs";
@@ -30,8 +32,11 @@ function compare(what, texts) {
     }
     if (right === 0 || right === texts.length)
         throw new Error(`${what}: all right or all wrong`);
-    console.log(`ok ${what}: the same lines for ${texts.length} texts, ${right} right and ${texts.length - right} with a wrong line`);
+    const wrong = texts.length - right;
+    console.log(`ok ${what}: the same lines for ${texts.length} texts, ${right} right and ${wrong} with a wrong line`);
 }
+
+const told = plan => tell(plan, planner).join("\n");
 
 // A unit's lists, taken out of the text and put in again from its lists file, make the same plan.
 function thereAndBack(texts) {
@@ -39,12 +44,13 @@ function thereAndBack(texts) {
     for (const text of texts) {
         const plan = read(text, planner);
         for (let unit = 1; plan.wrong.length === 0 && unit <= plan.units.length; unit++) {
-            const file = listsFile(plan, unit), without = putPairs(text, unit, []), back = readLists(file, read(without, planner), unit);
+            const file = listsFile(plan, unit), hasLists = file.split("\n").length > 2;
+            const without = putPairs(text, unit, []), back = readLists(file, read(without, planner), unit);
             const again = read(putPairs(without, unit, back.pairs ?? []), planner);
-            const same = (a, b) => listsFile(a, unit) === listsFile(b, unit) && tell(a, planner).join("\n") === tell(b, planner).join("\n");
-            if (back.wrong || back.names !== 0 || (file.split("\n").length > 2 && !isLists(file)) || !same(plan, again))
+            const isSame = listsFile(again, unit) === file && told(again) === told(plan);
+            if (back.wrong || back.names !== 0 || hasLists && !isLists(file) || !isSame)
                 fail(`lists of unit ${unit}`, text, file.split("\n"), listsFile(again, unit).split("\n"));
-            units += file.split("\n").length > 2 ? 1 : 0;
+            units += hasLists ? 1 : 0;
         }
     }
     if (units === 0)

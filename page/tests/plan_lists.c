@@ -1,4 +1,5 @@
-/* A lists file from standard input as the gateway reads it, printed as the gateway saves it; status 1 with the first wrong line. */
+/* A lists file from standard input as the gateway reads it, printed as the gateway saves it; status 1 with the first
+   wrong line. */
 #include "lists.h"
 
 #include <stdio.h>

@@ -385,18 +385,41 @@ pub fn text(random: &mut Random) -> String {
     }
     let Question { segments, units, first, pgn } = case.question;
     let mut lines = vec!["# generated".to_string()];
-    lines.extend((1..=segments).map(|segment| format!("segment {segment}{}", name(random, "bus"))));
+    let names: Vec<Name> = (0..segments).map(|_| name(random, "bus")).collect();
+    lines.extend(names.iter().zip(1..).map(|(name, segment)| format!("segment {segment}{}", name.written)));
     for unit in 1..=units {
         lines.push(String::new());
-        lines.push(format!("unit {unit}{}", name(random, "box")));
-        lines.extend(unit_lines(random, &case, unit));
+        lines.push(format!("unit {unit}{}", name(random, "box").written));
+        lines.extend(unit_lines(random, &case, &names, unit));
     }
     lines.push(format!("ask {pgn} segment {first} # as it was made"));
     for _ in 0..random.below(6) {
         let pgn = random.pick(&[pgn, pgn, 60928, 59904, 65256, pgn ^ 0x20000]);
-        lines.push(format!("ask {pgn} segment {}", 1 + random.below(segments)));
+        let segment = 1 + random.below(segments);
+        lines.push(format!("ask {} segment {}", pgn_word(random, pgn.into()), on_word(random, &names, segment)));
     }
     lines.join("\n") + "\n"
+}
+
+/// A PGN in decimal or in hex.
+fn pgn_word(random: &mut Random, pgn: u64) -> String {
+    match random.below(6) {
+        0 => format!("0x{pgn:X}"),
+        1 => format!("0X{pgn:04x}"),
+        _ => pgn.to_string(),
+    }
+}
+
+/// A segment by its number or, mostly where no other has it, its name.
+fn on_word(random: &mut Random, names: &[Name], segment: u32) -> String {
+    let word = &names[segment as usize - 1].word;
+    let alike = names.iter().filter(|name| name.word == *word).count();
+    let by_name = !word.is_empty() && random.once_in(3) && (alike == 1 || random.once_in(20));
+    if by_name {
+        word.clone()
+    } else {
+        segment.to_string()
+    }
 }
 
 /// All numbers in range, and mostly no ring.
@@ -405,29 +428,44 @@ fn is_for_text(random: &mut Random, case: &Case) -> bool {
     plan.is_ok_and(|plan| plan.judge().is_ok() || random.once_in(4))
 }
 
-/// A blank and a name, the longest too, or nothing.
-fn name(random: &mut Random, what: &str) -> String {
-    let number = random.below(100);
-    let long = "x".repeat(32);
-    match random.below(8) {
-        0 | 1 => String::new(),
-        2 => format!(" {long}"),
-        3 => format!("\t\u{e9}#{number}  # {what}"),
-        _ => format!(" {what}-{number}"),
-    }
+/// What stands behind a number, and the name in it as a word, or none.
+struct Name {
+    written: String,
+    word: String,
 }
 
-fn unit_lines(random: &mut Random, case: &Case, unit: u32) -> Vec<String> {
+/// A name, the longest too, of two words in quotation marks, or none.
+fn name(random: &mut Random, what: &str) -> Name {
+    let number = random.below(100);
+    let word = match random.below(9) {
+        0 | 1 => String::new(),
+        2 => "x".repeat(32),
+        3 => format!("\u{e9}#{number}"),
+        4 => format!("\"{what} #{number}\""),
+        _ => format!("{what}-{number}"),
+    };
+    let written = match random.below(4) {
+        0 => format!("\t{word}  # {what}"),
+        _ => format!(" {word}"),
+    };
+    Name { written, word }
+}
+
+fn unit_lines(random: &mut Random, case: &Case, names: &[Name], unit: u32) -> Vec<String> {
     let on = |port| case.ports[port_at(unit, port)];
     let used: Vec<u32> = (1..=PORTS).filter(|&port| on(port) != 0).collect();
-    let mut lines: Vec<String> = used.iter().map(|&port| format!("  port {port} segment {}", on(port))).collect();
+    let mut lines: Vec<String> = Vec::new();
+    for &port in &used {
+        lines.push(format!("  port {port} segment {}", on_word(random, names, on(port) as u32)));
+    }
     for (from, to) in used.iter().flat_map(|from| used.iter().map(move |to| (from, to))).filter(|(from, to)| from != to)
     {
         let block = &case.lists[pair_at(unit, *from, *to)..][..PAIR_WORDS];
         if block[0] != 0 {
             let mode = if block[0] == 1 { "block" } else { "pass" };
-            let pgns: String = block[2..2 + block[1] as usize].iter().map(|pgn| format!(" {pgn}")).collect();
-            lines.push(format!("  pair {from} {to} {mode}{pgns}"));
+            let pgns = &block[2..2 + block[1] as usize];
+            let words: String = pgns.iter().map(|&pgn| format!(" {}", pgn_word(random, pgn))).collect();
+            lines.push(format!("  pair {from} {to} {mode}{words}"));
         }
     }
     if random.once_in(8) {
@@ -438,9 +476,27 @@ fn unit_lines(random: &mut Random, case: &Case, unit: u32) -> Vec<String> {
 }
 
 /// Numbers that a line may be damaged with: out of range somewhere, or in range elsewhere.
-const NUMBERS: [&str; 14] =
-    ["0", "1", "2", "8", "9", "16", "17", "007", "61185", "65267", "262144", "4294967295", "4294967296", "-1"];
-const BYTES: &[u8] = b" \r\n\t-#+?0123456789acegknoprstu\x00\xC3\xFF";
+const NUMBERS: [&str; 18] = [
+    "0",
+    "1",
+    "2",
+    "8",
+    "9",
+    "16",
+    "17",
+    "007",
+    "61185",
+    "65267",
+    "262144",
+    "4294967295",
+    "4294967296",
+    "-1",
+    "0xEF01",
+    "0x",
+    "\"\"",
+    "bus-7",
+];
+const BYTES: &[u8] = b" \r\n\t-#+?0123456789acegknoprstux\"\"\x00\xC3\xFF";
 
 /// A text with one of its lines changed.
 pub fn damage_text(random: &mut Random, text: &str) -> Vec<u8> {

@@ -1,7 +1,5 @@
 //! A plan as a dealer writes it (docs/PLANS.md), and what is printed for it.
 
-use std::fmt;
-
 use crate::frame::is_pgn;
 use crate::pair::{Reason, LONGEST_LIST};
 use crate::plan::*;
@@ -11,128 +9,183 @@ use crate::words::REASONS;
 /// The most bytes of a name.
 pub const LONGEST_NAME: usize = 32;
 
-/// A line by its form: numbers may be any below 2^32.
-enum Line {
-    Segment { number: u32, name: Vec<u8> },
-    Unit { number: u32, name: Vec<u8> },
-    Port { port: u32, segment: u32 },
-    Pair { from: u32, to: u32, mode: u64, pgns: Vec<u32> },
-    Ask { pgn: u32, segment: u32 },
+/// The most bytes that are shown of a word.
+const SHOWN: usize = 32;
+
+/// A line by its form: numbers may be any below 2^32, each with its word.
+enum Line<'a> {
+    Segment { number: Number<'a>, name: Vec<u8> },
+    Unit { number: Number<'a>, name: Vec<u8> },
+    Port { port: Number<'a>, segment: &'a [u8] },
+    Pair { from: Number<'a>, to: Number<'a>, mode: u64, pgns: Vec<Number<'a>> },
+    Ask { pgn: Number<'a>, segment: &'a [u8] },
 }
 
-/// Why a line is wrong: first by its form, then by what stands above it.
+/// A number as it was written, and what it is.
+#[derive(Clone, Copy)]
+struct Number<'a> {
+    word: &'a [u8],
+    value: u32,
+}
+
+/// Why a line is wrong: what its word stands for, the word, and the reason, in bytes, for a word may be any.
 #[derive(Clone, Debug, PartialEq, Eq)]
-pub enum Wrong {
-    TooLong,
-    NoKind,
-    Missing(&'static str),
-    NoNumber(&'static str),
-    LongName,
-    NoMode,
-    ManyPgns,
-    MoreWords,
-    AfterAsk,
-    Most(&'static str),
-    Next(&'static str, u32),
-    NoUnit,
-    NoPort(u32),
-    UsedPort(u32, u32),
-    NoSegment(u32),
-    TwoPorts(u32),
-    TwoPaths(u32, u32),
-    UnknownPort(u32),
-    FromIsTo,
-    KnownPair(u32, u32),
-    NoPgn(u32),
-}
+pub struct Wrong(Vec<u8>);
 
-impl fmt::Display for Wrong {
-    fn fmt(&self, out: &mut fmt::Formatter) -> fmt::Result {
-        match self {
-            Wrong::TooLong => out.write_str("longer than 4,096 bytes"),
-            Wrong::NoKind => out.write_str("the first word is none of segment, unit, port, pair, ask"),
-            Wrong::Missing(word) => write!(out, "{word} missing"),
-            Wrong::NoNumber(word) => write!(out, "{word}: not a decimal number below 2^32"),
-            Wrong::LongName => out.write_str("name: longer than 32 bytes"),
-            Wrong::NoMode => out.write_str("mode: not pass or block"),
-            Wrong::ManyPgns => out.write_str("more than 32 PGNs"),
-            Wrong::MoreWords => out.write_str("more words than the line has"),
-            Wrong::AfterAsk => out.write_str("after an ask come asks alone"),
-            Wrong::Most(what) => write!(out, "there are 16 {what}s already"),
-            Wrong::Next(what, number) => write!(out, "the next {what} is {number}"),
-            Wrong::NoUnit => out.write_str("no unit yet"),
-            Wrong::NoPort(port) => write!(out, "port {port} is not 1 to 8"),
-            Wrong::UsedPort(port, segment) => write!(out, "port {port} is on segment {segment} already"),
-            Wrong::NoSegment(segment) => write!(out, "segment {segment} is not above"),
-            Wrong::TwoPorts(segment) => write!(out, "two ports of the unit on segment {segment} (29)"),
-            Wrong::TwoPaths(one, other) => write!(out, "two paths between segment {one} and segment {other} (29)"),
-            Wrong::UnknownPort(port) => write!(out, "port {port} of the unit is not above"),
-            Wrong::FromIsTo => out.write_str("From equals To"),
-            Wrong::KnownPair(from, to) => write!(out, "pair {from} {to} is above already"),
-            Wrong::NoPgn(number) => write!(out, "{number} is no PGN"),
-        }
+impl Wrong {
+    fn missing(field: &str) -> Wrong {
+        Wrong(format!("{field} missing").into_bytes())
+    }
+
+    /// A word that is wrong, with what it stands for, if that is told.
+    fn word(field: &str, word: &[u8], reason: impl AsRef<[u8]>) -> Wrong {
+        let field = if field.is_empty() { String::new() } else { format!("{field} ") };
+        Wrong([field.as_bytes(), &quoted(word), b": ", reason.as_ref()].concat())
     }
 }
 
-/// The words of a line, one by one. A word that begins with # ends them.
+/// A word in quotation marks, or as it stands where it begins with one; a long one is cut.
+fn quoted(word: &[u8]) -> Vec<u8> {
+    let cut = match word.get(..SHOWN) {
+        Some(start) if word.len() > SHOWN => [start, b".."].concat(),
+        _ => word.to_vec(),
+    };
+    let mark: &[u8] = if word.starts_with(b"\"") { b"" } else { b"\"" };
+    [mark, &cut, mark].concat()
+}
+
+fn is_blank(byte: &u8) -> bool {
+    matches!(byte, b' ' | b'\t' | b'\r')
+}
+
+/// Where a word ends that a text begins with: behind the next quotation mark, if it begins with one.
+fn end_of_word(text: &[u8]) -> usize {
+    match text.split_first() {
+        Some((b'"', rest)) => rest.iter().position(|&byte| byte == b'"').map_or(text.len(), |mark| mark + 2),
+        _ => text.iter().position(is_blank).unwrap_or(text.len()),
+    }
+}
+
+/// The words of a line. One that begins with # begins a comment.
+fn words_of(line: &[u8]) -> Vec<&[u8]> {
+    let mut words = Vec::new();
+    let mut rest = line;
+    loop {
+        rest = &rest[rest.iter().position(|byte| !is_blank(byte)).unwrap_or(rest.len())..];
+        if rest.is_empty() || rest[0] == b'#' {
+            return words;
+        }
+        let (word, more) = rest.split_at(end_of_word(rest));
+        words.push(word);
+        rest = more;
+    }
+}
+
+fn decimal(word: &[u8]) -> Option<u32> {
+    let digits = std::str::from_utf8(word).ok().filter(|text| text.bytes().all(|byte| byte.is_ascii_digit()))?;
+    digits.parse().ok()
+}
+
+/// Decimal, or hex behind 0x.
+fn decimal_or_hex(word: &[u8]) -> Option<u32> {
+    match word {
+        [b'0', b'x' | b'X', digits @ ..] if !digits.is_empty() && digits.iter().all(u8::is_ascii_hexdigit) => {
+            u32::from_str_radix(std::str::from_utf8(digits).ok()?, 16).ok()
+        }
+        _ => decimal(word),
+    }
+}
+
+/// A word that begins with a quotation mark and does not end with another.
+fn is_open(word: &[u8]) -> bool {
+    word.starts_with(b"\"") && (word.len() == 1 || !word.ends_with(b"\""))
+}
+
+fn without_marks(word: &[u8]) -> &[u8] {
+    if word.starts_with(b"\"") && word.len() > 1 {
+        &word[1..word.len() - 1]
+    } else {
+        word
+    }
+}
+
+/// The words of a line, one by one, the last first.
 struct Words<'a>(Vec<&'a [u8]>);
 
 impl<'a> Words<'a> {
     fn of(line: &'a [u8]) -> Words<'a> {
-        let words = line.split(|byte| matches!(byte, b' ' | b'\t' | b'\r')).filter(|word| !word.is_empty());
-        let mut words: Vec<&[u8]> = words.take_while(|word| word[0] != b'#').collect();
+        let mut words = words_of(line);
         words.reverse();
         Words(words)
     }
 
-    fn number(&mut self, field: &'static str) -> Result<u32, Wrong> {
-        let word = self.0.pop().ok_or(Wrong::Missing(field))?;
-        let digits = std::str::from_utf8(word).ok().filter(|text| text.bytes().all(|byte| byte.is_ascii_digit()));
-        digits.and_then(|digits| digits.parse().ok()).ok_or(Wrong::NoNumber(field))
+    fn next(&mut self, field: &str) -> Result<&'a [u8], Wrong> {
+        self.0.pop().ok_or_else(|| Wrong::missing(field))
+    }
+
+    fn number(&mut self, field: &str) -> Result<Number<'a>, Wrong> {
+        let word = self.next(field)?;
+        let value = decimal(word).ok_or_else(|| Wrong::word(field, word, "not a decimal number below 2^32"))?;
+        Ok(Number { word, value })
+    }
+
+    fn pgn(&mut self) -> Result<Number<'a>, Wrong> {
+        let word = self.next("PGN")?;
+        let reason = "not a number below 2^32, decimal or 0x hex";
+        let value = decimal_or_hex(word).ok_or_else(|| Wrong::word("PGN", word, reason))?;
+        Ok(Number { word, value })
     }
 
     /// A name, if there is one.
     fn name(&mut self) -> Result<Vec<u8>, Wrong> {
         let word = self.0.pop().unwrap_or_default();
-        if word.len() > LONGEST_NAME {
-            return Err(Wrong::LongName);
+        let name = without_marks(check_marks(word)?);
+        if name.len() > LONGEST_NAME {
+            return Err(Wrong::word("name", word, "longer than 32 bytes"));
         }
-        Ok(word.to_vec())
+        Ok(name.to_vec())
     }
 
-    /// The word "segment" and its number.
-    fn segment(&mut self) -> Result<u32, Wrong> {
-        if self.0.pop() != Some(b"segment") {
-            return Err(Wrong::Missing("the word segment"));
+    /// The word "segment", and its number or name.
+    fn segment(&mut self) -> Result<&'a [u8], Wrong> {
+        match self.next("the word segment")? {
+            b"segment" => check_marks(self.next("segment")?),
+            other => Err(Wrong::word("", other, "the word segment missing")),
         }
-        self.number("segment")
     }
 
     fn mode(&mut self) -> Result<u64, Wrong> {
-        match self.0.pop() {
-            None => Err(Wrong::Missing("mode")),
-            Some(b"block") => Ok(1),
-            Some(b"pass") => Ok(2),
-            Some(_) => Err(Wrong::NoMode),
+        match self.next("mode")? {
+            b"block" => Ok(1),
+            b"pass" => Ok(2),
+            other => Err(Wrong::word("mode", other, "not pass or block")),
         }
     }
 
-    fn pgns(&mut self) -> Result<Vec<u32>, Wrong> {
+    fn pgns(&mut self) -> Result<Vec<Number<'a>>, Wrong> {
         if self.0.len() > LONGEST_LIST {
-            return Err(Wrong::ManyPgns);
+            return Err(Wrong::word("PGN", self.0[self.0.len() - 1 - LONGEST_LIST], "more than 32 PGNs"));
         }
-        (0..self.0.len()).map(|_| self.number("PGN")).collect()
+        (0..self.0.len()).map(|_| self.pgn()).collect()
     }
 }
 
-impl Line {
+fn check_marks(word: &[u8]) -> Result<&[u8], Wrong> {
+    if is_open(word) {
+        return Err(Wrong::word("", word, "no quotation mark ends it"));
+    }
+    Ok(word)
+}
+
+impl Line<'_> {
     /// Reads a line without the blanks at its ends.
-    fn read(line: &[u8]) -> Result<Line, Wrong> {
-        if line.len() > LONGEST_LINE {
-            return Err(Wrong::TooLong);
-        }
+    fn read(line: &[u8]) -> Result<Line<'_>, Wrong> {
         let mut words = Words::of(line);
-        let line = match words.0.pop().unwrap_or_default() {
+        let first = words.0.pop().unwrap_or_default();
+        if line.len() > LONGEST_LINE {
+            return Err(Wrong::word("", first, "longer than 4,096 bytes"));
+        }
+        let line = match first {
             b"segment" => Line::Segment { number: words.number("segment")?, name: words.name()? },
             b"unit" => Line::Unit { number: words.number("unit")?, name: words.name()? },
             b"port" => Line::Port { port: words.number("port")?, segment: words.segment()? },
@@ -142,34 +195,35 @@ impl Line {
                 mode: words.mode()?,
                 pgns: words.pgns()?,
             },
-            b"ask" => Line::Ask { pgn: words.number("PGN")?, segment: words.segment()? },
-            _ => return Err(Wrong::NoKind),
+            b"ask" => Line::Ask { pgn: words.pgn()?, segment: words.segment()? },
+            _ => return Err(Wrong::word("", first, "the first word is none of segment, unit, port, pair, ask")),
         };
-        if words.0.is_empty() {
-            Ok(line)
-        } else {
-            Err(Wrong::MoreWords)
+        match words.0.last() {
+            None => Ok(line),
+            Some(word) => Err(Wrong::word("", word, "more words than the line has")),
         }
     }
 }
 
 /// A plan as far as it is read, with its names, and what was printed.
+#[derive(Default)]
 struct Text {
     ports: Vec<u64>,
     lists: Vec<u64>,
     segments: Vec<Vec<u8>>,
     units: Vec<Vec<u8>>,
-    answers: u32,
+    questions: u32,
+    wrong: u32,
     out: Vec<u8>,
 }
 
 impl Text {
     fn line(&mut self, line: &[u8]) -> Result<(), Wrong> {
-        let line = Line::read(line)?;
-        if self.answers > 0 && !matches!(line, Line::Ask { .. }) {
-            return Err(Wrong::AfterAsk);
+        let said = Line::read(line)?;
+        if self.questions > 0 && !matches!(said, Line::Ask { .. }) {
+            return Err(Wrong::word("", words_of(line)[0], "after an ask come asks alone"));
         }
-        match line {
+        match said {
             Line::Segment { number, name } => add_name(&mut self.segments, MOST_SEGMENTS, "segment", number, name),
             Line::Unit { number, name } => add_name(&mut self.units, MOST_UNITS, "unit", number, name),
             Line::Port { port, segment } => self.port(port, segment),
@@ -178,63 +232,108 @@ impl Text {
         }
     }
 
+    /// A segment or a unit whose line is wrong counts all the same, without a name.
+    fn count_wrong(&mut self, line: &[u8]) {
+        self.wrong += 1;
+        if self.questions > 0 || line.len() > LONGEST_LINE {
+            return;
+        }
+        match words_of(line)[0] {
+            b"segment" if self.segments.len() < MOST_SEGMENTS as usize => self.segments.push(Vec::new()),
+            b"unit" if self.units.len() < MOST_UNITS as usize => self.units.push(Vec::new()),
+            _ => {}
+        }
+    }
+
     /// The unit that a line speaks of: the last one above.
-    fn unit(&self) -> Result<u32, Wrong> {
+    fn unit(&self, kind: &str) -> Result<u32, Wrong> {
         match self.units.len() {
-            0 => Err(Wrong::NoUnit),
+            0 => Err(Wrong::word("", kind.as_bytes(), "no unit yet")),
             count => Ok(count as u32),
         }
     }
 
-    fn check_segment(&self, segment: u32) -> Result<(), Wrong> {
-        if (1..=self.segments.len() as u32).contains(&segment) {
-            Ok(())
-        } else {
-            Err(Wrong::NoSegment(segment))
+    /// The segment that is meant, by its number or its name.
+    fn segment(&self, word: &[u8]) -> Result<u32, Wrong> {
+        if let Some(number) = decimal(word) {
+            let is_above = (1..=self.segments.len() as u32).contains(&number);
+            return if is_above { Ok(number) } else { Err(Wrong::word("segment", word, "not above")) };
+        }
+        let name = without_marks(word);
+        let is_meant =
+            |(place, other): (usize, &Vec<u8>)| (!name.is_empty() && other == name).then_some(place as u32 + 1);
+        let mut meant = self.segments.iter().enumerate().filter_map(is_meant);
+        match (meant.next(), meant.next()) {
+            (None, _) => Err(Wrong::word("segment", word, "not above")),
+            (Some(number), None) => Ok(number),
+            _ => Err(Wrong::word("segment", word, "two have this name")),
         }
     }
 
     /// The port is not put where the units above lead already, and a second path would.
-    fn port(&mut self, port: u32, segment: u32) -> Result<(), Wrong> {
-        let unit = self.unit()?;
-        if !(1..=PORTS).contains(&port) {
-            return Err(Wrong::NoPort(port));
+    fn port(&mut self, port: Number, word: &[u8]) -> Result<(), Wrong> {
+        let unit = self.unit("port")?;
+        if !(1..=PORTS).contains(&port.value) {
+            return Err(Wrong::word("port", port.word, "not 1 to 8"));
         }
         let on = |port| self.ports[port_at(unit, port)] as u32;
-        if on(port) != 0 {
-            return Err(Wrong::UsedPort(port, on(port)));
+        if on(port.value) != 0 {
+            let reason = [b"on segment ", &named(&self.segments, on(port.value))[..], b" already"].concat();
+            return Err(Wrong::word("port", port.word, reason));
         }
-        self.check_segment(segment)?;
+        let segment = self.segment(word)?;
         let others = self.plan(unit - 1).paths(segment).expect("no ring");
-        let reached: Vec<u32> = others.iter().map(|path| path.end).collect();
-        match (1..=PORTS).map(on).find(|other| reached.contains(other)) {
-            Some(other) if other == segment => return Err(Wrong::TwoPorts(segment)),
-            Some(other) => return Err(Wrong::TwoPaths(other, segment)),
-            None => {}
+        let is_reached = |port: &u32| others.iter().any(|path| path.end == on(*port));
+        if let Some(other) = (1..=PORTS).find(is_reached) {
+            let reason = if on(other) == segment { self.two_ports(other) } else { self.two_paths(on(other), segment) };
+            return Err(Wrong::word("segment", word, reason));
         }
-        self.ports[port_at(unit, port)] = u64::from(segment);
+        self.ports[port_at(unit, port.value)] = u64::from(segment);
         Ok(())
     }
 
-    fn pair(&mut self, from: u32, to: u32, mode: u64, pgns: &[u32]) -> Result<(), Wrong> {
-        let unit = self.unit()?;
+    fn two_ports(&self, port: u32) -> Vec<u8> {
+        let unit = named(&self.units, self.units.len() as u32);
+        [format!("port {port} of unit ").as_bytes(), &unit, b" is on it already (29)"].concat()
+    }
+
+    /// The last unit is on one segment and would be on the other, to which the units above lead.
+    fn two_paths(&self, one: u32, other: u32) -> Vec<u8> {
+        let last = self.units.len() as u32;
+        let paths = self.plan(last - 1).paths(one).expect("no ring");
+        let steps = &paths.iter().find(|path| path.end == other).expect("a path").steps;
+        let mut told = [b"two paths to segment ", &named(&self.segments, one)[..], b" (29): by unit "].concat();
+        told.extend(named(&self.units, last));
+        for (step, place) in steps.iter().zip(0..) {
+            if place == 0 {
+                told.extend(b", and by unit ");
+            } else {
+                let entered = self.ports[port_at(step.unit, step.from)] as u32;
+                told.extend([b", segment ", &named(&self.segments, entered)[..], b", unit "].concat());
+            }
+            told.extend(named(&self.units, step.unit));
+        }
+        told
+    }
+
+    fn pair(&mut self, from: Number, to: Number, mode: u64, pgns: &[Number]) -> Result<(), Wrong> {
+        let unit = self.unit("pair")?;
         let used = |port| (1..=PORTS).contains(&port) && self.ports[port_at(unit, port)] != 0;
-        for port in [from, to] {
-            if !used(port) {
-                return Err(Wrong::UnknownPort(port));
+        for (field, port) in [("From", from), ("To", to)] {
+            if !used(port.value) {
+                return Err(Wrong::word(field, port.word, "no such port above"));
             }
         }
-        if from == to {
-            return Err(Wrong::FromIsTo);
+        if from.value == to.value {
+            return Err(Wrong::word("To", to.word, "equals From"));
         }
-        let block = &mut self.lists[pair_at(unit, from, to)..][..PAIR_WORDS];
+        let block = &mut self.lists[pair_at(unit, from.value, to.value)..][..PAIR_WORDS];
         if block[0] != 0 {
-            return Err(Wrong::KnownPair(from, to));
+            let reason = format!("pair {} {} is above already", from.value, to.value);
+            return Err(Wrong::word("From", from.word, reason));
         }
-        if let Some(number) = pgns.iter().find(|number| !is_pgn(**number)) {
-            return Err(Wrong::NoPgn(*number));
-        }
-        let words = [mode, pgns.len() as u64].into_iter().chain(pgns.iter().map(|&pgn| u64::from(pgn)));
+        pgns.iter().try_for_each(check_pgn)?;
+        let words = [mode, pgns.len() as u64].into_iter().chain(pgns.iter().map(|pgn| u64::from(pgn.value)));
         block.iter_mut().zip(words).for_each(|(place, word)| *place = word);
         Ok(())
     }
@@ -245,14 +344,16 @@ impl Text {
         Plan::read(&self.ports, &self.lists, question).expect("all numbers in range")
     }
 
-    fn ask(&mut self, pgn: u32, first: u32) -> Result<(), Wrong> {
-        if !is_pgn(pgn) {
-            return Err(Wrong::NoPgn(pgn));
+    /// A question counts; it is answered unless a line above it is wrong.
+    fn ask(&mut self, pgn: Number, word: &[u8]) -> Result<(), Wrong> {
+        check_pgn(&pgn)?;
+        let first = self.segment(word)?;
+        self.questions += 1;
+        if self.wrong > 0 {
+            return Ok(());
         }
-        self.check_segment(first)?;
-        let hearing = self.plan(self.units.len() as u32).hearing(first, pgn).expect("no ring");
-        self.answers += 1;
-        self.print(&[format!("PGN {pgn} sent on segment ").as_bytes(), &named(&self.segments, first)]);
+        let hearing = self.plan(self.units.len() as u32).hearing(first, pgn.value).expect("no ring");
+        self.print(&[format!("PGN {} sent on segment ", pgn.value).as_bytes(), &named(&self.segments, first)]);
         for (told, segment) in hearing.iter().zip(1..) {
             let words = self.words(told);
             self.print(&[b"  ", &named(&self.segments, segment), b": ", &words]);
@@ -277,6 +378,24 @@ impl Text {
         self.out.extend(parts.concat());
         self.out.push(b'\n');
     }
+
+    /// How much there was, or how many lines were wrong.
+    fn end(&mut self) {
+        let (segments, units) = (self.segments.len(), self.units.len());
+        let told = match self.wrong {
+            0 => format!("segments {segments}, units {units}, answers {}", self.questions),
+            wrong => format!("wrong lines {wrong}"),
+        };
+        self.print(&[told.as_bytes()]);
+    }
+}
+
+fn check_pgn(pgn: &Number) -> Result<(), Wrong> {
+    if is_pgn(pgn.value) {
+        Ok(())
+    } else {
+        Err(Wrong::word("PGN", pgn.word, "no PGN"))
+    }
 }
 
 fn reason_words(reason: Reason) -> &'static str {
@@ -295,39 +414,31 @@ fn named(names: &[Vec<u8>], number: u32) -> Vec<u8> {
 }
 
 /// Segments and units are numbered as they come.
-fn add_name(names: &mut Vec<Vec<u8>>, most: u32, what: &'static str, number: u32, name: Vec<u8>) -> Result<(), Wrong> {
+fn add_name(names: &mut Vec<Vec<u8>>, most: u32, what: &str, number: Number, name: Vec<u8>) -> Result<(), Wrong> {
     let next = names.len() as u32 + 1;
     if next > most {
-        return Err(Wrong::Most(what));
+        return Err(Wrong::word(what, number.word, format!("there are 16 {what}s already")));
     }
-    if number != next {
-        return Err(Wrong::Next(what, next));
+    if number.value != next {
+        return Err(Wrong::word(what, number.word, format!("the next {what} is {next}")));
     }
     names.push(name);
     Ok(())
 }
 
-/// What is printed for a text: the answers, then how much there was; or, where a line is wrong, the answers above it
-/// and why.
+/// What is printed for a text: the answers and the lines that are wrong, below which nothing is answered; then how much
+/// there was, or how many lines were wrong.
 pub fn run(text: &[u8]) -> Vec<u8> {
-    let mut read = Text {
-        ports: vec![0; PORT_WORDS],
-        lists: vec![0; LIST_WORDS],
-        segments: Vec::new(),
-        units: Vec::new(),
-        answers: 0,
-        out: Vec::new(),
-    };
+    let mut read = Text { ports: vec![0; PORT_WORDS], lists: vec![0; LIST_WORDS], ..Text::default() };
     for (line, number) in lines_of(text).into_iter().zip(1..) {
         if is_passed_over(line) {
             continue;
         }
-        if let Err(wrong) = read.line(line) {
-            read.print(&[format!("? line {number}: {wrong}").as_bytes()]);
-            return read.out;
+        if let Err(Wrong(told)) = read.line(line) {
+            read.print(&[format!("? line {number}: ").as_bytes(), &told]);
+            read.count_wrong(line);
         }
     }
-    let (segments, units) = (read.segments.len(), read.units.len());
-    read.print(&[format!("segments {segments}, units {units}, answers {}", read.answers).as_bytes()]);
+    read.end();
     read.out
 }

@@ -75,11 +75,11 @@ fn read_all(
     len
 }
 
-// A line that was wrong, by its number.
+// How many lines were wrong.
 fn tell(numbers: &[u32]) {
     if 0 < counts::get(numbers, counts::WRONG) {
-        io::write_all(STDERR_FILENO, b"plan: the text is wrong in line ");
-        io::print_decimal(STDERR_FILENO, counts::get(numbers, counts::LINES) as u64);
+        io::write_all(STDERR_FILENO, b"plan: lines that are wrong: ");
+        io::print_decimal(STDERR_FILENO, counts::get(numbers, counts::WRONG) as u64);
         io::write_all(STDERR_FILENO, b"\n");
     }
 }

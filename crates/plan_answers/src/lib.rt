@@ -1,4 +1,6 @@
 // The answer to a question: which segments hear a PGN, and for each that does not, at which unit and why it stopped.
+pub mod rings;
+
 use libc::STDOUT_FILENO;
 use line_parts::print;
 use plan_draft::counts;
@@ -11,13 +13,19 @@ ghost use Prim.Native.Nat.{_≤_};
 ghost use lib.ListN.{length};
 
 // A question, the segments that hear, and those that a path leads to.
-struct Question {
-    segments: u32,
-    units: u32,
-    first: u32,
-    pgn: u32,
-    heard: u64,
-    reached: u64,
+pub struct Question {
+    pub segments: u32,
+    pub units: u32,
+    pub first: u32,
+    pub pgn: u32,
+    pub heard: u64,
+    pub reached: u64,
+}
+
+// The ports by which a path goes through a unit; 0 where it does not.
+pub struct Way {
+    pub from: u32,
+    pub to: u32,
 }
 
 // Where a PGN stopped, and why; unit 0 for nowhere.
@@ -91,9 +99,9 @@ fn stop_between(listed: &[u64], pgn: u32, unit: u32, from: u32, to: u32) -> Stop
     }
 }
 
-// The same of the way to a segment. Without the unit, the first segment leads to the port where it comes in, and the segment to the one where it would go out;
-// both lead to one port where the unit is not on the way. Nothing stops where nothing came in.
-fn stop_at(on: &[u64], listed: &[u64], q: Question, target: u32, unit: u32) -> Stop {
+// The way from the question's segment to another through a unit. Without the unit, the first leads to the port where it is entered and the other to the one where it is left;
+// both lead to one port where the unit is not on the way.
+pub fn way_through(on: &[u64], listed: &[u64], q: Question, target: u32, unit: u32) -> Way {
     let mut space = [0u64; PORTS_LENGTH];
     let rest: &mut [u64] = &mut space;
     leave_out(on, unit, rest);
@@ -101,19 +109,25 @@ fn stop_at(on: &[u64], listed: &[u64], q: Question, target: u32, unit: u32) -> S
     let behind = ports::reached(rest, listed, q.segments, q.units, target);
     let from = ports::first_in(on, unit, before);
     let to = ports::first_in(on, unit, behind);
-    if from == 0 {
-        return nowhere();
-    }
     if to == 0 {
-        return nowhere();
+        return Way { from: 0, to: 0 };
     }
     if from == to {
+        return Way { from: 0, to: 0 };
+    }
+    Way { from, to }
+}
+
+// Where a PGN stops in a unit on the way to a segment. Nothing stops where nothing came in.
+fn stop_at(on: &[u64], listed: &[u64], q: Question, target: u32, unit: u32) -> Stop {
+    let way = way_through(on, listed, q, target, unit);
+    if way.from == 0 {
         return nowhere();
     }
-    if !ports::has(q.heard, ports::segment(on, unit, from)) {
+    if !ports::has(q.heard, ports::segment(on, unit, way.from)) {
         return nowhere();
     }
-    stop_between(listed, q.pgn, unit, from, to)
+    stop_between(listed, q.pgn, unit, way.from, way.to)
 }
 
 // The unit where it stopped on the way to a segment.
@@ -229,7 +243,6 @@ fn asked(numbers: &[u32], on: &[u64], listed: &[u64], pgn: u32, first: u32) -> Q
 
 // A question, which is right, and what each segment is told.
 pub fn answer(numbers: &mut [u32], on: &[u64], listed: &[u64], named: &[u8], pgn: u32, first: u32) {
-    counts::add(numbers, counts::ANSWERS);
     tell_question(numbers, named, pgn, first);
     let q = asked(numbers, on, listed, pgn, first);
     let mut segment = 0;
@@ -239,10 +252,16 @@ pub fn answer(numbers: &mut [u32], on: &[u64], listed: &[u64], named: &[u8], pgn
     }
 }
 
-// How much there was.
+// How much there was, or how many lines were wrong.
 pub fn tell_end(numbers: &mut [u32]) {
     let mut space = [0u8; 256];
     let out: &mut [u8] = &mut space;
+    let wrong = counts::get(numbers, counts::WRONG);
+    if 0 < wrong {
+        let at = print::count(out, 0, b"wrong lines ", wrong as u64);
+        finish(numbers, out, at);
+        return;
+    }
     let segments = counts::get(numbers, counts::SEGMENTS);
     let units = counts::get(numbers, counts::UNITS);
     let answers = counts::get(numbers, counts::ANSWERS);

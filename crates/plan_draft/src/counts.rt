@@ -5,7 +5,7 @@ pub const UNITS: usize = 1;
 
 pub const ANSWERS: usize = 2;
 
-// Lines read; 1 where one of them was wrong; 1 where a read or a write failed.
+// Lines read, and those of them that were wrong; 1 where a read or a write failed.
 pub const LINES: usize = 3;
 
 pub const WRONG: usize = 4;

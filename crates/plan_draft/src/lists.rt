@@ -3,6 +3,7 @@ use filter::Reason;
 use plan_shape::BLOCK_SIZE;
 use plan_shape::PAIRS;
 use plan_shape::PORTS;
+use plan_text::Finding;
 use plan_text::Wrong;
 ghost use Prim.Native.Nat.{_≤_};
 
@@ -40,19 +41,18 @@ pub fn reason(listed: &[u64], unit: u32, from: u32, to: u32, pgn: u32) -> Reason
 }
 
 // The first of a line's numbers that is no PGN.
-fn no_pgn(line: &[u8]) -> Wrong {
+fn no_pgn(line: &[u8]) -> Finding {
     let n = plan_text::list_length(line);
     let mut i = 0;
     while i < n {
-        let pgn = plan_text::pgn(line, i);
-        let good = identifier::is_pgn(pgn);
+        let good = identifier::is_pgn(plan_text::pgn(line, i));
         if good {
             i += 1;
         } else {
-            return Wrong::NoPgn(pgn as u64);
+            return plan_text::wrong_at(Wrong::NoPgn, plan_text::LIST + i);
         }
     }
-    Wrong::Nothing
+    plan_text::nothing()
 }
 
 fn put(block: &mut [u64], place: usize, word: u64) {
@@ -73,30 +73,35 @@ fn fill(block: &mut [u64], mode: u64, line: &[u8]) {
     }
 }
 
+fn known(from: u32, to: u32) -> Finding {
+    let wrong = Wrong::KnownPair {
+        from: from as u64,
+        to: to as u64,
+    };
+    plan_text::wrong_at(wrong, 1)
+}
+
 // A pair's list, from its line, unless it has one or lists what is no PGN.
-pub fn add(listed: &mut [u64], unit: u32, from: u32, to: u32, mode: u64, line: &[u8]) -> Wrong {
+pub fn add(listed: &mut [u64], unit: u32, from: u32, to: u32, mode: u64, line: &[u8]) -> Finding {
     if unit == 0 {
-        return Wrong::NoUnit;
+        return plan_text::wrong_at(Wrong::NoUnit, 0);
     }
     if from == 0 {
-        return Wrong::UnknownPort(0);
+        return plan_text::wrong_at(Wrong::UnknownPort, 1);
     }
     if to == 0 {
-        return Wrong::UnknownPort(0);
+        return plan_text::wrong_at(Wrong::UnknownPort, 2);
     }
     let a = start(unit, from, to);
     let e = a + BLOCK_SIZE;
     if listed.len() < e {
-        return Wrong::NoUnit;
+        return plan_text::wrong_at(Wrong::NoUnit, 0);
     }
     if listed[a] != filter::CLEARED {
-        return Wrong::KnownPair {
-            from: from as u64,
-            to: to as u64,
-        };
+        return known(from, to);
     }
     let wrong = no_pgn(line);
-    if let Wrong::Nothing = wrong {
+    if plan_text::is_right(wrong) {
         fill(&mut listed[a..e], mode, line);
     }
     wrong

@@ -1,5 +1,6 @@
 // The names of segments and units, in bytes that the caller lends: a length and the bytes, each at a place of its own.
 use line_parts::print;
+use line_parts::words;
 use plan_text::LONGEST_NAME;
 ghost use Prim.Native.Nat.{_≤_};
 ghost use lib.ListN.{length};
@@ -38,26 +39,56 @@ fn wide(byte: u8) -> usize
     byte as usize
 }
 
+// Where the name at a place begins and ends; the two are the same where there is none.
+fn kept(named: &[u8], place: usize) -> words::Word
+    requires { ⌜ place ≤ 8589934592 ⌝ }
+    ensures { λ r. ⌜ (r .start ≤ r .end) × (r .end ≤ length (now (named .entry))) ⌝ }
+{
+    let length = SIZE * place;
+    if named.len() <= length {
+        return words::Word { start: 0, end: 0 };
+    }
+    let start = length + 1;
+    let end = start + wide(named[length]);
+    if named.len() < end {
+        return words::Word { start: 0, end: 0 };
+    }
+    words::Word { start, end }
+}
+
 // A blank and a name, if there is one.
 fn put_name(out: &mut [u8], at: usize, named: &[u8], place: usize) -> usize
     requires { ⌜ (at ≤ length (now out)) × (place ≤ 8589934592) ⌝ }
     ensures { λ r. ⌜ r ≤ length (now (out .entry)) ⌝ }
 {
-    let length = SIZE * place;
-    if named.len() <= length {
-        return at;
-    }
-    let n = wide(named[length]);
-    if n == 0 {
-        return at;
-    }
-    let start = length + 1;
-    let end = start + n;
-    if named.len() < end {
+    let found = kept(named, place);
+    let start = found.start;
+    let end = found.end;
+    if start == end {
         return at;
     }
     let next = print::byte(out, at, b' ');
     print::text(out, next, &named[start..end])
+}
+
+// Whether a segment has this name.
+fn is_name(named: &[u8], segment: u32, name: &[u8]) -> bool {
+    let found = kept(named, SEGMENTS + segment as usize);
+    let start = found.start;
+    let end = found.end;
+    words::is_same(&named[start..end], name)
+}
+
+// The first segment past one that has this name, 0 for none.
+pub fn find(named: &[u8], past: u32, segments: u32, name: &[u8]) -> u32 {
+    let mut segment = past;
+    while segment < segments {
+        segment += 1;
+        if is_name(named, segment, name) {
+            return segment;
+        }
+    }
+    0
 }
 
 // A number and, after a blank, its name, if it has one.

@@ -1,39 +1,79 @@
-// A plan's text in pieces: each line is taken into the plan or answered. The first that is wrong is told, and ends the reading.
+// A plan's text in pieces: each line is taken into the plan or answered, or told to be wrong. Below a wrong line nothing is answered.
 use line_parts::print;
 use line_parts::words;
+use plan_answers::rings;
 use plan_draft::counts;
+use plan_text::Finding;
 use plan_text::Line;
 use plan_text::Wrong;
+use plan_text::told;
 ghost use Prim.Native.Nat.{_≤_};
 ghost use lib.ListN.{length};
 
 // The bytes that are kept of a line: one more than it may have, by which a longer line is known.
 pub const LINE: usize = plan_text::LONGEST_LINE + 1;
 
-// Whether nothing more is read: a line was wrong, or a read or a write failed.
+// The bytes of a line that is told to be wrong: room for a ring with all its names.
+const TOLD: usize = 2048;
+
+// Whether nothing more is read: a read or a write failed.
 pub fn is_over(numbers: &[u32]) -> bool {
-    if 0 < counts::get(numbers, counts::WRONG) {
-        return true;
-    }
     0 < counts::get(numbers, counts::FAILED)
 }
 
+// The reason, with names where it has some.
+fn reason(
+    out: &mut [u8],
+    at: usize,
+    numbers: &[u32],
+    on: &[u64],
+    listed: &[u64],
+    named: &[u8],
+    wrong: Wrong,
+) -> usize
+    requires { ⌜ at ≤ length (now out) ⌝ }
+    ensures { λ r. ⌜ r ≤ length (now (out .entry)) ⌝ }
+{
+    match wrong {
+        Wrong::UsedPort(segment) => rings::used_port(out, at, named, segment),
+        Wrong::TwoPorts(port) => rings::two_ports(out, at, numbers, named, port),
+        Wrong::TwoPaths { one, other } => {
+            rings::two_paths(out, at, numbers, on, listed, named, one, other)
+        }
+        _ => told::reason(out, at, wrong),
+    }
+}
+
 // Why the line that was read last is wrong.
-fn tell_wrong(numbers: &mut [u32], wrong: Wrong) {
-    let mut space = [0u8; 256];
+fn tell_wrong(
+    numbers: &mut [u32],
+    on: &[u64],
+    listed: &[u64],
+    named: &[u8],
+    line: &[u8],
+    found: Finding,
+) {
+    let mut space = [0u8; TOLD];
     let out: &mut [u8] = &mut space;
+    let wrong = found.wrong;
     let number = counts::get(numbers, counts::LINES);
     let at = print::count(out, 0, b"? line ", number as u64);
     let at = print::text(out, at, b": ");
-    let at = plan_text::told::wrong(out, at, wrong);
+    let at = told::subject(out, at, line, wrong, found.place);
+    let at = reason(out, at, numbers, on, listed, named, wrong);
     plan_answers::finish(numbers, out, at);
     counts::add(numbers, counts::WRONG);
+    plan_draft::count_wrong(numbers, line);
 }
 
-// A question is answered.
-fn answer(numbers: &mut [u32], on: &[u64], listed: &[u64], named: &[u8], said: Line) {
-    if let Line::Ask { pgn, segment } = said {
-        plan_answers::answer(numbers, on, listed, named, pgn, segment);
+// A question that is right counts, and is answered unless a line above is wrong.
+fn answer(numbers: &mut [u32], on: &[u64], listed: &[u64], named: &[u8], line: &[u8], said: Line) {
+    if let Line::Ask { pgn } = said {
+        counts::add(numbers, counts::ANSWERS);
+        if counts::get(numbers, counts::WRONG) == 0 {
+            let first = plan_draft::segment_of(numbers, named, line);
+            plan_answers::answer(numbers, on, listed, named, pgn, first);
+        }
     }
 }
 
@@ -41,21 +81,21 @@ fn answer(numbers: &mut [u32], on: &[u64], listed: &[u64], named: &[u8], said: L
 fn take(numbers: &mut [u32], on: &mut [u64], listed: &mut [u64], named: &mut [u8], line: &[u8]) {
     let said = plan_text::read(line);
     let wrong = plan_draft::take(numbers, on, listed, named, line, said);
-    if let Wrong::Nothing = wrong {
-        answer(numbers, on, listed, named, said);
+    if plan_text::is_right(wrong) {
+        answer(numbers, on, listed, named, line, said);
         return;
     }
-    tell_wrong(numbers, wrong);
+    tell_wrong(numbers, on, listed, named, line, wrong);
 }
 
 // A line that is not passed over, without blanks at its ends.
 fn judge(numbers: &mut [u32], on: &mut [u64], listed: &mut [u64], named: &mut [u8], line: &[u8]) {
     let wrong = plan_text::what_is_wrong(line);
-    if let Wrong::Nothing = wrong {
+    if plan_text::is_right(wrong) {
         take(numbers, on, listed, named, line);
         return;
     }
-    tell_wrong(numbers, wrong);
+    tell_wrong(numbers, on, listed, named, line, wrong);
 }
 
 // Whether a line without blanks at its ends is empty or a comment.

@@ -12,9 +12,6 @@ Inv-loop numbers₀ on listed named pgn first q segment₀ numbers segment = (se
 abbrev μ-loop : tie.MeasureT-loop
 μ-loop numbers₀ on listed named pgn first q segment₀ numbers segment = q .segments - segment
 
-add-requires : tie.Need-add-requires Inv-loop μ-loop
-add-requires c κs = search needs
-
 tell-question-requires : tie.Need-tell-question-requires Inv-loop μ-loop
 tell-question-requires c κs = search needs
 
@@ -48,7 +45,6 @@ answer-spec =
     (tie.spec
     Inv-loop
     μ-loop
-    add-requires
     tell-question-requires
     asked-requires
     loop-holds

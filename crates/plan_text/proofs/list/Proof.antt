@@ -13,8 +13,17 @@ abbrev μ-loop : tie.MeasureT-loop
 listed-requires : tie.Need-listed-requires Inv-loop μ-loop
 listed-requires c κs = search needs
 
+add-wrong-at : tie.Need-add-wrong-at Inv-loop μ-loop
+add-wrong-at c = search needs
+
+wrong-at-requires : tie.Need-wrong-at-requires Inv-loop μ-loop
+wrong-at-requires c κs = search needs
+
 returns : tie.Need-returns Inv-loop μ-loop
 returns c = search needs
+
+nothing-requires : tie.Need-nothing-requires Inv-loop μ-loop
+nothing-requires c κs = search needs
 
 loop-holds : tie.Need-loop-holds Inv-loop μ-loop
 loop-holds c = search needs
@@ -47,7 +56,10 @@ list-spec =
     Inv-loop
     μ-loop
     listed-requires
+    add-wrong-at
+    wrong-at-requires
     returns
+    nothing-requires
     loop-holds
     add-judged-at
     judged-at-requires

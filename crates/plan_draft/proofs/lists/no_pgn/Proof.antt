@@ -31,11 +31,17 @@ loop-less c = search needs
 loop-again : tie.Need-loop-again Inv-loop μ-loop
 loop-again c = search needs
 
-cast-t7 : tie.Need-cast-t7 Inv-loop μ-loop
-cast-t7 c = search needs
+add-wrong-at : tie.Need-add-wrong-at Inv-loop μ-loop
+add-wrong-at c = search needs
+
+wrong-at-requires : tie.Need-wrong-at-requires Inv-loop μ-loop
+wrong-at-requires c κs = search needs
 
 returns : tie.Need-returns Inv-loop μ-loop
 returns c = search needs
+
+nothing-requires : tie.Need-nothing-requires Inv-loop μ-loop
+nothing-requires c κs = search needs
 
 returns-2 : tie.Need-returns-2 Inv-loop μ-loop
 returns-2 c = search needs
@@ -53,6 +59,8 @@ no-pgn-spec =
     add-i
     loop-less
     loop-again
-    cast-t7
+    add-wrong-at
+    wrong-at-requires
     returns
+    nothing-requires
     returns-2)
