@@ -12,7 +12,7 @@ inside() { "${as_root[@]}" chroot "$root" "$@"; }
 # As the service: its user, and no more rights than that.
 as_service=("${as_root[@]}" chroot "$root" setpriv --reuid=deorasaeng --regid=deorasaeng --clear-groups --no-new-privs)
 mkdir -p "$keep"
-package=$(make -s -C "$tests/.." deb)
+package=$(make -s --no-print-directory -C "$tests/.." deb)
 if ! command -v debootstrap >/dev/null; then
     echo "check-deb: the Debian package debootstrap is needed and will be installed" >&2
     "${as_root[@]}" apt-get update -qq

@@ -5,7 +5,7 @@ set -euo pipefail
 tests=$(cd "$(dirname "$0")" && pwd)
 clone=$(cd "$tests/../.." && pwd)
 if [ -z "${PAGE_DEB_PACKAGES:-}" ]; then
-    PAGE_DEB_PACKAGES="$(make -s -C "$clone/gateway" deb) $(make -s -C "$clone/page" deb)"
+    PAGE_DEB_PACKAGES="$(make -s --no-print-directory -C "$clone/gateway" deb) $(make -s --no-print-directory -C "$clone/page" deb)"
     command -v curl >/dev/null || "$clone/scripts/install" curl
     as_root=(); [ "$(id -u)" = 0 ] || as_root=(sudo)
     exec "${as_root[@]}" env PAGE_DEB_PACKAGES="$PAGE_DEB_PACKAGES" unshare --mount "$0"

@@ -325,7 +325,10 @@ export function ordinal(number) {
 }
 
 export const refusal = (number) => t(has(`number_${number}`) ? `number_${number}` : 'number_other');
-export const reasonWord = (reason) => t(`reason_${reason.replaceAll(' ', '_')}`);
+export function reasonWord(reason) {
+  const key = `reason_${reason.replaceAll(' ', '_')}`;
+  return has(key) ? t(key) : reason;
+}
 export const commandWord = (number) => (has(`function_${number}`) ? t(`function_${number}`) : t('functionOther', number));
 
 const locale = () => (place === 1 ? 'de-DE' : 'en-GB');
