@@ -38,7 +38,9 @@ def browser():
     automatic = "profile.default_content_setting_values.automatic_downloads"
     options.add_experimental_option("prefs", {"download.default_directory": str(FOLDER), automatic: 1})
     options.set_capability("goog:loggingPrefs", {"browser": "ALL", "performance": "ALL"})
-    return webdriver.Chrome(service=Service("/usr/bin/chromedriver"), options=options)
+    driver = webdriver.Chrome(service=Service("/usr/bin/chromedriver"), options=options)
+    driver.set_script_timeout(120)
+    return driver
 
 
 def printed(text):
@@ -212,7 +214,7 @@ def garbage(page):
     }
     for name, text in megabyte.items():
         # the browser's own box takes its time with a million lines
-        most = 60 if name == "empty lines" else 20
+        most = 100 if name == "empty lines" else 20
         seconds = page.put(text)
         is_same = page.told() == printed(text)
         judge(f"1 MB of {name}: told as by the program, within {most} s", is_same and seconds < most, f"{seconds} s")
