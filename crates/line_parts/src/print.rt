@@ -87,6 +87,15 @@ pub fn count(out: &mut [u8], at: usize, word: &[u8], n: u64) -> usize
     number(out, next, n)
 }
 
+// A blank and a number.
+pub fn next_number(out: &mut [u8], at: usize, n: u64) -> usize
+    requires { ⌜ at ≤ length (now out) ⌝ }
+    ensures { λ r. ⌜ r ≤ length (now (out .entry)) ⌝ }
+{
+    let next = byte(out, at, b' ');
+    number(out, next, n)
+}
+
 // The hex digit of the lowest four bits.
 fn hex_digit(n: u64) -> u8 {
     let d = n % 16;
