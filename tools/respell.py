@@ -84,7 +84,7 @@ def main():
     for p, t in texts.items():
         stay = foreign(t)
         words = set(WORD.findall(t))
-        turn = {n: to.get(n, snake(n)) for n in (names | local[p]) & words if n not in stay}
+        turn = {n: to.get(n, snake(n)) for n in (names | local[p]) & words if n not in stay and (p.endswith(".antt") or TURNS.search(n))}
         code = re.sub(r"(?m)(^|\s)--.*$", "", t) if p.endswith(".antt") else ""
         together = collections.defaultdict(set)
         for w in set(WORD.findall(code)):

@@ -8,7 +8,7 @@ ghost use Rattle.address_claims.specs.Calls.{Dropping, Claiming, Withdrawing};
 use addresses::{PLACES, Place};
 
 // What came of a claim. Defended and Displaced are the unit's to give: they are of a claim of its own address.
-#[derive(Drop)]
+#[derive(Clone, Copy)]
 pub enum Event {
     Nothing,
     Withdrew,

@@ -19,7 +19,7 @@ const OUTER: usize = 0;
 const INNER: usize = 1;
 
 // What a table gives an address.
-#[derive(Drop)]
+#[derive(Clone, Copy)]
 pub enum Entry {
     Missing,
     Address(u8),

@@ -17,7 +17,7 @@ pub const PORT: usize = 0;
 pub const NAME: usize = 1;
 
 // What an address is: free, or held by a NAME that was recorded from a port.
-#[derive(Drop)]
+#[derive(Clone, Copy)]
 pub enum Place {
     Free,
     Held { port: u64, name: u64 },

@@ -4,7 +4,7 @@ ghost use Rattle.std.specs.Prelude.{true, ◌≡◌, ◌+◌, ◌≤◌, ◌<◌
 use libc::{STDERR_FILENO, STDIN_FILENO, STDOUT_FILENO};
 
 // What a read left: where the bytes end, whether that was the last, whether it failed.
-#[derive(Drop)]
+#[derive(Clone, Copy)]
 pub struct Filled {
     pub end: usize,
     pub last: bool,
@@ -79,7 +79,7 @@ pub fn is_over(over: bool, is_written: bool) -> bool {
 }
 
 // Whether to go on with a log: something of it was used, and it is not over.
-pub fn goes_on_lem(used: usize, over: bool) -> bool
+pub fn goes_on(used: usize, over: bool) -> bool
     ensures { result ≡ true → 0 < used }
 {
     if over {

@@ -16,7 +16,7 @@ use bridge::{FrameAnswer, TakeAnswer};
 pub const LINE_ROOM: usize = 39;
 
 // What a step did: the bytes of the log that it used, those of the line that it wrote, and whether the run is over.
-#[derive(Drop)]
+#[derive(Clone, Copy)]
 pub struct Stepped {
     pub used: usize,
     pub written: usize,

@@ -15,7 +15,7 @@ pub const FRAME_SIZE: usize = 15;
 pub const TAKE_SIZE: usize = 2;
 
 // What stands at the front of a log: the number of what is no whole record, or 0 and the bytes of one.
-#[derive(Drop)]
+#[derive(Clone, Copy)]
 pub struct Found {
     pub number: u32,
     pub size: usize,

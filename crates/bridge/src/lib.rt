@@ -19,7 +19,7 @@ pub use unit::Unit;
 
 // What came of a frame. Ports are masks, bit p - 1 for port p. The reasons are those of each port's pair, four bits a port, port p's from bit 4(p - 1), by
 // `Reason::number`. A refusal of 0 is none; refused, the rest is empty.
-#[derive(Drop)]
+#[derive(Clone, Copy)]
 pub struct FrameAnswer {
     pub refusal: u32,
     pub consumed: bool,
@@ -32,7 +32,7 @@ pub struct FrameAnswer {
 }
 
 // What a take gave, or the number that refused it.
-#[derive(Drop)]
+#[derive(Clone, Copy)]
 pub enum TakeAnswer {
     Refused(u32),
     Took(Taken),
@@ -40,7 +40,7 @@ pub enum TakeAnswer {
 
 // The number that refused Start, or 0, the ports where the unit's own frame was lost, and what became of the unit: Claiming or Lost. Refused, the rest is
 // empty.
-#[derive(Drop)]
+#[derive(Clone, Copy)]
 pub struct StartAnswer {
     pub refusal: u32,
     pub unsent: u32,
@@ -48,14 +48,14 @@ pub struct StartAnswer {
 }
 
 // The unit as it is, or the number that refused the call.
-#[derive(Drop)]
+#[derive(Clone, Copy)]
 pub enum UnitAnswer {
     Refused(u32),
     Told(Unit),
 }
 
 // The number that refused the call, or 0, and what is counted at a port. Refused, the rest is 0.
-#[derive(Drop)]
+#[derive(Clone, Copy)]
 pub struct CountsAnswer {
     pub refusal: u32,
     pub tally: Tally,

@@ -6,7 +6,7 @@ ghost use Rattle.candump.specs.Line.{head, tail, written, fits, alike, is_frame,
 ghost use Rattle.candump.specs.Calls.{line_read, line_refusal, WritingLine};
 
 // A frame and the port at which it arrived. Its bytes are a word, the first the least significant.
-#[derive(Drop)]
+#[derive(Clone, Copy)]
 pub struct Arrival {
     pub port: u32,
     pub id: u32,
@@ -15,14 +15,14 @@ pub struct Arrival {
 }
 
 // What a line is: a frame, or refused with a number.
-#[derive(Drop)]
+#[derive(Clone, Copy)]
 pub enum Line {
     Frame(Arrival),
     Refused(u32),
 }
 
 // What came of writing a frame: the number that refused it, or 0, and how many bytes the line has.
-#[derive(Drop)]
+#[derive(Clone, Copy)]
 pub struct Written {
     pub number: u32,
     pub length: usize,

@@ -26,7 +26,7 @@ const WORD: usize = 26;
 pub const ROOM: usize = 52;
 
 // What came of a line: why it is passed over, or 0 and the length of the line that was written.
-#[derive(Drop)]
+#[derive(Clone, Copy)]
 pub struct Rewritten {
     pub reason: usize,
     pub length: usize,

@@ -11,7 +11,7 @@ use queue::Frame;
 use unit::{Claim, NO_ADDRESS, Sent};
 
 // The claim event, and what the unit sends.
-#[derive(Drop)]
+#[derive(Clone, Copy)]
 pub struct Acted {
     pub event: Event,
     pub sent: Sent,

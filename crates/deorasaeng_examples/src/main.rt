@@ -134,7 +134,7 @@ fn many(record: &mut [u64]) {
 }
 
 // What is asked of a plan beside its ports and lists.
-#[derive(Drop)]
+#[derive(Clone, Copy)]
 struct Question {
     segments: u32,
     units: u32,

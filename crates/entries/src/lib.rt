@@ -7,7 +7,7 @@ ghost use Rattle.entries.specs.Entries.{listed, entries_of, entry_at, whole, fir
 pub const ENTRY_SIZE: usize = 3;
 
 // What stands at a byte: an entry, or nothing that is one.
-#[derive(Drop)]
+#[derive(Clone, Copy)]
 pub enum Entry {
     Pgn(u32),
     Wrong,

@@ -39,7 +39,7 @@ pub const PASS: u64 = 2;
 pub const BLOCK_NAMED: u64 = 3;
 
 // Why a frame crosses a pair or not. NotAsked is of a port whose pair is not asked.
-#[derive(Drop)]
+#[derive(Clone, Copy)]
 pub enum Reason {
     NotAsked,
     Permanent,
@@ -51,7 +51,7 @@ pub enum Reason {
 }
 
 // What asking a pair answers.
-#[derive(Drop)]
+#[derive(Clone, Copy)]
 pub struct Asked {
     pub reason: Reason,
     pub compared: u32,

@@ -16,7 +16,7 @@ use unit::Sent;
 
 // What came of a frame: accepted and lost ports as masks, bit p - 1 for port p; the reasons, four bits a port, port p's from bit 4(p - 1); the entries
 // compared.
-#[derive(Drop)]
+#[derive(Clone, Copy)]
 pub struct Share {
     pub accepted: u32,
     pub lost: u32,

@@ -10,7 +10,7 @@ use queue::Frame;
 use unit::{Sent, Unit};
 
 // A frame that came in: whether it is for the unit, which is not forwarded, and whether it is an address claim; or the refusal.
-#[derive(Drop)]
+#[derive(Clone, Copy)]
 pub struct Arrival {
     pub refusal: u32,
     pub frame: Frame,
@@ -19,7 +19,7 @@ pub struct Arrival {
 }
 
 // Why a frame crosses a pair or not, and the entries compared, or the refusal.
-#[derive(Drop)]
+#[derive(Clone, Copy)]
 pub struct AskAnswer {
     pub refusal: u32,
     pub reason: Reason,
@@ -27,14 +27,14 @@ pub struct AskAnswer {
 }
 
 // Whether a frame joined a port's queue, or the refusal.
-#[derive(Drop)]
+#[derive(Clone, Copy)]
 pub struct JoinAnswer {
     pub refusal: u32,
     pub accepted: bool,
 }
 
 // The claim event and what the unit sends, or the refusal.
-#[derive(Drop)]
+#[derive(Clone, Copy)]
 pub struct ActAnswer {
     pub refusal: u32,
     pub event: Event,
@@ -42,7 +42,7 @@ pub struct ActAnswer {
 }
 
 // The ports where the unit's own frame was lost, or the refusal.
-#[derive(Drop)]
+#[derive(Clone, Copy)]
 pub struct AnnounceAnswer {
     pub refusal: u32,
     pub unsent: u32,

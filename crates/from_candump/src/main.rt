@@ -23,7 +23,7 @@ struct Arguments {
 }
 
 // What bytes of text came to: how far the line is that has begun, the bytes of records that are to be written, the lines passed, whether all could be written.
-#[derive(Drop)]
+#[derive(Clone, Copy)]
 struct Fed {
     len: usize,
     written: usize,

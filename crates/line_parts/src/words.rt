@@ -2,14 +2,14 @@
 ghost use Rattle.std.specs.Prelude.{◌≤◌, length};
 
 // Where a word begins and ends in its line; the two are the same where there is none.
-#[derive(Drop)]
+#[derive(Clone, Copy)]
 pub struct Word {
     pub start: usize,
     pub end: usize,
 }
 
 // The number that a word stands for, or none.
-#[derive(Drop)]
+#[derive(Clone, Copy)]
 pub enum Narrow {
     Number(u32),
     Wrong,

@@ -210,7 +210,7 @@ pub fn clear(words: &mut [u64], ports: usize, from: u32, to: u32)
 }
 
 // Where a PGN is absent: the number of its entry from 1, the To port of the pair, the PGN.
-#[derive(Drop)]
+#[derive(Clone, Copy)]
 pub struct Absent {
     pub entry: usize,
     pub pgn: u64,

@@ -21,7 +21,7 @@ use network_message::Command;
 // `told`: with 22 the number from 1 of the first entry that is no PGN; with 17 where a PGN is absent; else 0.
 // PGN and length are not neighbours, and the To port of `told` is narrower than what stands beside it: the compiler would read two as one word that two stores have
 // written, and the processor waits for both. `told` stands first, since a gap before it would be copied with it.
-#[derive(Drop)]
+#[derive(Clone, Copy)]
 pub struct MessageAnswer {
     pub told: Absent,
     pub pgn: u32,

@@ -13,7 +13,7 @@ const ENTRY_LENGTH: usize = 3;
 const FIRST: usize = 1;
 
 // The NAME that the address table gives a sender, if it gives one.
-#[derive(Drop)]
+#[derive(Clone, Copy)]
 pub enum Sender {
     Unknown,
     Known(u64),
@@ -62,7 +62,7 @@ pub fn count(block: &[u64]) -> usize
 }
 
 // Whether an entry matches, and how many were compared.
-#[derive(Drop)]
+#[derive(Clone, Copy)]
 pub struct Searched {
     pub found: bool,
     pub compared: u32,

@@ -16,7 +16,7 @@ const FILLING: u8 = 0xFF;
 const ADD_BY_NAME_LENGTH: usize = 23;
 
 // 9: whether a function is listed. An arm for each, since of neighbours in one arm a range is made that is tested apart.
-fn is_known_lem(function: u8) -> bool
+fn is_known(function: u8) -> bool
     ensures { result ≡ is_known function }
 {
     match function {
@@ -219,7 +219,7 @@ fn has_wrong_mode(function: u8, payload: &[u8]) -> bool
 }
 
 // The number that a payload is refused with, or 0; with 22 the first wrong entry's, else 0.
-#[derive(Drop)]
+#[derive(Clone, Copy)]
 pub struct Judged {
     pub number: u32,
     pub entry: usize,

@@ -50,7 +50,7 @@ const MASK_AT: usize = 13;
 
 // What a payload asks, or the number that refuses it, with 22 the first wrong entry's number from 1, else 0. A `to` of 15 is all pairs from that port.
 // Add, Delete, Create and Add by NAME are a change with entries, the payload's bytes from `start` up to `end`.
-#[derive(Drop)]
+#[derive(Clone, Copy)]
 pub enum Command {
     Refused {
         number: u32,

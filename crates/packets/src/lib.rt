@@ -6,7 +6,7 @@ ghost use Rattle.packets.specs.Words.{Cutting, Filling, Filled};
 ghost use Rattle.packets.specs.Frames.{kind_of, request_bytes, clear_bytes, end_bytes, abort_bytes};
 
 // What a frame of PGN 60416 says about a message of PGN 60672; `Other` for every other frame of it.
-#[derive(Drop)]
+#[derive(Clone, Copy)]
 pub enum Kind {
     RequestToSend { size: u64, packets: u64, limit: u64 },
     ClearToSend { count: u64, first: u64 },

@@ -9,7 +9,7 @@ use plan_draft::{counts, lists, names, ports};
 use plan_shape::{PORTS, PORTS_LENGTH};
 
 // A question, the segments that hear, and those that a path leads to.
-#[derive(Drop)]
+#[derive(Clone, Copy)]
 pub struct Question {
     pub segments: u32,
     pub units: u32,
@@ -20,7 +20,7 @@ pub struct Question {
 }
 
 // The ports by which a path goes through a unit; 0 where it does not.
-#[derive(Drop)]
+#[derive(Clone, Copy)]
 pub struct Way {
     pub from: u32,
     pub to: u32,

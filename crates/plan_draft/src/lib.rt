@@ -12,7 +12,7 @@ use plan_text::{Finding, Kind, Line, Wrong, nothing, wrong_at};
 const MOST: u32 = 16;
 
 // The segment that a line is on, by its number or its name; none, or two of this name.
-#[derive(Drop)]
+#[derive(Clone, Copy)]
 pub enum Reference {
     Segment(u32),
     Unknown,

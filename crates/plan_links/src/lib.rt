@@ -7,7 +7,7 @@ use plans::Planned;
 
 // A port of a unit with its segment, each counted from 1.
 #[repr(C)]
-#[derive(Drop)]
+#[derive(Clone, Copy)]
 pub struct Link {
     pub unit: u32,
     pub port: u32,
@@ -15,7 +15,7 @@ pub struct Link {
 }
 
 // The segments on the ports, by the links so far, and whether each of them was good.
-#[derive(Drop)]
+#[derive(Clone, Copy)]
 pub struct Table {
     pub ports: [u64; PORTS_LENGTH],
     pub good: bool,

@@ -20,7 +20,7 @@ pub const LIST: usize = 4;
 pub const ON: usize = 3;
 
 // What a line says. A name is the line's third word, a list all that follow the mode; on which segment a port or a question is, is a number or a name.
-#[derive(Drop)]
+#[derive(Clone, Copy)]
 pub enum Line {
     Segment { number: u32 },
     Unit { number: u32 },
@@ -30,7 +30,7 @@ pub enum Line {
 }
 
 // A line's kind, by its first word.
-#[derive(Drop)]
+#[derive(Clone, Copy)]
 pub enum Kind {
     Segment,
     Unit,
@@ -41,7 +41,7 @@ pub enum Kind {
 }
 
 // What a word after the first stands for; `End` where a line has no more.
-#[derive(Drop)]
+#[derive(Clone, Copy)]
 pub enum Field {
     Segment,
     Unit,
@@ -57,7 +57,7 @@ pub enum Field {
 }
 
 // Why a line is wrong: by its form up to `MoreWords`, then by what stands above it; `Nothing` if it is not.
-#[derive(Drop)]
+#[derive(Clone, Copy)]
 pub enum Wrong {
     Nothing,
     TooLong,
@@ -89,7 +89,7 @@ pub enum Wrong {
 }
 
 // Why a line is wrong, and which word of it, by its number from 0.
-#[derive(Drop)]
+#[derive(Clone, Copy)]
 pub struct Finding {
     pub wrong: Wrong,
     pub place: usize,

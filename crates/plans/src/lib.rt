@@ -5,7 +5,7 @@ ghost use Rattle.plans.specs.Plans.{Planning};
 use plan_shape::{LISTS_LENGTH, PORTS_LENGTH};
 
 // The answer: the segments that hear, bit s - 1 for segment s; or the number that refuses the plan.
-#[derive(Drop)]
+#[derive(Clone, Copy)]
 pub enum Planned {
     Heard(u64),
     Refused(u32),

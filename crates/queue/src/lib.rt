@@ -26,7 +26,7 @@ pub const BLOCK_LENGTH: usize = 2 * SIZE + FRAMES;
 const LENGTH_PLACE: u64 = 4294967296;
 
 // A frame: its identifier, its length, and its bytes in a word, least significant first.
-#[derive(Drop)]
+#[derive(Clone, Copy)]
 pub struct Frame {
     pub id: u32,
     pub len: u32,
@@ -34,14 +34,14 @@ pub struct Frame {
 }
 
 // What a take gives.
-#[derive(Drop)]
+#[derive(Clone, Copy)]
 pub enum Taken {
     Given(Frame),
     Nothing,
 }
 
 // What is counted at a port: the frames that wait, by their priority, and those accepted and taken since power-on.
-#[derive(Drop)]
+#[derive(Clone, Copy)]
 pub struct Tally {
     pub waiting: [u64; 8],
     pub accepted: u64,
@@ -195,13 +195,13 @@ pub fn take(block: &mut [u64]) -> Taken
 
 // A queue by value.
 #[repr(C)]
-#[derive(Drop)]
+#[derive(Clone, Copy)]
 pub struct Queue {
     pub words: [u64; BLOCK_LENGTH],
 }
 
 // A queue after a take, and what the take gave.
-#[derive(Drop)]
+#[derive(Clone, Copy)]
 pub struct AfterTake {
     pub queue: Queue,
     pub taken: Taken,

@@ -8,7 +8,7 @@ ghost use Rattle.routing.specs.Routing.{is_claim, turns_source, turns_destinatio
 use address_pairs::Entry;
 
 // The identifier with which a frame crosses, if it does.
-#[derive(Drop)]
+#[derive(Clone, Copy)]
 pub enum Crossing {
     Nowhere,
     As(u32),

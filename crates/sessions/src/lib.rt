@@ -17,7 +17,7 @@ pub const PORT_LENGTH: usize = 1053;
 
 // What a data packet comes to: no session is there for it, it is refused with 20, it is stored, it is stored and more are to
 // be asked for, or it was the last and the message was given out.
-#[derive(Drop)]
+#[derive(Clone, Copy)]
 pub enum Data {
     Nothing,
     Refused,
@@ -27,7 +27,7 @@ pub enum Data {
 }
 
 // What a request to send comes to: 19, 21, or a session that is to ask for so many packets.
-#[derive(Drop)]
+#[derive(Clone, Copy)]
 pub enum Request {
     Full,
     Wrong,
@@ -35,14 +35,14 @@ pub enum Request {
 }
 
 // What a clear to send comes to: nothing is to be sent, or packets of the session at a place, from a number through another.
-#[derive(Drop)]
+#[derive(Clone, Copy)]
 pub enum Clear {
     Nothing,
     Send { at: usize, first: u64, through: u64 },
 }
 
 // Which session at its limit has ended: none, or that with a peer.
-#[derive(Drop)]
+#[derive(Clone, Copy)]
 pub enum AtLimit {
     Nothing,
     Ended(u64),

@@ -15,7 +15,7 @@ pub use words::{ports_of, read_unit, store_claim, store_unit};
 pub const NO_ADDRESS: u8 = 254;
 
 // How far the unit's own address claim is.
-#[derive(Drop)]
+#[derive(Clone, Copy)]
 pub enum Claim {
     Unstarted,
     Claiming,
@@ -24,13 +24,13 @@ pub enum Claim {
 }
 
 // What the unit sends of its own.
-#[derive(Drop)]
+#[derive(Clone, Copy)]
 pub enum Sent {
     Nothing,
     One(Frame),
 }
 
-#[derive(Drop)]
+#[derive(Clone, Copy)]
 pub struct Unit {
     pub claim: Claim,
     pub address: u8,

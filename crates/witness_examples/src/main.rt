@@ -24,7 +24,7 @@ const HEAD: usize = 4;
 const MOST_WORDS: usize = 6266;
 
 // A number that is being read, whether it has a digit, and whether a comment goes on.
-#[derive(Drop)]
+#[derive(Clone, Copy)]
 struct Reading {
     value: u64,
     has_digit: bool,

@@ -1,10 +1,10 @@
--- `goes_on_lem` meets its contract: what is over does not go on. Assumes nothing.
+-- `goes_on` meets its contract: what is over does not go on. Assumes nothing.
 use mathlib.Core.Path.{◌≡◌}
 use Prim.Native.Nat.{ℕ}
 use native.Mathlib.Omega.{arith}
 use borrow.Author.Rules.{rules}
-use Rattle.bench_io.proofs.goes_on_lem.Statement.{statement}
-use Rattle.bench_io.proofs.goes_on_lem.Tie as tie
+use Rattle.bench_io.proofs.goes_on.Statement.{statement}
+use Rattle.bench_io.proofs.goes_on.Tie as tie
 
 returns : tie.Need-returns
 returns c = λ e. let z : ◌≡◌ {A = ℕ} 0 1 = cc in absurd (omega arith)

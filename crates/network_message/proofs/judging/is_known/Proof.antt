@@ -3,8 +3,8 @@ use mathlib.Core.Path.{sym}
 use borrow.Author.Tests.{ne_eqb}
 use Rattle.entries.specs.Entries.{listed}
 use Rattle.network_message.specs.Decoding.{is_known}
-use Rattle.network_message.proofs.judging.is_known_lem.Statement.{statement}
-use Rattle.network_message.proofs.judging.is_known_lem.Tie as tie
+use Rattle.network_message.proofs.judging.is_known.Statement.{statement}
+use Rattle.network_message.proofs.judging.is_known.Tie as tie
 
 returns : tie.Need-returns
 unfolding is_known listed
