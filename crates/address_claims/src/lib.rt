@@ -1,4 +1,6 @@
 // What an address claim does to the address table: the contest for a place, the drop of the claimant's other addresses, and the event that came of it.
+#![tactic(auto)]
+
 ghost use Rattle.std.specs.Prelude.{◌≡◌, ◌<◌, length};
 ghost use Rattle.addresses.specs.Table.{places, table_length, table_of};
 ghost use Rattle.address_claims.specs.Claims.{settled, contest_event};

@@ -1,5 +1,7 @@
 // The address pairs of the ports other than 1, in lent words: for each such port, from 2 on, a table of how many pairs there are, then an outer and an inner
 // address for each.
+#![tactic(auto)]
+
 ghost use Rattle.std.specs.Prelude.{◌≡◌, ◌+◌, ◌-◌, ◌*◌, ◌/◌, ◌≤◌, ◌<◌, min, length, get_or, []};
 ghost use Rattle.address_pairs.specs.AddressPairs.{address_count, most_pairs, pairs_length, pair_at, pairs_of, tables_of, table_of, side, look_up, out_of, in_to, stands, any_outer, full, refusal_of};
 ghost use Rattle.address_pairs.specs.Calls.{entry_of, Appending, Adding};

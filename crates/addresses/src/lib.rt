@@ -1,5 +1,7 @@
 // The address table: who holds which address. Its words are the caller's to lend: for each address 0 to 253 the arrival port,
 // 0 where the address is free, and the NAME.
+#![tactic(auto)]
+
 ghost use Rattle.std.specs.Prelude.{◌≡◌, true, ◌≤◌, ◌<◌, length, get_or, set};
 ghost use Rattle.addresses.specs.Table.{places, table_length, place_from, table_of, held_by, held_on, stands_in};
 ghost use Rattle.addresses.specs.Steps.{Others, Skipping};

@@ -1,4 +1,6 @@
 // The lines that a run prints, each at the start of a lent buffer; the answer is the line's length.
+#![tactic(auto)]
+
 ghost use Rattle.std.specs.Prelude.{◌≡◌, ◌∷◌, [], ◌++◌, ◌+◌, ◌≤◌, length};
 ghost use Rattle.text.specs.Digits.{hex_of, four_bytes, decimal_of};
 ghost use Rattle.text.specs.Writing.{Writing};

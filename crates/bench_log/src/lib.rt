@@ -1,4 +1,6 @@
 // A log of frames and takes that is run on a unit, a line for each record.
+#![tactic(auto)]
+
 ghost use Rattle.std.specs.Prelude.{◌≡◌, ◌≤◌, ◌<◌, length, get_or, replicate};
 ghost use Rattle.unit.specs.Count.{ports_of};
 ghost use Rattle.bridge.specs.Calls.{FrameIn, TakeOut, Framing};

@@ -1,4 +1,6 @@
 // The records of our log, and the two turnings between a line of candump's text and a frame's record.
+#![tactic(auto)]
+
 ghost use Rattle.std.specs.Prelude.{◌≡◌, ◌+◌, ◌≤◌, ◌<◌, length, get_or};
 ghost use Rattle.storage.specs.Bytes.{bytes_of};
 ghost use Rattle.text.specs.Digits.{four_bytes};

@@ -1,5 +1,7 @@
 // The unit: a bridge of two to eight ports on one record that the caller lends. No function requires anything of its caller: what is wrong is refused by a
 // number, and a refusal changes nothing.
+#![tactic(auto)]
+
 ghost use Rattle.std.specs.Prelude.{◌≡◌, ℕ, ◌≤◌, ◌<◌, length};
 ghost use Rattle.identifier.specs.Identifier.{sa_of};
 ghost use Rattle.unit.specs.Count.{ports_of};

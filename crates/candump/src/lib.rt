@@ -1,4 +1,6 @@
 // A line of candump's text and the frame that it is: `(0000000000.000000) can1 18FEF121#0102` and a line feed, can1 to can4 naming the arrival port.
+#![tactic(auto)]
+
 ghost use Rattle.std.specs.Prelude.{◌≡◌, ◌&&◌, ◌||◌, ◌+◌, ◌-◌, ◌*◌, ◌≤◌, ◌<◌, eqb, length, drop};
 ghost use Rattle.text.specs.Digits.{is_decimal};
 ghost use Rattle.text.specs.Writing.{Writing};

@@ -1,6 +1,8 @@
 // A line as `candump -l` writes it on a real bus, written anew as the strict reader of `candump` takes it: the interface's name becomes can1 to can4 by a map
 // such as can0=1,vcan1=2, hex digits become upper case, and a direction letter, a carriage return and the blanks that fill a short name up are left out. What is a
 // frame the strict reader says.
+#![tactic(auto)]
+
 ghost use Rattle.std.specs.Prelude.{◌≡◌, ◌+◌, ◌≤◌, ◌<◌, length};
 
 // Why a line is passed over; 0 if it is not.

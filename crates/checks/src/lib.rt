@@ -1,4 +1,6 @@
 // The numbers given back: checks in order, and the number of the first that applies, in `specs/`; and the one test of a port's number.
+#![tactic(auto)]
+
 ghost use Rattle.std.specs.Prelude.{◌≡◌};
 ghost use Rattle.checks.specs.Ports.{is_port};
 

@@ -1,4 +1,6 @@
 // What is done about an address claim, a request for one, and Start.
+#![tactic(auto)]
+
 ghost use Rattle.std.specs.Prelude.{◌≡◌, ℕ, ◌≤◌, ◌<◌, length, get_or};
 ghost use Rattle.identifier.specs.Identifier.{sa_of};
 ghost use Rattle.unit.specs.Model.{model_of, rows_from};

@@ -1,1 +1,2 @@
 // The customer's demand 3 as a theorem over the contracts of the crates below. It stands in specs/; there is no code here.
+#![tactic(auto)]

@@ -1,5 +1,7 @@
 // The C interface of the unit: exported functions over numbers and slices alone. Each gives 0 for done or the number that refuses the call, and requires
 // nothing: a wrong length is refused with 2.
+#![tactic(auto)]
+
 ghost use Rattle.std.specs.Prelude.{◌≡◌};
 ghost use Rattle.unit.specs.Count.{ports_of};
 ghost use Rattle.unit.specs.PowerOn.{PoweringOn};

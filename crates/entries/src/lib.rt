@@ -1,4 +1,6 @@
 // The entries of a command, three bytes to a PGN, least significant first.
+#![tactic(auto)]
+
 ghost use Rattle.std.specs.Prelude.{◌≡◌, ◌+◌, ◌≤◌, ◌<◌, length, get_or};
 ghost use Rattle.storage.specs.Bytes.{Packing};
 ghost use Rattle.entries.specs.Entries.{listed, entries_of, entry_at, whole, first_wrong};

@@ -1,5 +1,7 @@
 // One directed pair's filter, in a lent block of words: mode, count, the PGNs in order of addition, behind them the NAME entries, and behind
 // those the PGNs in rising order; and what is asked of it.
+#![tactic(auto)]
+
 ghost use Rattle.std.specs.Prelude.{◌≡◌, List, ℕ, ◌<◌, ◌≤◌, length, get_or, leb};
 ghost use Rattle.std.proofs.Math.Option.{Option};
 ghost use Rattle.entries.specs.Entries.{listed};

@@ -1,4 +1,6 @@
 // The commands on one pair's filter: Add, Delete, Create, Clear and Add by NAME, and the questions that refuse them with 14 to 17.
+#![tactic(auto)]
+
 pub mod pairs;
 
 ghost use Rattle.std.specs.Prelude.{◌≡◌, true, false, [], ◌∷◌, ◌≤◌, ◌<◌, length, get_or, take, drop};

@@ -1,4 +1,6 @@
 // Answers flat: as words and bytes that the caller lends, for an interface that passes no structs and no enums.
+#![tactic(auto)]
+
 ghost use Rattle.std.specs.Prelude.{◌≡◌, cond, length};
 ghost use Rattle.storage.specs.Bytes.{bytes_of};
 ghost use Rattle.flat_answers.specs.Answers.{frame_length, take_length, bytes_length, unit_length, counts_length, frame_words, counts_words, bytes_of_frame, Telling, TellingUnit};

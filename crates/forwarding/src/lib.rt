@@ -1,4 +1,6 @@
 // Forwarding: a frame from one port at every other, and the unit's own frame at all.
+#![tactic(auto)]
+
 ghost use Rattle.std.specs.Prelude.{◌≡◌, false, List, ℕ, ◌+◌, ◌*◌, ◌^◌, ◌≤◌, ◌<◌, length, get_or};
 ghost use Rattle.filter.specs.Filter.{block_size as filterLength};
 ghost use Rattle.sorted_list.specs.SortedList.{most_probes};

@@ -1,4 +1,6 @@
 // What a frame's call is made of, each part as a call of its own that refuses and requires nothing: another product is built on these.
+#![tactic(auto)]
+
 ghost use Rattle.std.specs.Prelude.{◌≡◌, ◌≤◌, length};
 ghost use Rattle.unit.specs.Count.{ports_of};
 ghost use Rattle.unit.specs.Model.{model_of};

@@ -1,5 +1,7 @@
 // The 29-bit identifier of a frame: its six fields, its PGN and destination, and which identifiers are refused.
 // Every function takes any u32; of a wider number the lower 29 bits are read. docs/IDENTIFIER.md has the picture beside these lines.
+#![tactic(auto)]
+
 ghost use Rattle.std.specs.Prelude.{◌≡◌, cond};
 ghost use Rattle.identifier.specs.Identifier.{priority_of, extended_data_page_of, data_page_of, pf_of, ps_of, sa_of, has_destination, pgn_of, destination_of, is_pgn, too_wide, sent_without_address, wrong_source};
 ghost use Rattle.identifier.specs.Turning.{with_source, with_destination};

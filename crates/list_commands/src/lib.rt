@@ -1,4 +1,6 @@
 // A command on the pairs from a port: judged on all that it names before any is changed.
+#![tactic(auto)]
+
 ghost use Rattle.std.specs.Prelude.{◌≡◌, true, ℕ, suc, ◌+◌, ◌-◌, ◌≤◌, length};
 ghost use Rattle.entries.specs.Entries.{entries_of};
 ghost use Rattle.filter.specs.Filter.{clear};

@@ -1,4 +1,6 @@
 // A counter of the messages lost to a full buffer, in one word that the caller lends. It stays at its last count.
+#![tactic(auto)]
+
 ghost use Rattle.std.specs.Prelude.{◌≡◌, ◌≤◌, length};
 ghost use Rattle.losses.specs.Losses.{most, one_more, counter_length, losses_of};
 

@@ -1,4 +1,6 @@
 // What a network message that was decoded does, and what is written back.
+#![tactic(auto)]
+
 ghost use Rattle.std.specs.Prelude.{◌≡◌, true, ℕ, ◌+◌, ◌-◌, ◌≤◌, ◌<◌, length, get_or};
 ghost use Rattle.filter.specs.Filter.{clear};
 ghost use Rattle.network_message.specs.Commands.{Good};

@@ -1,4 +1,6 @@
 // The NAME entries of a pair, in a lent block of words: how many there are, then a PGN, a NAME and a mask for each.
+#![tactic(auto)]
+
 ghost use Rattle.std.specs.Prelude.{◌≡◌, ◌+◌, ◌≤◌, ◌<◌, min, length, drop, get_or};
 ghost use Rattle.std.proofs.Math.Option.{some};
 ghost use Rattle.name_entries.specs.NameEntries.{agrees, matches, sender_of, is_same, is_there, most_names, names_length, entry_at, entries_in, first_match, Searching, Appending};

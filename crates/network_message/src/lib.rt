@@ -1,4 +1,6 @@
 // The bytes of the network message: a payload is a command or is refused. It knows bytes and nothing of the unit: what a command does is another's to say.
+#![tactic(auto)]
+
 mod judging;
 
 ghost use Rattle.std.specs.Prelude.{◌≡◌, ◌≤◌, length, take, drop};

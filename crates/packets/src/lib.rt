@@ -1,5 +1,7 @@
 // The frames of the transport protocol, each as the word of its eight bytes, least significant first: what a frame says,
 // the frames that are sent, and a message cut into packets.
+#![tactic(auto)]
+
 ghost use Rattle.std.specs.Prelude.{◌≡◌, ◌+◌, ◌≤◌, ◌<◌, length};
 ghost use Rattle.storage.specs.Bytes.{bytes_of};
 ghost use Rattle.packets.specs.Words.{Cutting, Filling, Filled};

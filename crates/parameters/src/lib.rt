@@ -1,4 +1,6 @@
 // The parameters that a tool asks for: what each is worth, of a pair and in general.
+#![tactic(auto)]
+
 ghost use Rattle.std.specs.Prelude.{◌≡◌, ℕ, ◌*◌, ◌^◌, ◌≤◌, ◌<◌, length};
 ghost use Rattle.unit.specs.Count.{pair_count};
 ghost use Rattle.unit.specs.Ports.{total};

@@ -1,4 +1,6 @@
 // A list of PGNs in lent words, its first n in use: a search in it, and what Add and Delete do to it, in place.
+#![tactic(auto)]
+
 mod index;
 
 ghost use Rattle.std.specs.Prelude.{◌≡◌, [], ◌∷◌, ◌≤◌, ◌<◌, length, take};

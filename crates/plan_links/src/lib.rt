@@ -1,4 +1,6 @@
 // A plan asked by its links, which are lent as a slice of small structs: which segments hear a PGN.
+#![tactic(auto)]
+
 ghost use Rattle.std.specs.Prelude.{◌≡◌, ◌<◌, length, get_or};
 ghost use Rattle.plan_links.specs.Links.{link_in_range, put, put_all, fresh, LinkPlanning, TablePlanning, blank};
 

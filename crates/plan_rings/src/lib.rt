@@ -1,4 +1,6 @@
 // Whether a plan joins some segments twice, which is refused with 29: segments and units that are joined have one label.
+#![tactic(auto)]
+
 ghost use Rattle.std.specs.Prelude.{◌≡◌, true, cond, ◌↔◌, List, ℕ, ◌*◌, ◌<◌, ◌≤◌, length, get_or, eqb};
 ghost use Rattle.plan_shape.specs.Plan.{plan_of, Ringed, most_segments, most_units, port_count, ports_length};
 ghost use Rattle.plan_rings.specs.Rings.{nodes, Fresh, Numbered, Relabeled, Linking};

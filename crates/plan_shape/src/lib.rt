@@ -1,4 +1,6 @@
 // A plan of a machine: the segment on each port of its units, and their lists; and whether its numbers are in range, or refused with 28.
+#![tactic(auto)]
+
 ghost use Rattle.std.specs.Prelude.{◌≡◌, true, ◌||◌, ◌*◌, ◌/◌, ◌%◌, ◌≤◌, length, get_or, leb, eqb};
 ghost use Rattle.identifier.specs.Identifier.{is_pgn};
 ghost use Rattle.entries.specs.Entries.{every};

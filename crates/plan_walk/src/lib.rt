@@ -2,6 +2,8 @@
 // so that a walk asks at most seven pairs of each. A link is a port of a unit; the links of a segment are chained before the walk, so that no other is looked at.
 // What is visited is marked before the walk goes on and unmarked after it, so that the marks are those of the way from the first segment: a unit that was
 // entered at a port where it stops a PGN may be entered again at another.
+#![tactic(auto)]
+
 ghost use Rattle.std.specs.Prelude.{◌≡◌, ℕ, ◌+◌, ◌*◌, ◌/◌, ◌%◌, ◌≤◌, ◌<◌, length, get_or};
 ghost use Rattle.unit.specs.Model.{pair_at};
 ghost use Rattle.filter.specs.Filter.{permitted};

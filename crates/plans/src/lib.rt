@@ -1,4 +1,6 @@
 // A plan of a machine, asked before it is built: which segments hear a PGN that is sent on a given one.
+#![tactic(auto)]
+
 ghost use Rattle.plan_shape.specs.Plan.{plan_of};
 ghost use Rattle.plans.specs.Plans.{Planning};
 

@@ -1,6 +1,8 @@
 // One port's queue of at most 32 frames, in place in a block of words that the caller lends: how many wait; how many of each priority, how many were
 // accepted and how many taken since power-on; and for each frame the word of its identifier and length and the word of its bytes. Join and take by the rules
 // of the crate `delivery`.
+#![tactic(auto)]
+
 ghost use Rattle.std.specs.Prelude.{◌≡◌, ◌-◌, ◌<◌, ◌≤◌, length, take, slice_index_or, slice_set};
 ghost use Rattle.queue.specs.Queue.{size, block_length, head, frames_of, row_of, tally_of, counted_in, counted_out, priority, Joining, Taking};
 ghost use Rattle.queue.specs.Steps.{blank, remove_at, First, Counting};

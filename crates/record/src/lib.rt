@@ -1,4 +1,6 @@
 // The record's parts: a filter, a queue or the address table is lent to its crate, one at a time.
+#![tactic(auto)]
+
 ghost use Rattle.std.specs.Prelude.{◌≡◌, ℕ, ◌+◌, ◌-◌, ◌*◌, ◌≤◌, ◌<◌, length, get_or, set, leb};
 ghost use Rattle.std.proofs.Math.Option.{Option};
 ghost use Rattle.addresses.specs.Table.{name_at};

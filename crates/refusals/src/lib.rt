@@ -1,4 +1,6 @@
 // Which number a call is refused with: the checks in order, 0 where none applies.
+#![tactic(auto)]
+
 ghost use Rattle.std.specs.Prelude.{◌≡◌, ◌≤◌, length};
 ghost use Rattle.checks.specs.Checks.{first};
 ghost use Rattle.unit.specs.Model.{model_of};

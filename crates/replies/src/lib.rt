@@ -1,4 +1,6 @@
 // Replies and acknowledgments, written at the start of a buffer. Every byte past them is left as it was.
+#![tactic(auto)]
+
 ghost use Rattle.std.specs.Prelude.{◌≡◌, ◌∷◌, ◌++◌, ◌+◌, ◌≤◌, ◌<◌, length, take, drop};
 ghost use Rattle.std.proofs.lemmas.List.Edits.{sets};
 ghost use Rattle.storage.specs.Bytes.{bytes_of};

@@ -1,4 +1,6 @@
 // What turns in a frame's identifier as it crosses from a port to another, by the tables of the ports other than 1.
+#![tactic(auto)]
+
 ghost use Rattle.std.specs.Prelude.{◌≡◌, ◌-◌, ◌*◌, ◌≤◌, length};
 ghost use Rattle.identifier.specs.Identifier.{ps_of, sa_of};
 ghost use Rattle.identifier.specs.Turning.{with_source, with_destination};

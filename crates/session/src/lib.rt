@@ -1,5 +1,7 @@
 // One session of the transport protocol, in a lent block of words: eight words of its own, and a word for each packet, as
 // the packet's frame holds it.
+#![tactic(auto)]
+
 ghost use Rattle.std.specs.Prelude.{◌≡◌, List, ℕ, ◌+◌, ◌-◌, ◌*◌, ◌≤◌, ◌<◌, min, length, get_or};
 ghost use Rattle.packets.specs.Words.{cut_words};
 ghost use Rattle.session.specs.Session.{most_bytes, block_length, packet_words, session_of, opened, with_packet, with_packets, timed, asking, is_last, is_asked, is_due, message};

@@ -1,5 +1,7 @@
 // A port's sessions in 1,053 lent words: how many are open, and four blocks, the open ones in order of opening, the oldest
 // first. What each frame of the transport protocol does to them, and which are at their limit.
+#![tactic(auto)]
+
 ghost use Rattle.std.specs.Prelude.{◌≡◌, [], ◌∷◌, ◌++◌, ◌+◌, ◌-◌, ◌≤◌, ◌<◌, min, length, get_or, set};
 ghost use Rattle.session.specs.Session.{most_bytes, session_of, is_due, is_last, is_asked, opened, with_packet, with_packets, timed, asking, next};
 ghost use Rattle.packets.specs.Words.{cut_words};

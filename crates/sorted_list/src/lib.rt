@@ -1,5 +1,7 @@
 // A list of different PGNs in rising order, in 32 lent words, its first n in use: a search in it by halving, a PGN put where
 // it belongs. Each does what it says to any words, in order or not.
+#![tactic(auto)]
+
 ghost use Rattle.std.specs.Prelude.{◌≡◌, ◌+◌, ◌≤◌, ◌<◌, length, take};
 ghost use Rattle.pgn_list.specs.PgnList.{list_size};
 ghost use Rattle.sorted_list.specs.SortedList.{Finding, put_one, fitted};

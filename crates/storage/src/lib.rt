@@ -1,4 +1,6 @@
 // Storage that a caller lends. The laws of its parts and blocks are in proofs/; the code here packs bytes into a word and reads them back.
+#![tactic(auto)]
+
 ghost use Rattle.std.specs.Prelude.{◌≡◌, ◌+◌, ◌≤◌, ◌<◌, length, take, get_or};
 ghost use Rattle.storage.specs.Bytes.{packed, bytes_of, Packing};
 

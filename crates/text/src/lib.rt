@@ -1,4 +1,6 @@
 // Text in a buffer that the caller lends: each function puts something at a place and answers the next place.
+#![tactic(auto)]
+
 ghost use Rattle.std.specs.Prelude.{◌≡◌, [], ◌∷◌, ◌+◌, ◌*◌, ◌%◌, ◌≤◌, ◌<◌, length, take, drop, get_or};
 ghost use Rattle.storage.specs.Bytes.{bytes_of};
 ghost use Rattle.text.specs.Digits.{hex_digit, Reading, hex_of, pair_at, four_bytes, is_decimal, decimal_of};

@@ -1,4 +1,6 @@
 // The unit itself: its claim state, its addresses and its NAME, which are the record's first words; and the frames that it sends.
+#![tactic(auto)]
+
 mod words;
 
 ghost use Rattle.std.specs.Prelude.{◌≡◌, ◌≤◌};

@@ -1,5 +1,7 @@
 // A second witness of demand 3, by running code: `replay` makes any list of calls on one record, from power-on on, and writes down the answers. Its
 // contract says of the whole list what demand 3 says: the answers are the book's.
+#![tactic(auto)]
+
 ghost use Rattle.std.specs.Prelude.{◌≡◌, cond, [], ◌∷◌, ◌*◌, ◌≤◌, min, length};
 ghost use Rattle.unit.specs.Count.{ports_of};
 ghost use Rattle.unit.specs.Model.{record_length};

@@ -1,0 +1,12 @@
+use mathlib.Core.Logic.{⊎_elim}
+use Prim.Native.Nat.{◌+◌, ◌-◌, zero-le}
+use native.Mathlib.Omega.{arith}
+use Rattle.addresses.specs.Table.{places}
+use Rattle.address_claims.proofs.Dropping.{Passed, passed_start, passed_free, passed_keep, passed_drop, passed_skip, passed_done}
+use Rattle.address_claims.proofs.drop_others.Given as goal
+
+abbrev pub invariant-loop-address : goal.invariant-loop-address
+invariant-loop-address l = Passed l.initial.table l.table l.name l.keep l.dropped l.address
+
+abbrev pub decreases-loop-address : goal.decreases-loop-address
+decreases-loop-address l = places - l.address

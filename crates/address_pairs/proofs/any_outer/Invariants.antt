@@ -1,0 +1,12 @@
+use Prim.Native.Nat.{◌-◌}
+use mathlib.Core.Path.{sym, ◌∙◌}
+use native.Mathlib.Omega.{arith}
+use Rattle.address_pairs.specs.AddressPairs.{tables_of}
+use Rattle.address_pairs.proofs.Tables.{Going, start, other, found, done, table_count}
+use Rattle.address_pairs.proofs.any_outer.Given as goal
+
+abbrev pub invariant-loop-i : goal.invariant-loop-i
+invariant-loop-i l = Going (tables_of l.tables) l.address l.i
+
+abbrev pub decreases-loop-i : goal.decreases-loop-i
+decreases-loop-i l = l.n - l.i

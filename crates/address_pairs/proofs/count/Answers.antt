@@ -1,0 +1,10 @@
+use native.Mathlib.Omega.{arith}
+use Rattle.address_pairs.proofs.Looking.{counted}
+use borrow.Author.Rules.{rules}
+use Rattle.address_pairs.proofs.count.Goals as goal
+
+pub returns-then-n : goal.returns-then-n
+returns-then-n c = counted c.args.table.now (omega arith)
+
+pub returns : goal.returns
+returns c = counted c.args.table.now (omega arith)

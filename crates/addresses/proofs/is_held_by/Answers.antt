@@ -1,0 +1,11 @@
+use borrow.Author.Rules.{rules}
+use Rattle.addresses.proofs.Words.{by_found, by_absent}
+use Rattle.addresses.proofs.is_held_by.Goals as goal
+
+pub returns-then-table-at : goal.returns-then-table-at
+returns-then-table-at c = let args = c.args in
+    by_found args.table.now args.address (search rules) args.name c.if-table-at.true
+
+pub returns : goal.returns
+returns c = let args = c.args in
+    by_absent args.table.now args.address (search rules) args.name c.if-table-at.false

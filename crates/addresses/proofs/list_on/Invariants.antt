@@ -1,0 +1,12 @@
+use mathlib.Core.Logic.{⊎_elim}
+use Prim.Native.Nat.{◌-◌}
+use native.Mathlib.Omega.{arith}
+use Rattle.addresses.specs.Table.{places}
+use Rattle.addresses.proofs.Listing.{Written, written_start, written_not, written_except, written_one, written_others, written_done}
+use Rattle.addresses.proofs.list_on.Given as goal
+
+abbrev pub invariant-loop-address : goal.invariant-loop-address
+invariant-loop-address l = Written l.table l.port l.except l.initial.out l.out l.n l.address
+
+abbrev pub decreases-loop-address : goal.decreases-loop-address
+decreases-loop-address l = places - l.address

@@ -1,0 +1,12 @@
+use Prim.Native.Nat.{◌-◌}
+use native.Mathlib.Omega.{arith}
+use Rattle.addresses.specs.Table.{places}
+use Rattle.addresses.specs.Steps.{Skipping}
+use Rattle.addresses.proofs.Skipping.{skip_none, skip_four}
+use Rattle.addresses.proofs.past_others.Given as goal
+
+abbrev pub invariant-loop-address : goal.invariant-loop-address
+invariant-loop-address l = Skipping l.table l.word l.start l.value l.address
+
+abbrev pub decreases-loop-address : goal.decreases-loop-address
+decreases-loop-address l = places - l.address

@@ -1,0 +1,7 @@
+use borrow.Author.Rules.{rules}
+use Rattle.addresses.specs.Table.{place_from}
+use Rattle.addresses.proofs.release.Goals as goal
+
+pub returns : goal.returns
+unfolding place_from
+returns c = c.put.ensures

@@ -1,0 +1,6 @@
+use borrow.Author.Rules.{rules}
+use Rattle.bench_log.proofs.Steps.{frame_done_lem}
+use Rattle.bench_log.proofs.do_frame.Goals as goal
+
+pub returns : goal.returns
+returns c = frame_done_lem c.call_frame-r.ensures c.put_frame.ensures

@@ -1,0 +1,6 @@
+use borrow.Author.Rules.{rules}
+use Rattle.bench_log.proofs.Steps.{take_done}
+use Rattle.bench_log.proofs.do_take.Goals as goal
+
+pub returns : goal.returns
+returns c = take_done c.take-r.ensures c.put_take.ensures

@@ -1,0 +1,16 @@
+use mathlib.Core.Path.{◌≡◌}
+use mathlib.Core.Bool.{cond}
+use Prim.Native.Nat.{◌+◌, ◌-◌, ◌*◌, ◌≤◌}
+use native.Mathlib.Omega.{arith}
+use borrow.Author.Rules.{rules}
+use borrow.Author.Tests.{ltb-true}
+use lib.ListN.{length}
+use Rattle.bench_records.proofs.Turns.{turns_fall, part_long}
+use Rattle.bench_log.proofs.Pieces.{Going, going_none, going_step, going_done}
+use Rattle.bench_log.proofs.run.Given as goal
+
+abbrev pub invariant-loop-going : goal.invariant-loop-going
+invariant-loop-going l = Going l.initial.words l.words l.log l.last l.initial.out l.out l.used l.written l.over l.going
+
+abbrev pub decreases-loop-going : goal.decreases-loop-going
+decreases-loop-going l = 2 * (length l.log - l.used) + cond l.going 1 0

@@ -1,0 +1,17 @@
+use mathlib.Core.Path.{◌≡◌}
+use Prim.Native.Nat.{◌+◌, ◌-◌, ◌≤◌}
+use lib.ListN.{length, take}
+use lib.Seq.{take_all}
+use borrow.Author.Rules.{rules}
+use native.Mathlib.Omega.{arith}
+use Rattle.storage.specs.Bytes.{bytes_of}
+use Rattle.storage.proofs.Bytes.{bytes_of_length}
+use Rattle.text.specs.Writing.{Writing}
+use Rattle.text.proofs.Writing.{writing_none, copy_more}
+use Rattle.bench_records.proofs.put_eight.Given as goal
+
+abbrev pub invariant-loop-i : goal.invariant-loop-i
+invariant-loop-i l = (l.i ≤ 8) × (length l.out ≡ length l.initial.out) × (l.next ≡ l.at + l.i) × Writing l.initial.out l.out l.at (take l.i (bytes_of 8 l.word)) l.next
+
+abbrev pub decreases-loop-i : goal.decreases-loop-i
+decreases-loop-i l = 8 - l.i

@@ -1,0 +1,10 @@
+use Rattle.unit.specs.Own.{consumes}
+use borrow.Author.Rules.{rules}
+use Rattle.bridge.proofs.is_for_unit.Goals as goal
+
+pub returns-then-has_destination : goal.returns-then-has_destination
+returns-then-has_destination c = λ ports. rw (← (c.read_unit-unit.ensures ports)) c.consumes.ensures
+
+pub returns : goal.returns
+unfolding consumes
+returns c = λ ports. rw (← c.has_destination.ensures, c.if-has_destination.false)

@@ -1,0 +1,27 @@
+use mathlib.Core.Path.{sym, ◌∙◌}
+use native.Mathlib.Omega.{arith}
+use lib.ListN.{length}
+use Rattle.network_message.proofs.Decoding.{decoded_good}
+use Rattle.unit.specs.Model.{model_of}
+use Rattle.refusals.proofs.Checks.{message_goes}
+use Rattle.bridge.proofs.MessageLaws.{message_refused, message_done}
+use borrow.Author.Rules.{rules}
+use Rattle.bridge.proofs.message.Goals as goal
+
+pub returns-then-number-ne0 : goal.returns-then-number-ne0
+returns-then-number-ne0 c = let args = c.args in
+    rw (← c.ports_of-ports.ensures.count)
+    (message_refused c.ports_of-ports.result args.words.now args.reply.now args.port args.requester args.payload.now c.message_refusal-number.ensures c.if-number-ne0.true)
+
+pub decode-command-requires : goal.decode-command-requires
+decode-command-requires c = let G = message_goes c.ports_of-ports.result (length c.args.words.now) (length c.args.reply.now) (model_of c.ports_of-ports.result c.args.words.now).rest c.args.port c.args.requester (length c.args.payload.now) (sym c.message_refusal-number.ensures ∙ c.if-number-ne0.false) in
+    (c.ports_of-ports.ensures.most, G.2)
+
+pub perform-requires : goal.perform-requires
+perform-requires c = let G = message_goes c.ports_of-ports.result (length c.args.words.now) (length c.args.reply.now) (model_of c.ports_of-ports.result c.args.words.now).rest c.args.port c.args.requester (length c.args.payload.now) (sym c.message_refusal-number.ensures ∙ c.if-number-ne0.false) in
+    (c.ports_of-ports.ensures.most, G.0, G.1, G.3, G.2, rw c.decode-command.ensures (decoded_good c.ports_of-ports.result c.args.port c.args.payload.now G.2), omega (arith, c.ports_of-ports.ensures.least))
+
+pub returns : goal.returns
+returns c = let args = c.args in
+    rw (← c.ports_of-ports.ensures.count)
+    (message_done c.ports_of-ports.result args.words.now args.reply.now args.port args.requester args.payload.now c.message_refusal-number.ensures c.if-number-ne0.false c.decode-command.ensures (omega arith) c.perform.ensures)

@@ -1,0 +1,6 @@
+use Rattle.bridge.proofs.Passes.{responded}
+use borrow.Author.Rules.{rules}
+use Rattle.bridge.proofs.respond.Goals as goal
+
+pub returns : goal.returns
+returns c = responded (c.act-a.ensures _) c.announce-unsent.ensures

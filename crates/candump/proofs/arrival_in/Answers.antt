@@ -1,0 +1,7 @@
+use borrow.Author.Rules.{rules}
+use Rattle.candump.specs.Line.{arrival_in}
+use Rattle.candump.proofs.arrival_in.Goals as goal
+
+pub returns : goal.returns
+unfolding arrival_in
+returns c = rw (c.port_in-port.ensures, c.id_in-id.ensures, c.data_in-bytes.ensures)

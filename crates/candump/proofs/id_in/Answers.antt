@@ -1,0 +1,7 @@
+use Rattle.candump.specs.Line.{id_in}
+use borrow.Author.Rules.{rules}
+use Rattle.candump.proofs.id_in.Goals as goal
+
+pub returns : goal.returns
+unfolding id_in
+returns c = rw (c.pair_value-a.ensures, c.pair_value-b.ensures, c.pair_value-c.ensures, c.pair_value-d.ensures)

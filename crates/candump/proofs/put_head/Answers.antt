@@ -1,0 +1,7 @@
+use borrow.Author.Rules.{rules}
+use native.Mathlib.Omega.{arith}
+use Rattle.text.proofs.Writing.{writing_join}
+use Rattle.candump.proofs.put_head.Goals as goal
+
+pub returns : goal.returns
+returns c = writing_join (writing_join c.copy-next.ensures c.byte-next.ensures (omega arith)) c.byte.ensures (omega arith)

@@ -1,0 +1,5 @@
+use borrow.Author.Rules.{rules}
+use Rattle.deorasaeng.proofs.deorasaeng_plan.Goals as goal
+
+pub returns : goal.returns
+returns c = (c.hear-planned.result, (c.hear-planned.ensures, c.tell_plan.ensures))

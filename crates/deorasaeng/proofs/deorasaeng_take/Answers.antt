@@ -1,0 +1,15 @@
+use Rattle.deorasaeng.proofs.Calls.{take_wrong, take_wrong_bytes, take_left, take_told}
+use borrow.Author.Rules.{rules}
+use Rattle.deorasaeng.proofs.deorasaeng_take.Goals as goal
+
+pub returns-then-answer-ne-TAKE_WORDS : goal.returns-then-answer-ne-TAKE_WORDS
+returns-then-answer-ne-TAKE_WORDS c = take_wrong c.lent_refusal.ensures c.if-answer-ne-TAKE_WORDS.true
+
+pub returns-then-bytes-ne-FRAME_BYTES : goal.returns-then-bytes-ne-FRAME_BYTES
+returns-then-bytes-ne-FRAME_BYTES c = take_wrong_bytes c.lent_refusal-then-bytes-ne-FRAME_BYTES.ensures c.if-bytes-ne-FRAME_BYTES.true
+
+pub returns-in-Refused : goal.returns-in-Refused
+returns-in-Refused c = take_left c.take-t.ensures c.if-answer-ne-TAKE_WORDS.false c.if-bytes-ne-FRAME_BYTES.false c.in-Refused.is
+
+pub returns-in-Took : goal.returns-in-Took
+returns-in-Took c = take_told c.take-t.ensures c.if-answer-ne-TAKE_WORDS.false c.if-bytes-ne-FRAME_BYTES.false c.in-Took.is c.tell_taken.ensures

@@ -1,0 +1,14 @@
+use mathlib.Core.Path.{◌≡◌, sym, ◌∙◌}
+use Prim.Native.Nat.{◌+◌, ◌*◌, ◌-◌, ◌/◌, ◌≤◌, ◌<◌}
+use native.Mathlib.Omega.{arith}
+use borrow.Author.Rules.{rules}
+use lib.ListN.{length}
+use Rattle.entries.specs.Entries.{entries_of, entry_at, first_wrong}
+use Rattle.entries.proofs.ThreeBytes.{entries_count, Judged, judged_none, judged_pgn, judged_wrong, judged_all}
+use Rattle.entries.proofs.first_wrong.Given as goal
+
+abbrev pub invariant-loop-at : goal.invariant-loop-at
+invariant-loop-at l = Judged (first_wrong (entries_of l.bytes)) (entries_of l.bytes) (l.at / 3) × (l.at ≡ 3 * (l.at / 3)) × (l.at ≤ length l.bytes)
+
+abbrev pub decreases-loop-at : goal.decreases-loop-at
+decreases-loop-at l = length l.bytes - l.at

@@ -1,0 +1,14 @@
+use mathlib.Core.Path.{refl, sym, ◌∙◌}
+use Prim.Native.Nat.{◌-◌}
+use native.Mathlib.Omega.{arith}
+use borrow.Author.Rules.{rules}
+use Rattle.entries.specs.Entries.{listed, entries_of}
+use Rattle.storage.proofs.Walk.{Left, left_all, left_none}
+use Rattle.entries.proofs.Listed.{named_here, named_not}
+use Rattle.entries.proofs.names.Given as goal
+
+abbrev pub invariant-loop-i : goal.invariant-loop-i
+invariant-loop-i l = Left (listed l.x (entries_of l.bytes)) (listed l.x) (entries_of l.bytes) l.i
+
+abbrev pub decreases-loop-i : goal.decreases-loop-i
+decreases-loop-i l = l.end - l.i

@@ -1,0 +1,13 @@
+use mathlib.Core.Path.{sym, ◌∙◌}
+use Rattle.filter.proofs.Asking.{ask_permanent, ask_found, ask_names}
+use borrow.Author.Rules.{rules}
+use Rattle.filter.proofs.ask_named.Goals as goal
+
+pub returns-then-is_permanent : goal.returns-then-is_permanent
+returns-then-is_permanent c = ask_permanent (sym c.is_permanent.ensures ∙ c.if-is_permanent.true)
+
+pub returns-then-probes-ge-FOUND : goal.returns-then-probes-ge-FOUND
+returns-then-probes-ge-FOUND c = ask_found _ _ (sym c.is_permanent.ensures ∙ c.if-is_permanent.false) c.probe-probes.ensures _ c.if-probes-ge-FOUND.true c.by_list.ensures
+
+pub returns : goal.returns
+returns c = ask_names _ _ (sym c.is_permanent.ensures ∙ c.if-is_permanent.false) c.probe-probes.ensures c.if-probes-ge-FOUND.false c.requires.1 c.search-names.ensures c.by_list-2.ensures

@@ -1,0 +1,13 @@
+use native.Mathlib.Omega.{arith}
+use Rattle.filter.proofs.Meaning.{count_cleared, count_listed}
+use borrow.Author.Rules.{rules}
+use Rattle.filter.proofs.count.Goals as goal
+
+pub returns-then-block-eq-CLEARED : goal.returns-then-block-eq-CLEARED
+returns-then-block-eq-CLEARED c = count_cleared c.requires c.if-block-eq-CLEARED.true
+
+pub returns-then-n : goal.returns-then-n
+returns-then-n c = count_listed c.requires c.if-block-eq-CLEARED.false (omega arith)
+
+pub returns-else-n : goal.returns-else-n
+returns-else-n c = count_listed c.requires c.if-block-eq-CLEARED.false (omega arith)

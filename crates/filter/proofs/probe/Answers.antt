@@ -1,0 +1,6 @@
+use Rattle.filter.proofs.Meaning.{sorted_front}
+use borrow.Author.Rules.{rules}
+use Rattle.filter.proofs.probe.Goals as goal
+
+pub returns : goal.returns
+returns c = rw (sorted_front c.requires c.count-n.ensures) at c.find.ensures

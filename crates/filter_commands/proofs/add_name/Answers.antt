@@ -1,0 +1,6 @@
+use Rattle.filter_commands.proofs.Names.{name_cleared}
+use borrow.Author.Rules.{rules}
+use Rattle.filter_commands.proofs.add_name.Goals as goal
+
+pub returns-then-mode-eq-CLEARED : goal.returns-then-mode-eq-CLEARED
+returns-then-mode-eq-CLEARED c = name_cleared _ _ c.if-mode-eq-CLEARED.true

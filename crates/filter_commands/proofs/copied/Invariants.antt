@@ -1,0 +1,17 @@
+use mathlib.Core.Path.{◌≡◌}
+use mathlib.Core.List.{List}
+use Prim.Native.Nat.{ℕ, ◌+◌, ◌-◌}
+use native.Mathlib.Nat.{zero-add}
+use native.Mathlib.Omega.{arith}
+use lib.ListN.{length}
+use Rattle.filter.specs.Filter.{list_of, block_size}
+use Rattle.filter.proofs.Meaning.{list_whole, list_at}
+use Rattle.pgn_list.specs.PgnList.{list_size}
+use Rattle.storage.proofs.Copy.{Copied, copied_none, copied_one, copied_all}
+use Rattle.filter_commands.proofs.copied.Given as goal
+
+abbrev pub invariant-loop-i : goal.invariant-loop-i
+invariant-loop-i l = Copied l.initial.list 0 (list_of l.block) l.list l.i
+
+abbrev pub decreases-loop-i : goal.decreases-loop-i
+decreases-loop-i l = list_size - l.i

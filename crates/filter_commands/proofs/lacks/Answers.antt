@@ -1,0 +1,12 @@
+use mathlib.Core.Path.{ap, ◌∙◌}
+use mathlib.Core.Bool.{not}
+use borrow.Author.Rules.{rules}
+use Rattle.entries.specs.Entries.{listed, every, entries_of}
+use Rattle.filter_commands.specs.Changes.{lacks}
+use Rattle.filter.proofs.Meaning.{front}
+use Rattle.filter_commands.proofs.lacks.Goals as goal
+
+pub returns : goal.returns
+unfolding lacks
+returns c = let xs = entries_of c.args.bytes.now in
+    ap not c.lists_all.ensures ∙ ap (λ es. not (every (λ x. listed x es) xs)) (front c.count-n.ensures)

@@ -1,0 +1,10 @@
+use mathlib.Core.Path.{◌∙◌}
+use Rattle.filter.proofs.Meaning.{sorted_long}
+use Rattle.filter_commands.proofs.Sorting.{taken_out, part_long}
+use borrow.Author.Rules.{rules}
+use Rattle.filter_commands.proofs.sort_out.Goals as goal
+
+pub returns : goal.returns
+returns c = let long = c.requires.0 in
+    let l = c.keep_others-kept.auto.list ∙ sorted_long c.args.block.now long in
+    taken_out _ _ _ _ long l (c.fit.auto.list ∙ part_long c.args.block.now c.keep_others-kept.new.list long l) c.keep_others-kept.ensures c.fit.ensures

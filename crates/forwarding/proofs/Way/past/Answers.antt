@@ -1,0 +1,8 @@
+use mathlib.Core.Path.{refl}
+use Rattle.forwarding.specs.Steps.{way_past}
+use borrow.Author.Rules.{rules}
+use Rattle.forwarding.proofs.Way.past.Goals as goal
+
+pub returns : goal.returns
+unfolding way_past
+returns c = refl

@@ -1,0 +1,9 @@
+use Rattle.forwarding.proofs.Loop.{told_nothing}
+use borrow.Author.Rules.{rules}
+use Rattle.forwarding.proofs.announce.Goals as goal
+
+pub returns-in-Nothing : goal.returns-in-Nothing
+returns-in-Nothing c = told_nothing c.in-Nothing.is
+
+pub returns-in-One : goal.returns-in-One
+returns-in-One c = rw c.in-One.is c.join_all.ensures

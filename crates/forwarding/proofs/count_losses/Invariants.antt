@@ -1,0 +1,11 @@
+use mathlib.Core.Logic.{⊎_elim}
+use Prim.Native.Nat.{◌-◌}
+use native.Mathlib.Omega.{arith}
+use Rattle.forwarding.proofs.Loop.{Counted, counted_start, counted_away, counted_more, counted_passed, counted_done}
+use Rattle.forwarding.proofs.count_losses.Given as goal
+
+abbrev pub invariant-loop-to : goal.invariant-loop-to
+invariant-loop-to l = Counted l.ports l.initial.words l.from l.lost l.words l.set l.to
+
+abbrev pub decreases-loop-to : goal.decreases-loop-to
+decreases-loop-to l = l.ports - l.to

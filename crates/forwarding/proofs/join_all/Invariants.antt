@@ -1,0 +1,10 @@
+use Prim.Native.Nat.{◌-◌}
+use native.Mathlib.Omega.{arith}
+use Rattle.forwarding.proofs.Loop.{Telling, telling_start, telling_more, telling_done, told_sums}
+use Rattle.forwarding.proofs.join_all.Given as goal
+
+abbrev pub invariant-loop-port : goal.invariant-loop-port
+invariant-loop-port l = Telling l.ports l.initial.words l.f l.words l.lost l.bit l.port
+
+abbrev pub decreases-loop-port : goal.decreases-loop-port
+decreases-loop-port l = l.ports - l.port

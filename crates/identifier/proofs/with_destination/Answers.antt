@@ -1,0 +1,8 @@
+use mathlib.Core.Path.{refl}
+use Rattle.identifier.specs.Turning.{with_destination}
+use borrow.Author.Rules.{rules}
+use Rattle.identifier.proofs.with_destination.Goals as goal
+
+pub returns : goal.returns
+unfolding with_destination
+returns c = refl

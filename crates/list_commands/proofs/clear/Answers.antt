@@ -1,0 +1,5 @@
+use borrow.Author.Rules.{rules}
+use Rattle.list_commands.proofs.clear.Goals as goal
+
+pub returns : goal.returns
+returns c = c.clear_each.ensures _ _ c.pairs_named-named.ensures.0

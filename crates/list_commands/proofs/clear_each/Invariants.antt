@@ -1,0 +1,12 @@
+use mathlib.Core.Path.{◌≡◌}
+use Prim.Native.Nat.{◌≤◌, ◌-◌}
+use native.Mathlib.Omega.{arith}
+use Rattle.filter.specs.Filter.{clear}
+use Rattle.list_commands.proofs.PairLoop.{Walking, walk_start, walk_more, walk_done}
+use Rattle.list_commands.proofs.clear_each.Given as goal
+
+abbrev pub invariant-loop-i : goal.invariant-loop-i
+invariant-loop-i l = (l.first ≤ l.i) × (l.i ≤ l.end) × Walking l.ports l.first l.end l.initial.words l.words (λ _. clear) l.i
+
+abbrev pub decreases-loop-i : goal.decreases-loop-i
+decreases-loop-i l = l.end - l.i

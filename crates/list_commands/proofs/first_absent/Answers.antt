@@ -1,0 +1,32 @@
+use mathlib.Core.Path.{◌≡◌, sym, ◌∙◌}
+use Prim.Native.Nat.{◌-◌}
+use native.Mathlib.Omega.{arith}
+use borrow.Author.Rules.{rules}
+use borrow.Author.Tests.{not-true, not-false}
+use lib.ListN.{length, get_or}
+use Rattle.entries.specs.Entries.{entries_of}
+use Rattle.filter.specs.Filter.{clear}
+use Rattle.list_commands.proofs.PairLoop.{pairs_in}
+use Rattle.list_commands.proofs.Searching.{Held, held_none, held_one, Searched, searched_none, searched_one, stopped_here, stopped_none}
+use Rattle.list_commands.proofs.first_absent.Goals as goal
+
+pub search-init : goal.search-init
+search-init c = searched_none (omega arith)
+
+pub loop-entry-init : goal.loop-entry-init
+loop-entry-init c = held_none _ _
+
+pub entry_at-pgn-requires : goal.entry_at-pgn-requires
+entry_at-pgn-requires c = omega (arith, c.count-n.ensures)
+
+pub loop-entry-preserved : goal.loop-entry-preserved
+loop-entry-preserved c = held_one _ c.loop-entry.invariant (omega (arith, c.count-n.ensures)) (rw (← c.entry_at-pgn.ensures) (sym c.lists.ensures ∙ not-false c.lists.result c.if-not-lists.false))
+
+pub search-preserved : goal.search-preserved
+search-preserved c = searched_one c.search.invariant (omega arith) c.loop-entry.invariant (omega (arith, c.count-n.ensures))
+
+pub returns-after-search : goal.returns-after-search
+returns-after-search c = stopped_none c.search.invariant (omega arith)
+
+pub returns-then-not-lists : goal.returns-then-not-lists
+returns-then-not-lists c = stopped_here c.search.invariant (omega arith) c.loop-entry.invariant (omega (arith, c.count-n.ensures)) (rw (← c.entry_at-pgn.ensures) (sym c.lists.ensures ∙ not-true c.lists.result c.if-not-lists.true))

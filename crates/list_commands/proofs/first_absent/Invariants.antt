@@ -1,0 +1,23 @@
+use mathlib.Core.Path.{◌≡◌, sym, ◌∙◌}
+use Prim.Native.Nat.{◌-◌}
+use native.Mathlib.Omega.{arith}
+use borrow.Author.Rules.{rules}
+use borrow.Author.Tests.{not-true, not-false}
+use lib.ListN.{length, get_or}
+use Rattle.entries.specs.Entries.{entries_of}
+use Rattle.filter.specs.Filter.{clear}
+use Rattle.list_commands.proofs.PairLoop.{pairs_in}
+use Rattle.list_commands.proofs.Searching.{Held, held_none, held_one, Searched, searched_none, searched_one, stopped_here, stopped_none}
+use Rattle.list_commands.proofs.first_absent.Given as goal
+
+abbrev pub invariant-loop-entry : goal.invariant-loop-entry
+invariant-loop-entry l = Held (get_or (pairs_in l.ports l.words) l.pair clear).entries (entries_of l.entries) l.entry
+
+abbrev pub decreases-loop-entry : goal.decreases-loop-entry
+decreases-loop-entry l = l.n - l.entry
+
+abbrev pub invariant-search : goal.invariant-search
+invariant-search l = Searched (pairs_in l.ports l.words) (entries_of l.entries) l.first l.end l.pair
+
+abbrev pub decreases-search : goal.decreases-search
+decreases-search l = l.end - l.pair

@@ -1,0 +1,5 @@
+use borrow.Author.Rules.{rules}
+use Rattle.message_answers.proofs.refuse.Goals as goal
+
+pub returns : goal.returns
+returns c = rw c.wrong_told-told.ensures at c.tell.ensures

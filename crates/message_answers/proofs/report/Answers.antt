@@ -1,0 +1,6 @@
+use Rattle.message_answers.proofs.Replies.{reported_of}
+use borrow.Author.Rules.{rules}
+use Rattle.message_answers.proofs.report.Goals as goal
+
+pub returns : goal.returns
+returns c = rw c.nothing_told.ensures (reported_of c.reply_list-n.ensures)

@@ -1,0 +1,5 @@
+use borrow.Author.Rules.{rules}
+use Rattle.message_answers.proofs.report_pair.Goals as goal
+
+pub returns : goal.returns
+returns c = rw c.of_pair-value.ensures.0 at c.report_value.ensures

@@ -1,0 +1,6 @@
+use mathlib.Core.Path.{refl}
+use borrow.Author.Rules.{rules}
+use Rattle.message_answers.proofs.tell.Goals as goal
+
+pub returns : goal.returns
+returns c = record { answer = refl; written = rw c.control-control.ensures at c.acknowledge.ensures }

@@ -1,0 +1,7 @@
+use Rattle.network_message.specs.Decoding.{name_of, mask_of}
+use borrow.Author.Rules.{rules}
+use Rattle.network_message.proofs.add_by_name.Goals as goal
+
+pub returns : goal.returns
+unfolding name_of mask_of
+returns c = rw (c.word_at-name.ensures, c.word_at-mask.ensures)

@@ -1,0 +1,15 @@
+use mathlib.Core.Path.{◌≡◌, refl, sym, ◌∙◌}
+use Prim.Native.Nat.{◌-◌, ◌≤◌}
+use native.Mathlib.Omega.{arith}
+use borrow.Author.Tests.{eq-eqb, ne_eqb}
+use lib.ListN.{length, drop, drop_of_length-le}
+use Rattle.entries.specs.Entries.{every}
+use Rattle.network_message.specs.Decoding.{is_filling}
+use Rattle.network_message.proofs.Naming.{filling_next}
+use Rattle.network_message.proofs.judging.is_filling.Given as goal
+
+abbrev pub invariant-loop-i : goal.invariant-loop-i
+invariant-loop-i l = (l.i ≤ length l.bytes) × (is_filling l.bytes ≡ is_filling (drop l.i l.bytes))
+
+abbrev pub decreases-loop-i : goal.decreases-loop-i
+decreases-loop-i l = length l.bytes - l.i

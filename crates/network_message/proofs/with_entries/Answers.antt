@@ -1,0 +1,5 @@
+use borrow.Author.Rules.{rules}
+use Rattle.network_message.proofs.with_entries.Goals as goal
+
+pub returns : goal.returns
+returns c = rw (← c.entries_start-start.ensures.0, ← c.entries_end.ensures)

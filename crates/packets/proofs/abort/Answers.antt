@@ -1,0 +1,7 @@
+use native.Mathlib.Omega.{arith}
+use Rattle.packets.proofs.Frames.{eight}
+use borrow.Author.Rules.{rules}
+use Rattle.packets.proofs.abort.Goals as goal
+
+pub returns : goal.returns
+returns c = eight 0xFF 0x03 0xFF 0xFF 0xFF 0 0xED 0 (omega arith) (omega arith) (omega arith) (omega arith) (omega arith) (omega arith) (omega arith) (omega arith) (omega arith)

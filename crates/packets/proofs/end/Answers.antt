@@ -1,0 +1,8 @@
+use native.Mathlib.Omega.{arith}
+use Prim.Native.Nat.{◌/◌, ◌%◌}
+use Rattle.packets.proofs.Frames.{eight}
+use borrow.Author.Rules.{rules}
+use Rattle.packets.proofs.end.Goals as goal
+
+pub returns : goal.returns
+returns c = eight 0x13 (c.args.size % 256) (c.args.size / 256) c.args.packets 0xFF 0 0xED 0 (omega arith) (omega arith) (omega arith) (omega arith) (omega arith) (omega arith) (omega arith) (omega arith) (omega arith)

@@ -1,0 +1,26 @@
+use mathlib.Core.Logic.{⊎_elim}
+use mathlib.Core.Path.{refl}
+use mathlib.Core.List.{[], ◌∷◌}
+use Prim.Native.Nat.{◌-◌, ◌≤◌}
+use native.Mathlib.Omega.{arith}
+use Rattle.pgn_list.proofs.Changes.{Kept, kept_not, kept_one, kept_all}
+use Rattle.pgn_list.proofs.Removing.{kept_before, lone_other, lone_same}
+use Rattle.pgn_list.proofs.close_up.Goals as goal
+
+pub loop-i-init : goal.loop-i-init
+loop-i-init c = (c.requires.1.inside, kept_before c.requires.0 c.requires.1)
+
+pub loop-i-preserved : goal.loop-i-preserved
+loop-i-preserved c = (
+  omega arith,
+  ⊎_elim
+      (λ w. rw (w.1, w.2) (kept_one c.requires.0 c.loop-i.invariant.1 (omega arith) (lone_other w.0.taken) refl))
+      (λ w. rw (w.1, w.2) (kept_not c.requires.0 c.loop-i.invariant.1 (omega arith) (lone_same w.0.left) refl))
+      c.if-y-x.branch-raw,
+)
+
+pub shape_of-list : goal.shape_of-list
+shape_of-list c = c.loop-i.invariant.1.long
+
+pub returns : goal.returns
+returns c = kept_all c.requires.0 c.loop-i.invariant.1 (omega arith)

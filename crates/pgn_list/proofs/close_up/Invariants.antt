@@ -1,0 +1,14 @@
+use mathlib.Core.Logic.{⊎_elim}
+use mathlib.Core.Path.{refl}
+use mathlib.Core.List.{[], ◌∷◌}
+use Prim.Native.Nat.{◌-◌, ◌≤◌}
+use native.Mathlib.Omega.{arith}
+use Rattle.pgn_list.proofs.Changes.{Kept, kept_not, kept_one, kept_all}
+use Rattle.pgn_list.proofs.Removing.{kept_before, lone_other, lone_same}
+use Rattle.pgn_list.proofs.close_up.Given as goal
+
+abbrev pub invariant-loop-i : goal.invariant-loop-i
+invariant-loop-i l = (l.i ≤ l.n) × Kept (l.x ∷ []) l.initial.list l.list l.n l.kept l.i
+
+abbrev pub decreases-loop-i : goal.decreases-loop-i
+decreases-loop-i l = l.n - l.i

@@ -1,0 +1,13 @@
+use mathlib.Core.Path.{sym, ◌∙◌}
+use Prim.Native.Nat.{◌-◌, ◌≤◌}
+use native.Mathlib.Omega.{arith}
+use lib.ListN.{take}
+use Rattle.pgn_list.specs.Steps.{index_of}
+use Rattle.pgn_list.proofs.Search.{Passed, passed_none, passed_one, passed_two, passed_three, passed_four, found_here}
+use Rattle.pgn_list.proofs.find.Given as goal
+
+abbrev pub invariant-loop-i : goal.invariant-loop-i
+invariant-loop-i l = Passed (index_of l.x (take l.n l.list)) l.list l.n l.x l.i × (l.i ≤ l.n)
+
+abbrev pub decreases-loop-i : goal.decreases-loop-i
+decreases-loop-i l = l.n - l.i

@@ -1,0 +1,33 @@
+use mathlib.Core.Logic.{⊎_elim}
+use mathlib.Core.Path.{refl}
+use Prim.Native.Nat.{◌-◌, ◌≤◌}
+use native.Mathlib.Omega.{arith}
+use borrow.Author.Tests.{not-true, not-false}
+use Rattle.entries.specs.Entries.{entries_of}
+use Rattle.pgn_list.proofs.Slots.{indexed_none}
+use Rattle.pgn_list.proofs.Changes.{Kept, kept_none, kept_not, kept_one, kept_all}
+use Rattle.pgn_list.proofs.index.keep_others.Goals as goal
+
+pub note_entries-requires : goal.note_entries-requires
+note_entries-requires c = indexed_none c.empty-index.ensures
+
+pub loop-i-init : goal.loop-i-init
+loop-i-init c = (omega arith, kept_none)
+
+pub is_named-requires : goal.is_named-requires
+is_named-requires c = c.note_entries.ensures
+
+pub loop-i-preserved : goal.loop-i-preserved
+loop-i-preserved c = (
+  omega arith,
+  ⊎_elim
+      (λ w. rw (w.1, w.2) (kept_one c.requires c.loop-i.invariant.1 (omega arith) c.is_named.ensures (not-true _ w.0.taken)))
+      (λ w. rw (w.1, w.2) (kept_not c.requires c.loop-i.invariant.1 (omega arith) c.is_named.ensures (not-false _ w.0.left)))
+      c.if-not-is_named.branch-raw,
+)
+
+pub shape_of-list : goal.shape_of-list
+shape_of-list c = c.loop-i.invariant.1.long
+
+pub returns : goal.returns
+returns c = kept_all c.requires c.loop-i.invariant.1 (omega arith)

@@ -1,0 +1,15 @@
+use mathlib.Core.Logic.{⊎_elim}
+use mathlib.Core.Path.{refl}
+use Prim.Native.Nat.{◌-◌, ◌≤◌}
+use native.Mathlib.Omega.{arith}
+use borrow.Author.Tests.{not-true, not-false}
+use Rattle.entries.specs.Entries.{entries_of}
+use Rattle.pgn_list.proofs.Slots.{indexed_none}
+use Rattle.pgn_list.proofs.Changes.{Kept, kept_none, kept_not, kept_one, kept_all}
+use Rattle.pgn_list.proofs.index.keep_others.Given as goal
+
+abbrev pub invariant-loop-i : goal.invariant-loop-i
+invariant-loop-i l = (l.i ≤ l.n) × Kept (entries_of l.bytes) l.initial.list l.list l.n l.kept l.i
+
+abbrev pub decreases-loop-i : goal.decreases-loop-i
+decreases-loop-i l = l.n - l.i

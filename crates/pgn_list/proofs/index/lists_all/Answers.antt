@@ -1,0 +1,30 @@
+use mathlib.Core.Path.{refl, sym, ◌∙◌}
+use Prim.Native.Nat.{◌-◌}
+use native.Mathlib.Omega.{arith}
+use borrow.Author.Rules.{rules}
+use borrow.Author.Tests.{not-true, not-false}
+use lib.ListN.{take}
+use Rattle.entries.specs.Entries.{listed, every, entries_of}
+use Rattle.storage.proofs.Walk.{Left, left_all, left_none}
+use Rattle.pgn_list.proofs.Slots.{indexed_none}
+use Rattle.pgn_list.proofs.Changes.{every_not, every_on}
+use Rattle.pgn_list.proofs.index.lists_all.Goals as goal
+
+pub note_list-requires : goal.note_list-requires
+note_list-requires c = (omega arith, indexed_none c.empty-index.ensures)
+
+pub loop-i-init : goal.loop-i-init
+loop-i-init c = left_all refl
+
+pub is_listed-requires : goal.is_listed-requires
+is_listed-requires c = (omega arith, c.note_list.ensures)
+
+pub returns-then-not-is_listed : goal.returns-then-not-is_listed
+returns-then-not-is_listed c = sym (every_not _ c.loop-i.invariant (omega arith) c.entry_at-x.ensures (sym c.is_listed.ensures ∙ not-true _ c.if-not-is_listed.true))
+
+pub loop-i-preserved : goal.loop-i-preserved
+loop-i-preserved c = every_on _ c.loop-i.invariant (omega arith) c.entry_at-x.ensures (sym c.is_listed.ensures ∙ not-false _ c.if-not-is_listed.false)
+
+pub returns : goal.returns
+unfolding every
+returns c = sym (left_none c.loop-i.invariant (omega arith))

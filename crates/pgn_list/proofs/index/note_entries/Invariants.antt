@@ -1,0 +1,15 @@
+use mathlib.Core.Path.{◌≡◌, refl, sym}
+use Prim.Native.Nat.{◌-◌, ◌≤◌}
+use native.Mathlib.Omega.{arith}
+use borrow.Author.Rules.{rules}
+use lib.ListN.{length}
+use Rattle.entries.specs.Entries.{entries_of}
+use Rattle.pgn_list.specs.Slots.{Indexed}
+use Rattle.pgn_list.proofs.Slots.{indexed_one}
+use Rattle.pgn_list.proofs.index.note_entries.Given as goal
+
+abbrev pub invariant-loop-i : goal.invariant-loop-i
+invariant-loop-i l = (l.i ≤ length (entries_of l.bytes)) × Indexed (entries_of l.bytes) l.i l.index
+
+abbrev pub decreases-loop-i : goal.decreases-loop-i
+decreases-loop-i l = l.end - l.i

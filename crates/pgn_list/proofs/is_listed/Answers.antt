@@ -1,0 +1,6 @@
+use borrow.Author.Rules.{rules}
+use Rattle.pgn_list.proofs.Search.{found_says}
+use Rattle.pgn_list.proofs.is_listed.Goals as goal
+
+pub returns : goal.returns
+returns c = found_says c.requires c.find.ensures

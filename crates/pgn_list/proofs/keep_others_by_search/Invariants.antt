@@ -1,0 +1,12 @@
+use Prim.Native.Nat.{◌-◌}
+use native.Mathlib.Omega.{arith}
+use borrow.Author.Rules.{rules}
+use Rattle.entries.specs.Entries.{entries_of}
+use Rattle.pgn_list.proofs.Removing.{Removed, removed_none, removed_one, removed_all}
+use Rattle.pgn_list.proofs.keep_others_by_search.Given as goal
+
+abbrev pub invariant-loop-i : goal.invariant-loop-i
+invariant-loop-i l = Removed l.initial.list l.list l.n (entries_of l.bytes) l.kept l.i
+
+abbrev pub decreases-loop-i : goal.decreases-loop-i
+decreases-loop-i l = l.end - l.i

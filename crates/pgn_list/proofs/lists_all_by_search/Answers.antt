@@ -1,0 +1,23 @@
+use mathlib.Core.Path.{refl, sym, ◌∙◌}
+use Prim.Native.Nat.{◌-◌}
+use native.Mathlib.Omega.{arith}
+use borrow.Author.Rules.{rules}
+use borrow.Author.Tests.{not-true, not-false}
+use lib.ListN.{take}
+use Rattle.entries.specs.Entries.{listed, every, entries_of}
+use Rattle.storage.proofs.Walk.{Left, left_all, left_none}
+use Rattle.pgn_list.proofs.Changes.{every_not, every_on}
+use Rattle.pgn_list.proofs.lists_all_by_search.Goals as goal
+
+pub loop-i-init : goal.loop-i-init
+loop-i-init c = left_all refl
+
+pub returns-then-not-is_listed : goal.returns-then-not-is_listed
+returns-then-not-is_listed c = sym (every_not _ c.loop-i.invariant (omega arith) c.entry_at-x.ensures (sym c.is_listed.ensures ∙ not-true _ c.if-not-is_listed.true))
+
+pub loop-i-preserved : goal.loop-i-preserved
+loop-i-preserved c = every_on _ c.loop-i.invariant (omega arith) c.entry_at-x.ensures (sym c.is_listed.ensures ∙ not-false _ c.if-not-is_listed.false)
+
+pub returns : goal.returns
+unfolding every
+returns c = sym (left_none c.loop-i.invariant (omega arith))

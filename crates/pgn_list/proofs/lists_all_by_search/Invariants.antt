@@ -1,0 +1,16 @@
+use mathlib.Core.Path.{refl, sym, ◌∙◌}
+use Prim.Native.Nat.{◌-◌}
+use native.Mathlib.Omega.{arith}
+use borrow.Author.Rules.{rules}
+use borrow.Author.Tests.{not-true, not-false}
+use lib.ListN.{take}
+use Rattle.entries.specs.Entries.{listed, every, entries_of}
+use Rattle.storage.proofs.Walk.{Left, left_all, left_none}
+use Rattle.pgn_list.proofs.Changes.{every_not, every_on}
+use Rattle.pgn_list.proofs.lists_all_by_search.Given as goal
+
+abbrev pub invariant-loop-i : goal.invariant-loop-i
+invariant-loop-i l = Left (every (λ x. listed x (take l.n l.list)) (entries_of l.bytes)) (every (λ x. listed x (take l.n l.list))) (entries_of l.bytes) l.i
+
+abbrev pub decreases-loop-i : goal.decreases-loop-i
+decreases-loop-i l = l.end - l.i

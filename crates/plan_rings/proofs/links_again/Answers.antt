@@ -1,0 +1,19 @@
+use mathlib.Core.Path.{sym, refl}
+use Prim.Native.Nat.{◌/◌}
+use native.Mathlib.Omega.{arith}
+use Rattle.plan_rings.specs.Rings.{unit_node}
+use Rattle.plan_rings.proofs.Labels.{relabel_alone, link_none, link_again, link_joined}
+use borrow.Author.Rules.{rules}
+use Rattle.plan_rings.proofs.links_again.Goals as goal
+
+pub returns-then-segment-eq0 : goal.returns-then-segment-eq0
+returns-then-segment-eq0 c = link_none c.if-segment-eq0.true
+
+pub returns-then-from-to : goal.returns-then-from-to
+returns-then-from-to c = link_again c.if-segment-eq0.false (sym c.if-from-to.true)
+
+pub returns-then-from-unit : goal.returns-then-from-unit
+returns-then-from-unit c = link_joined c.if-segment-eq0.false (λ e. c.if-from-to.false (sym e)) (relabel_alone (unit_node (c.args.link / 8)) c.requires.3 (omega arith) (omega arith) c.requires.4 refl c.if-from-unit.true)
+
+pub returns : goal.returns
+returns c = link_joined c.if-segment-eq0.false (λ e. c.if-from-to.false (sym e)) c.relabel.ensures

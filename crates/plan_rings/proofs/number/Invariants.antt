@@ -1,0 +1,11 @@
+use Prim.Native.Nat.{◌-◌}
+use native.Mathlib.Omega.{arith}
+use Rattle.plan_rings.specs.Rings.{nodes}
+use Rattle.plan_rings.proofs.Labels.{NumberedTo, number_start, number_more, number_done}
+use Rattle.plan_rings.proofs.number.Given as goal
+
+abbrev pub invariant-loop-i : goal.invariant-loop-i
+invariant-loop-i l = NumberedTo l.labels l.i
+
+abbrev pub decreases-loop-i : goal.decreases-loop-i
+decreases-loop-i l = nodes - l.i

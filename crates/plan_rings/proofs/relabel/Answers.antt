@@ -1,0 +1,15 @@
+use Prim.Native.Nat.{◌-◌, ◌≤◌}
+use native.Mathlib.Omega.{arith}
+use borrow.Author.Rules.{rules}
+use Rattle.plan_rings.specs.Rings.{nodes}
+use Rattle.plan_rings.proofs.Labels.{RelabeledTo, relabel_start, relabel_one, relabel_done}
+use Rattle.plan_rings.proofs.relabel.Goals as goal
+
+pub loop-i-init : goal.loop-i-init
+loop-i-init c = (relabel_start, omega arith)
+
+pub loop-i-preserved : goal.loop-i-preserved
+loop-i-preserved c = (relabel_one c.loop-i.invariant.0 (omega arith) c.turned.ensures, omega arith)
+
+pub returns : goal.returns
+returns c = relabel_done c.loop-i.invariant.0 (omega arith)

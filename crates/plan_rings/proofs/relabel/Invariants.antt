@@ -1,0 +1,12 @@
+use Prim.Native.Nat.{◌-◌, ◌≤◌}
+use native.Mathlib.Omega.{arith}
+use borrow.Author.Rules.{rules}
+use Rattle.plan_rings.specs.Rings.{nodes}
+use Rattle.plan_rings.proofs.Labels.{RelabeledTo, relabel_start, relabel_one, relabel_done}
+use Rattle.plan_rings.proofs.relabel.Given as goal
+
+abbrev pub invariant-loop-i : goal.invariant-loop-i
+invariant-loop-i l = RelabeledTo l.from l.to l.initial.labels l.labels l.i × (l.i ≤ nodes)
+
+abbrev pub decreases-loop-i : goal.decreases-loop-i
+decreases-loop-i l = nodes - l.i

@@ -1,0 +1,27 @@
+use borrow.Author.Rules.{rules}
+use borrow.Author.Tests.{lt-ltb, le-ltb}
+use mathlib.Core.Path.{refl, sym, ap, ◌∙◌}
+use mathlib.Core.Bool.{◌&&◌}
+use Prim.Native.Nat.{◌-◌, ◌*◌, ◌≤◌}
+use native.Mathlib.Omega.{arith}
+use Rattle.storage.proofs.Walk.{Left, left_all}
+use Rattle.identifier.specs.Identifier.{is_pgn}
+use Rattle.entries.specs.Entries.{every}
+use Rattle.filter.specs.Filter.{filter_of}
+use Rattle.plan_shape.proofs.Together.{Judged, judged_none, judged_on, judged_narrow, judged_wide}
+use Rattle.plan_shape.proofs.lists_pgns.Goals as goal
+
+pub loop-i-init : goal.loop-i-init
+loop-i-init c = judged_none _
+
+pub overflow_add-spare : goal.overflow_add-spare
+overflow_add-spare c = omega (arith, c.loop-i.invariant.small, c.spare_byte-spare.ensures.1)
+
+pub loop-i-preserved : goal.loop-i-preserved
+loop-i-preserved c = judged_on c.loop-i.invariant c.spare_byte-spare.result (omega arith) c.pgn_at-listed.ensures c.spare_byte-spare.ensures.0 c.spare_byte-spare.ensures.1
+
+pub returns-then-bits-lt262144 : goal.returns-then-bits-lt262144
+returns-then-bits-lt262144 c = judged_narrow c.loop-i.invariant (omega arith) c.if-bits-lt262144.true
+
+pub returns : goal.returns
+returns c = judged_wide c.loop-i.invariant (omega arith) c.if-bits-lt262144.false

@@ -1,0 +1,11 @@
+use Prim.Native.Nat.{◌-◌}
+use native.Mathlib.Omega.{arith}
+use Rattle.plan_shape.specs.Steps.{Passing}
+use Rattle.plan_shape.proofs.Ranges.{pass_none, pass_four}
+use Rattle.plan_shape.proofs.past_cleared.Given as goal
+
+abbrev pub invariant-loop-i : goal.invariant-loop-i
+invariant-loop-i l = Passing l.lists l.start l.n l.i
+
+abbrev pub decreases-loop-i : goal.decreases-loop-i
+decreases-loop-i l = l.n - l.i

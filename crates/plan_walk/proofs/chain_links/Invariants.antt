@@ -1,0 +1,12 @@
+use mathlib.Core.Path.{◌≡◌, refl}
+use Prim.Native.Nat.{◌-◌, ◌≤◌}
+use native.Mathlib.Omega.{arith}
+use Rattle.plan_walk.specs.Walk.{Chained}
+use Rattle.plan_walk.proofs.Chain.{chain_past, chain_more}
+use Rattle.plan_walk.proofs.chain_links.Given as goal
+
+abbrev pub invariant-loop-link : goal.invariant-loop-link
+invariant-loop-link l = (l.link ≤ l.end) × Chained l.ports l.end l.link l.chain
+
+abbrev pub decreases-loop-link : goal.decreases-loop-link
+decreases-loop-link l = l.link

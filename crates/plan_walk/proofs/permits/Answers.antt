@@ -1,0 +1,6 @@
+use Rattle.plan_walk.proofs.Ask.{permit_is}
+use borrow.Author.Rules.{rules}
+use Rattle.plan_walk.proofs.permits.Goals as goal
+
+pub returns : goal.returns
+returns c = let args = c.args in permit_is args.lists.now args.unit args.from args.to args.pgn c.pair_at-i.result c.pair_at-i.ensures.0 c.reason_by_list-reason.ensures c.crosses.ensures

@@ -1,0 +1,5 @@
+use Rattle.std.proofs.Common.{rules}
+use Rattle.queue.proofs.Queue.take.Goals as goal
+
+pub returns : goal.returns
+returns c = c.take-t.ensures

@@ -1,0 +1,12 @@
+use Rattle.std.proofs.Common.{◌≡◌, ◌-◌, ◌≤◌, length, refl, ◌∙◌, arith}
+use Rattle.queue.specs.Queue.{block_length, head, frames_of}
+use Rattle.queue.specs.Steps.{blank}
+use Rattle.queue.proofs.Words.{frames_length}
+use Rattle.queue.proofs.Lists.{shifted, shift_start, shift_step, shift_done}
+use Rattle.queue.proofs.close_up.Given as goal
+
+abbrev pub invariant-loop-place : goal.invariant-loop-place
+invariant-loop-place l = (l.at ≤ l.place) × (l.place ≤ l.n - 1) × (length l.block ≡ block_length) × (frames_of l.block ≡ shifted l.at l.place (frames_of l.initial.block)) × (head l.block ≡ head l.initial.block)
+
+abbrev pub decreases-loop-place : goal.decreases-loop-place
+decreases-loop-place l = l.n - l.place

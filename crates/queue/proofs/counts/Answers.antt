@@ -1,0 +1,6 @@
+use Rattle.std.proofs.Common.{rules}
+use Rattle.queue.proofs.Tallies.{tally_read}
+use Rattle.queue.proofs.counts.Goals as goal
+
+pub returns : goal.returns
+returns c = tally_read c.args.block.now c.requires

@@ -1,0 +1,11 @@
+use Rattle.std.proofs.Common.{◌≡◌, ◌-◌, ◌≤◌, take, ⊎_elim, arith}
+use Rattle.queue.specs.Queue.{frames_of}
+use Rattle.queue.proofs.Words.{frames_length}
+use Rattle.queue.proofs.Scan.{Scan, scan_start, scan_lower, scan_keep, scan_done}
+use Rattle.queue.proofs.first.Given as goal
+
+abbrev pub invariant-loop-i : goal.invariant-loop-i
+invariant-loop-i l = (l.i ≤ l.n) × Scan (take l.i (frames_of l.block)) l.at l.low
+
+abbrev pub decreases-loop-i : goal.decreases-loop-i
+decreases-loop-i l = l.n - l.i

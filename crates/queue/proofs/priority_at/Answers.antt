@@ -1,0 +1,6 @@
+use Rattle.std.proofs.Common.{ap, ◌∙◌, rules}
+use Rattle.queue.specs.Queue.{priority}
+use Rattle.queue.proofs.priority_at.Goals as goal
+
+pub returns : goal.returns
+returns c = c.priority.ensures ∙ ap priority c.get-f.ensures

@@ -1,0 +1,9 @@
+use Rattle.std.proofs.Common.{arith, rules}
+use Rattle.queue.proofs.Block.{held_count, held_all}
+use Rattle.queue.proofs.waiting.Goals as goal
+
+pub returns-then-count : goal.returns-then-count
+returns-then-count c = held_count c.args.block.now c.requires (omega arith)
+
+pub returns-else-count : goal.returns-else-count
+returns-else-count c = held_all c.args.block.now c.requires (omega arith)

@@ -1,0 +1,7 @@
+use native.Mathlib.Omega.{arith}
+use Rattle.unit.proofs.Count.{pairs_most}
+use borrow.Author.Rules.{rules}
+use Rattle.record.proofs.counter_at.Goals as goal
+
+pub overflow_add-result : goal.overflow_add-result
+overflow_add-result c = omega (arith, pairs_most {ports = c.args.ports} (omega arith))

@@ -1,0 +1,8 @@
+use native.Mathlib.Omega.{arith}
+use Rattle.unit.proofs.Count.{row_below}
+use borrow.Author.Rules.{rules}
+use Rattle.record.proofs.filters_from.Goals as goal
+
+pub filter_at-requires : goal.filter_at-requires
+filter_at-requires c = let args = c.args in
+    omega (arith, row_below {ports = args.ports} {p = args.from} (omega arith))

@@ -1,0 +1,7 @@
+use Rattle.unit.specs.Model.{model_of}
+use borrow.Author.Rules.{rules}
+use Rattle.record.proofs.holder.Goals as goal
+
+pub returns : goal.returns
+unfolding model_of
+returns c = λ ports. c.holder.ensures

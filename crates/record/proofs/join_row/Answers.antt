@@ -1,0 +1,14 @@
+use Prim.Native.Nat.{◌+◌, ◌*◌}
+use native.Mathlib.Omega.{arith}
+use Rattle.storage.proofs.Parts.{range_size}
+use Rattle.record.proofs.Regions.{row_joined}
+use borrow.Author.Rules.{rules}
+use Rattle.unit.specs.Model.{rows_from}
+use Rattle.queue.specs.Queue.{block_length as queueLength}
+use Rattle.record.proofs.join_row.Goals as goal
+
+pub returns : goal.returns
+returns c = let args = c.args in
+    λ ports more. rw (range_size (rows_from + queueLength * args.q) queueLength)
+    (row_joined args.words.now args.q (search rules) ports more c.join.new.words (omega arith) args.f c.join.result
+    (rw (range_size (rows_from + queueLength * args.q) queueLength) at c.join.ensures))

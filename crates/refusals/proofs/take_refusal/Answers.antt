@@ -1,0 +1,17 @@
+use mathlib.Core.Path.{sym, ◌∙◌}
+use borrow.Author.Rules.{rules}
+use borrow.Author.Tests.{eq-eqb, ne_eqb, not-true, not-false}
+use Rattle.refusals.specs.Refusals.{take_refusal}
+use Rattle.refusals.proofs.take_refusal.Goals as goal
+
+pub returns-then-not-is_port : goal.returns-then-not-is_port
+unfolding take_refusal
+returns-then-not-is_port c = simp (← c.is_port.ensures, not-true c.is_port.result c.if-not-is_port.true)
+
+pub returns-then-lent-record_length : goal.returns-then-lent-record_length
+unfolding take_refusal
+returns-then-lent-record_length c = simp (← c.is_port.ensures, not-false c.is_port.result c.if-not-is_port.false, ne_eqb _ _ (λ e. c.if-lent-record_length.true (e ∙ sym c.record_length.ensures)))
+
+pub returns : goal.returns
+unfolding take_refusal
+returns c = simp (← c.is_port.ensures, not-false c.is_port.result c.if-not-is_port.false, eq-eqb _ _ (c.if-lent-record_length.false ∙ c.record_length.ensures))

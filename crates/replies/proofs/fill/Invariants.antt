@@ -1,0 +1,11 @@
+use Prim.Native.Nat.{◌-◌}
+use native.Mathlib.Omega.{arith}
+use Rattle.replies.proofs.Laying.{laid_long}
+use Rattle.replies.proofs.Writing.{Filling, filling_none, filling_one, filling_done}
+use Rattle.replies.proofs.fill.Given as goal
+
+abbrev pub invariant-loop-at : goal.invariant-loop-at
+invariant-loop-at l = Filling l.initial.reply l.reply l.n l.at
+
+abbrev pub decreases-loop-at : goal.decreases-loop-at
+decreases-loop-at l = 8 - l.at

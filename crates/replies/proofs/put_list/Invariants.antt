@@ -1,0 +1,14 @@
+use mathlib.Core.Path.{◌∙◌}
+use Prim.Native.Nat.{◌-◌}
+use native.Mathlib.Omega.{arith}
+use lib.ListN.{length-set}
+use Rattle.filter.specs.Filter.{filter_of}
+use Rattle.replies.proofs.Laying.{laid_long}
+use Rattle.replies.proofs.Writing.{Entered, entered_none, entered_one, list_written}
+use Rattle.replies.proofs.put_list.Given as goal
+
+abbrev pub invariant-loop-i : goal.invariant-loop-i
+invariant-loop-i l = Entered (filter_of l.block).entries l.initial.out l.out l.i
+
+abbrev pub decreases-loop-i : goal.decreases-loop-i
+decreases-loop-i l = l.n - l.i

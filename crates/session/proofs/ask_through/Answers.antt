@@ -1,0 +1,6 @@
+use Rattle.session.proofs.Laws.{asks}
+use borrow.Author.Rules.{rules}
+use Rattle.session.proofs.ask_through.Goals as goal
+
+pub returns : goal.returns
+returns c = asks c.args.block.now c.requires c.args.through

@@ -1,0 +1,15 @@
+use Rattle.session.proofs.Bytes.{fill_start, fill_one, fill_done}
+use Rattle.session.proofs.Paste.{Pasted}
+use Rattle.packets.specs.Words.{cut_words}
+use Rattle.session.specs.Session.{block_length}
+use lib.ListN.{length, length-set}
+use Prim.Native.Nat.{◌≤◌, ◌-◌}
+use mathlib.Core.Path.{◌≡◌}
+use native.Mathlib.Omega.{arith}
+use Rattle.session.proofs.fill.Given as goal
+
+abbrev pub invariant-loop-i : goal.invariant-loop-i
+invariant-loop-i l = (l.i ≤ l.n) × (length l.block ≡ block_length) × Pasted l.initial.block 8 (cut_words l.bytes) l.block l.i
+
+abbrev pub decreases-loop-i : goal.decreases-loop-i
+decreases-loop-i l = l.n - l.i

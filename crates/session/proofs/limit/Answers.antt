@@ -1,0 +1,7 @@
+use Rattle.session.specs.Session.{session_of}
+use borrow.Author.Rules.{rules}
+use Rattle.session.proofs.limit.Goals as goal
+
+pub returns : goal.returns
+unfolding session_of
+returns c = search rules

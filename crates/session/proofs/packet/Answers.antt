@@ -1,0 +1,15 @@
+use Rattle.session.proofs.Laws.{packet_is, stored_is}
+use native.Mathlib.Omega.{arith}
+use Rattle.session.proofs.packet.Goals as goal
+
+pub overflow_add-result : goal.overflow_add-result
+overflow_add-result c = omega (arith, stored_is c.args.block.now c.requires.0)
+
+pub offset_bounds-block-k : goal.offset_bounds-block-k
+offset_bounds-block-k c = omega (arith, stored_is c.args.block.now c.requires.0)
+
+pub bounds-block-k : goal.bounds-block-k
+bounds-block-k c = omega (arith, stored_is c.args.block.now c.requires.0)
+
+pub returns : goal.returns
+returns c = packet_is c.args.block.now c.requires.0 c.args.k c.requires.1 c.requires.2

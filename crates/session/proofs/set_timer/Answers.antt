@@ -1,0 +1,6 @@
+use Rattle.session.proofs.Laws.{times}
+use borrow.Author.Rules.{rules}
+use Rattle.session.proofs.set_timer.Goals as goal
+
+pub returns : goal.returns
+returns c = times c.args.block.now c.requires c.args.timer c.args.since

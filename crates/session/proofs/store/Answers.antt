@@ -1,0 +1,10 @@
+use Rattle.session.proofs.Laws.{stores, stays}
+use native.Mathlib.Omega.{arith}
+use borrow.Author.Rules.{rules}
+use Rattle.session.proofs.store.Goals as goal
+
+pub returns-then-k-lt-MOST : goal.returns-then-k-lt-MOST
+returns-then-k-lt-MOST c = stores c.args.block.now c.requires c.stored-k.result c.args.word c.stored-k.ensures.1 (omega arith)
+
+pub returns-else-k-lt-MOST : goal.returns-else-k-lt-MOST
+returns-else-k-lt-MOST c = stays c.args.block.now c.requires c.stored-k.result c.args.word c.stored-k.ensures.1 (omega arith)

@@ -1,0 +1,7 @@
+use Rattle.session.proofs.Laws.{stored_is}
+use mathlib.Core.Path.{sym, ◌∙◌}
+use borrow.Author.Rules.{rules}
+use Rattle.session.proofs.stored.Goals as goal
+
+pub returns : goal.returns
+returns c = (c.least.ensures ∙ sym (stored_is c.args.block.now c.requires), c.least.ensures)

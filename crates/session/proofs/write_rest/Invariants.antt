@@ -1,0 +1,15 @@
+use mathlib.Core.List.{List}
+use Prim.Native.Nat.{ℕ}
+use Rattle.session.proofs.Bytes.{There, there_one, there_written, written_there}
+use Rattle.session.specs.Session.{session_of, message}
+use lib.ListN.{length, length-set}
+use Prim.Native.Nat.{◌≤◌, ◌-◌}
+use mathlib.Core.Path.{◌≡◌, refl}
+use native.Mathlib.Omega.{arith}
+use Rattle.session.proofs.write_rest.Given as goal
+
+abbrev pub invariant-loop-i : goal.invariant-loop-i
+invariant-loop-i l = (l.i ≤ l.n) × (l.start ≤ l.i) × (length l.out ≡ length l.initial.out) × ((before : List ℕ) → There (message (session_of l.block)) before l.initial.out l.start → There (message (session_of l.block)) before l.out l.i)
+
+abbrev pub decreases-loop-i : goal.decreases-loop-i
+decreases-loop-i l = l.n - l.i

@@ -1,0 +1,15 @@
+use Rattle.sessions.proofs.Lists.{shifted, shift_start, shift_step}
+use Rattle.sessions.proofs.Talk.{closes}
+use Rattle.sessions.proofs.Region.{blocks_long}
+use Rattle.sessions.specs.Sessions.{port_length, blocks_in, none}
+use lib.ListN.{length, length-set}
+use Prim.Native.Nat.{◌≤◌, ◌-◌}
+use native.Mathlib.Omega.{arith}
+use mathlib.Core.Path.{◌≡◌, ◌∙◌}
+use Rattle.sessions.proofs.close.Given as goal
+
+abbrev pub invariant-loop-place : goal.invariant-loop-place
+invariant-loop-place l = (l.i ≤ l.place) × (l.place ≤ l.n - 1) × (length l.words ≡ port_length) × (blocks_in l.words ≡ shifted l.i l.place (blocks_in l.initial.words))
+
+abbrev pub decreases-loop-place : goal.decreases-loop-place
+decreases-loop-place l = l.n - l.place

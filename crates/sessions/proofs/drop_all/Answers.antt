@@ -1,0 +1,7 @@
+use native.Mathlib.Omega.{arith}
+use Rattle.sessions.proofs.Talk.{empties}
+use borrow.Author.Rules.{rules}
+use Rattle.sessions.proofs.drop_all.Goals as goal
+
+pub returns : goal.returns
+returns c = empties c.args.words.now (omega arith)

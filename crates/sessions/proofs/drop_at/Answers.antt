@@ -1,0 +1,8 @@
+use Rattle.sessions.proofs.Steps.{past_none}
+use Rattle.sessions.specs.Sessions.{talk_of}
+use native.Mathlib.Omega.{arith}
+use borrow.Author.Rules.{rules}
+use Rattle.sessions.proofs.drop_at.Goals as goal
+
+pub returns-else-i-count : goal.returns-else-i-count
+returns-else-i-count c = past_none c.args.i (talk_of c.args.words.now) (omega (arith, c.count.ensures.0))

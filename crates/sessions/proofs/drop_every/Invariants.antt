@@ -1,0 +1,12 @@
+use mathlib.Core.Path.{◌≡◌, refl, ◌∙◌}
+use Prim.Native.Nat.{◌≤◌, ◌-◌}
+use native.Mathlib.Omega.{arith}
+use lib.ListN.{length}
+use Rattle.sessions.proofs.Ports.{Emptied, emptied_none, emptied_one, emptied_all}
+use Rattle.sessions.proofs.drop_every.Given as goal
+
+abbrev pub invariant-loop-p : goal.invariant-loop-p
+invariant-loop-p l = (l.p ≤ l.ports) × (length l.words ≡ length l.initial.words) × Emptied l.ports l.initial.words l.words l.p
+
+abbrev pub decreases-loop-p : goal.decreases-loop-p
+decreases-loop-p l = l.ports - l.p

@@ -1,0 +1,5 @@
+use borrow.Author.Rules.{rules}
+use Rattle.sessions.proofs.drop_with.Goals as goal
+
+pub returns : goal.returns
+returns c = rw c.find-i.ensures at c.drop_at.ensures

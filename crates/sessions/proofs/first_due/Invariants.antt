@@ -1,0 +1,14 @@
+use Rattle.sessions.proofs.Search.{Passed, passed_none, passed_found, passed_more, passed_all}
+use Rattle.sessions.proofs.Talk.{talk_at}
+use Rattle.sessions.specs.Sessions.{talk_of}
+use Rattle.session.specs.Session.{is_due}
+use Prim.Native.Nat.{◌≤◌, ◌-◌}
+use native.Mathlib.Omega.{arith}
+use mathlib.Core.Path.{sym, ap, ◌∙◌}
+use Rattle.sessions.proofs.first_due.Given as goal
+
+abbrev pub invariant-loop-i : goal.invariant-loop-i
+invariant-loop-i l = (l.i ≤ l.n) × Passed (is_due l.time) (talk_of l.words) l.i
+
+abbrev pub decreases-loop-i : goal.decreases-loop-i
+decreases-loop-i l = l.n - l.i

@@ -1,0 +1,5 @@
+use borrow.Author.Rules.{rules}
+use Rattle.sessions.proofs.heard_abort.Goals as goal
+
+pub returns : goal.returns
+returns c = rw c.drop_with.ensures at c.drop_with-2.ensures

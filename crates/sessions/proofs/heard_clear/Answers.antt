@@ -1,0 +1,5 @@
+use borrow.Author.Rules.{rules}
+use Rattle.sessions.proofs.heard_clear.Goals as goal
+
+pub returns : goal.returns
+returns c = rw c.find-i.ensures at c.clear_at.ensures

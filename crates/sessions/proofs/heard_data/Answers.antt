@@ -1,0 +1,6 @@
+use borrow.Author.Rules.{rules}
+use Rattle.sessions.proofs.heard_data.Goals as goal
+
+pub returns : goal.returns
+returns c = let args = c.args in
+    rw c.find-i.ensures at c.data_at.ensures

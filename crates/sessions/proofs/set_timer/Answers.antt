@@ -1,0 +1,23 @@
+use Rattle.sessions.proofs.Talk.{talk_long, changed}
+use Rattle.session.specs.Session.{timed}
+use native.Mathlib.Omega.{arith}
+use borrow.Author.Rules.{rules}
+use Rattle.sessions.proofs.set_timer.Goals as goal
+
+pub overflow_mul-a : goal.overflow_mul-a
+overflow_mul-a c = omega (arith, talk_long c.args.words.now)
+
+pub overflow_add-a : goal.overflow_add-a
+overflow_add-a c = omega (arith, talk_long c.args.words.now)
+
+pub overflow_add-e : goal.overflow_add-e
+overflow_add-e c = omega (arith, talk_long c.args.words.now)
+
+pub offset_bounds-words-a : goal.offset_bounds-words-a
+offset_bounds-words-a c = omega (arith, talk_long c.args.words.now)
+
+pub slice_bounds-set_timer-end : goal.slice_bounds-set_timer-end
+slice_bounds-set_timer-end c = omega (arith, talk_long c.args.words.now)
+
+pub returns : goal.returns
+returns c = changed c.args.words.now c.args.i c.set_timer.new.words (timed c.args.timer c.args.since) c.requires.0 c.requires.1 (search rules) c.set_timer.ensures

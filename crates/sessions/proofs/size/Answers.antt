@@ -1,0 +1,25 @@
+use Rattle.sessions.proofs.Talk.{talk_long, place_is}
+use Rattle.session.specs.Session.{Session}
+use native.Mathlib.Omega.{arith}
+use mathlib.Core.Path.{ap, ◌∙◌}
+use borrow.Author.Rules.{rules}
+use Rattle.sessions.proofs.size.Goals as goal
+
+pub overflow_mul-a : goal.overflow_mul-a
+overflow_mul-a c = omega (arith, talk_long c.args.words.now)
+
+pub overflow_add-a : goal.overflow_add-a
+overflow_add-a c = omega (arith, talk_long c.args.words.now)
+
+pub overflow_add-e : goal.overflow_add-e
+overflow_add-e c = omega (arith, talk_long c.args.words.now)
+
+pub offset_bounds-words-a : goal.offset_bounds-words-a
+offset_bounds-words-a c = omega (arith, talk_long c.args.words.now)
+
+pub slice_bounds-size-end : goal.slice_bounds-size-end
+slice_bounds-size-end c = omega (arith, talk_long c.args.words.now)
+
+pub returns : goal.returns
+returns c = let here = place_is c.args.words.now c.args.i c.requires.1 in
+    (c.size.ensures.0 ∙ ap (λ (s : Session). s.size) here, c.size.ensures.1)

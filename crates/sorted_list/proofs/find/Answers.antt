@@ -1,0 +1,17 @@
+use native.Mathlib.Omega.{arith}
+use borrow.Author.Rules.{rules}
+use Rattle.sorted_list.proofs.Ceiling.{told_found, told_absent}
+use Rattle.sorted_list.proofs.Halving.{Unprobed, unprobed_all, unprobed_found, unprobed_on, unprobed_none}
+use Rattle.sorted_list.proofs.find.Goals as goal
+
+pub loop-left-init : goal.loop-left-init
+loop-left-init c = let args = c.args in unprobed_all args.list.now args.n args.x (omega arith)
+
+pub returns-then-y-x : goal.returns-then-y-x
+returns-then-y-x c = told_found _ _ _ c.requires.0 c.requires.1 (unprobed_found c.loop-left.invariant (omega arith) c.if-y-x.true)
+
+pub loop-left-preserved : goal.loop-left-preserved
+loop-left-preserved c = unprobed_on c.loop-left.invariant (omega arith) c.if_below-lo.ensures.0 c.if_below-lo.ensures.1 c.if_below.ensures.0 c.if_below.ensures.1 c.if-y-x.false
+
+pub returns : goal.returns
+returns c = told_absent _ _ _ c.requires.0 c.requires.1 (unprobed_none c.loop-left.invariant (omega arith))

@@ -1,0 +1,11 @@
+use native.Mathlib.Omega.{arith}
+use borrow.Author.Rules.{rules}
+use Rattle.sorted_list.proofs.Ceiling.{told_found, told_absent}
+use Rattle.sorted_list.proofs.Halving.{Unprobed, unprobed_all, unprobed_found, unprobed_on, unprobed_none}
+use Rattle.sorted_list.proofs.find.Given as goal
+
+abbrev pub invariant-loop-left : goal.invariant-loop-left
+invariant-loop-left l = Unprobed l.list l.n l.x l.lo l.left l.probes
+
+abbrev pub decreases-loop-left : goal.decreases-loop-left
+decreases-loop-left l = l.left

@@ -1,0 +1,21 @@
+use native.Mathlib.Omega.{arith}
+use Rattle.sorted_list.proofs.Moves.{Making, making_none, making_one, made_some, made_all}
+use Rattle.sorted_list.proofs.make_room.Goals as goal
+
+pub loop-i-init : goal.loop-i-init
+loop-i-init c = making_none c.args.list.now c.args.n c.args.x c.requires
+
+pub shape_of-list-then-y-x : goal.shape_of-list-then-y-x
+shape_of-list-then-y-x c = c.loop-i.invariant.long
+
+pub returns-then-y-x : goal.returns-then-y-x
+returns-then-y-x c = made_some c.requires c.loop-i.i c.loop-i.invariant (omega arith) c.if-y-x.true
+
+pub loop-i-preserved : goal.loop-i-preserved
+loop-i-preserved c = making_one c.requires c.loop-i.i c.loop-i.invariant (omega arith) c.if-y-x.false
+
+pub shape_of-list : goal.shape_of-list
+shape_of-list c = c.loop-i.invariant.long
+
+pub returns : goal.returns
+returns c = made_all c.requires c.loop-i.i c.loop-i.invariant (omega arith)

@@ -1,0 +1,6 @@
+use borrow.Author.Rules.{rules}
+use Rattle.text.proofs.Writing.{writing_one}
+use Rattle.text.proofs.byte.Goals as goal
+
+pub returns : goal.returns
+returns c = writing_one c.requires

@@ -1,0 +1,17 @@
+use mathlib.Core.Path.{◌≡◌}
+use Prim.Native.Nat.{◌+◌, ◌-◌, ◌*◌, ◌≤◌}
+use native.Mathlib.Omega.{arith}
+use borrow.Author.Rules.{rules}
+use lib.ListN.{length, take}
+use Rattle.storage.specs.Bytes.{bytes_of}
+use Rattle.text.specs.Digits.{hex_of}
+use Rattle.text.specs.Writing.{Writing}
+use Rattle.text.proofs.Writing.{writing_none}
+use Rattle.text.proofs.Digits.{hex_word_more}
+use Rattle.text.proofs.word.Given as goal
+
+abbrev pub invariant-loop-i : goal.invariant-loop-i
+invariant-loop-i l = (l.i ≤ l.len) × (length l.out ≡ length l.initial.out) × (l.next ≡ l.at + 2 * l.i) × Writing l.initial.out l.out l.at (hex_of (take l.i (bytes_of 8 l.word))) l.next
+
+abbrev pub decreases-loop-i : goal.decreases-loop-i
+decreases-loop-i l = l.len - l.i

@@ -1,0 +1,11 @@
+use borrow.Author.Rules.{rules}
+use Rattle.unit.specs.Own.{consumes}
+use Rattle.unit.proofs.Unit.consumes.Goals as goal
+
+pub returns-then-has_destination : goal.returns-then-has_destination
+unfolding consumes
+returns-then-has_destination c = rw (c.is_own.ensures, c.ps.ensures, ← c.has_destination.ensures, c.if-has_destination.true)
+
+pub returns : goal.returns
+unfolding consumes
+returns c = rw (← c.has_destination.ensures, c.if-has_destination.false)

@@ -1,0 +1,11 @@
+use borrow.Author.Rules.{rules}
+use Rattle.unit.specs.Own.{is_own}
+use Rattle.unit.proofs.Unit.is_own.Goals as goal
+
+pub returns-then-holds_address : goal.returns-then-holds_address
+unfolding is_own
+returns-then-holds_address c = rw (← c.holds_address.ensures, c.if-holds_address.true)
+
+pub returns : goal.returns
+unfolding is_own
+returns c = rw (← c.holds_address.ensures, c.if-holds_address.false)

@@ -1,0 +1,6 @@
+use Rattle.witness.proofs.Steps.{message_step}
+use borrow.Author.Rules.{rules}
+use Rattle.witness.proofs.message.Goals as goal
+
+pub returns : goal.returns
+returns c = message_step c.requires.0 c.message-r.ensures c.put.ensures

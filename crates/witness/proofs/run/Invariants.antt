@@ -1,0 +1,16 @@
+use mathlib.Core.Path.{◌≡◌, refl, ◌∙◌}
+use Prim.Native.Nat.{◌-◌, ◌*◌, ◌≤◌}
+use native.Mathlib.Omega.{arith}
+use lib.ListN.{length}
+use borrow.Author.Rules.{rules}
+use Rattle.storage.proofs.Parts.{range_size, length_back}
+use Rattle.witness.specs.Replay.{Running}
+use Rattle.witness.proofs.Runs.{running_start, running_step}
+use Rattle.witness.proofs.run.Given as goal
+
+abbrev pub invariant-loop-i : goal.invariant-loop-i
+invariant-loop-i l = (l.i ≤ l.count) × (length l.words ≡ length l.initial.words) × (length l.answers ≡ length l.initial.answers) × (length l.reply ≡ length l.initial.reply)
+    × Running l.initial.words l.words l.calls l.bytes (length l.initial.reply) l.initial.answers l.answers l.i
+
+abbrev pub decreases-loop-i : goal.decreases-loop-i
+decreases-loop-i l = l.count - l.i

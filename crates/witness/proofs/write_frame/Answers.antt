@@ -1,0 +1,7 @@
+use Rattle.witness.specs.Encoding.{code}
+use borrow.Author.Rules.{rules}
+use Rattle.witness.proofs.write_frame.Goals as goal
+
+pub returns : goal.returns
+unfolding code
+returns c = cc
