@@ -19,7 +19,7 @@ use Rattle.unit.specs.Model.{Rest, Model, record_length}
 use Rattle.unit.specs.Own.{is_unstarted, is_claiming, holds_address, consumes}
 use Rattle.unit.specs.PowerOn.{not_long, fresh}
 use Rattle.claims.specs.Claims.{is_request_to_unit, frame_acted, claim_acted, started}
-use Rattle.claims.specs.Claims.{frame_of, is_claim as isClaimFrame}
+use Rattle.claims.specs.Claims.{frame_of, is_claim as is_claim_frame}
 use Rattle.checks.specs.Ports.{no_port, is_port}
 use Rattle.refusals.specs.Refusals.{frame_refusal, take_refusal, start_refusal, quiet_refusal, length_refusal}
 use Rattle.refusals.proofs.Checks.{none, port_in, source_in}
@@ -65,13 +65,13 @@ quiet_goes ports lent own = go (not_long ports lent) (is_claiming own.claim)
 
 -- ---- a frame that is no claim leaves the rest of the model
 no_claim : (rest : Rest) (port id : ℕ) (bytes : List ℕ) → is_claim id bytes ≡ false → (frame_acted rest port (consumes rest.own id) (frame_of id bytes)).rest ≡ rest
-unfolding frame_acted isClaimFrame is_claim
+unfolding frame_acted is_claim_frame is_claim
 no_claim rest port id bytes n =
     rw n (by_test (λ r. r ≡ rest) (is_request_to_unit (frame_of id bytes) (consumes rest.own id)) _ _ (λ _. refl) (λ _. refl))
 
 a_claim : (rest : Rest) (port id : ℕ) (bytes : List ℕ) → is_claim id bytes ≡ true
     → (frame_acted rest port (consumes rest.own id) (frame_of id bytes)).rest ≡ (claim_acted rest port (frame_of id bytes)).rest
-unfolding frame_acted isClaimFrame is_claim
+unfolding frame_acted is_claim_frame is_claim
 a_claim rest port id bytes t = rw t
 
 -- ---- one call
@@ -238,4 +238,4 @@ pub settled_after : (ports name preferred : ℕ) (ks : List Call) → Orderly po
     → SettledIn (has_started preferred ks) name preferred (claimants ks) (after_calls (next ports (record_length ports)) (fresh ports name preferred) ks).rest
 settled_after ports name preferred ks O =
     after_list ports name preferred ks (O OneAddress) (O NoneWithdraws) (O NoneIsTheUnit) false [] (fresh ports name preferred) ks
-    (λ d m. absurd (mathlib.Core.List.Memᴰ.not_nil m)) (λ d m. m) (O Unrefused) (fresh_settled ports name preferred)
+    (λ d m. absurd (mathlib.Core.List.Memᴰ.not-nil m)) (λ d m. m) (O Unrefused) (fresh_settled ports name preferred)

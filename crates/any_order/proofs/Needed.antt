@@ -14,8 +14,8 @@ use Rattle.addresses.specs.Table.{place_from, held_by}
 use Rattle.address_claims.proofs.Claims.{placed}
 use Rattle.address_claims.specs.Claims.{without, withdrawn, moved_to, contested}
 use Rattle.unit.specs.Own.{is_own}
-use Rattle.claims.specs.Claims.{is_claim as isClaimFrame, claim_acted, frame_acted, started}
-use Rattle.claims.specs.Claims.{contested as contestedOwn}
+use Rattle.claims.specs.Claims.{is_claim as is_claim_frame, claim_acted, frame_acted, started}
+use Rattle.claims.specs.Claims.{contested as contested_own}
 use Rattle.checks.specs.Ports.{is_port}
 use Rattle.unit.specs.Count.{pair_count}
 use Rattle.refusals.specs.Refusals.{frame_refusal, start_refusal}
@@ -50,7 +50,7 @@ not_free c real (lowest d L) e =
     free_held d.port d.name (sym e ∙ placed d.port d.name (rw s real))
 
 pub needed : Needed
-unfolding pair_count is_port next performed refusal rest_after frame_refusal start_refusal wrong_source sent_without_address pgn_of packed frame_acted isClaimFrame claim_acted contestedOwn is_own moved_to withdrawn without held_by contested place_from started test all but place every every_two implies passes agree_on_address agree_on_port is_claim claim_of
+unfolding pair_count is_port next performed refusal rest_after frame_refusal start_refusal wrong_source sent_without_address pgn_of packed frame_acted is_claim_frame claim_acted contested_own is_own moved_to withdrawn without held_by contested place_from started test all but place every every_two implies passes agree_on_address agree_on_port is_claim claim_of
 needed = record {
   unrefused = record {
     premises = tested_but Unrefused ports 8 narrow refl;

@@ -24,7 +24,7 @@ use Rattle.unit.specs.declared.Unit.{Unit}
 use Rattle.unit.specs.Model.{Rest}
 use Rattle.unit.specs.Own.{holds_address, is_own, is_claiming, moved, fresh_unit}
 use Rattle.claims.specs.Claims.{Acted, claim_acted, held_under, started}
-use Rattle.claims.specs.Claims.{contested as contestedOwn}
+use Rattle.claims.specs.Claims.{contested as contested_own}
 use Rattle.any_order.specs.Claimants.{Claimant, the_unit, with_unit, GoesTo, nobody, Stands, unstarted, keeps, loses}
 use Rattle.any_order.proofs.Lowest.{Grown, grown_with_unit, grown_by_unit, elsewhere, lowest_now, lower}
 use Rattle.any_order.proofs.Places.{contested_goes, under_lower, not_under, unit_free, beaten_goes}
@@ -120,8 +120,8 @@ module _ {b : Bool} {name preferred : ℕ} {cs cs' : List Claimant} (rest : Rest
         inside = inside_more;
       }
 
-  contest : is_own rest.own (sa_of f.id) ≡ true → SettledIn b name preferred cs' (contestedOwn rest port (sa_of f.id) f.bytes).rest
-  unfolding contestedOwn
+  contest : is_own rest.own (sa_of f.id) ≡ true → SettledIn b name preferred cs' (contested_own rest port (sa_of f.id) f.bytes).rest
+  unfolding contested_own
   contest t =
       by_test (SettledIn b name preferred cs') (ltb rest.own.name f.bytes) _ _
       (λ low. defends t (ltb-true rest.own.name f.bytes low))
@@ -203,10 +203,10 @@ quiet_settles rest h S =
 pub fresh_settled : (ports name preferred : ℕ) → Settled false name preferred [] (fresh_unit name preferred ports) (replicate places Free)
 fresh_settled ports name preferred = record {
   long = length-replicate places Free;
-  goes = λ a small. rw (get_or-replicate places a Free Free small) (nobody (λ c m at. Memᴰ.not_nil m));
+  goes = λ a small. rw (get_or-replicate places a Free Free small) (nobody (λ c m at. Memᴰ.not-nil m));
   called = refl;
   wants = refl;
   stands = unstarted;
-  real = λ c m. absurd (Memᴰ.not_nil m);
-  inside = λ c m. absurd (Memᴰ.not_nil m);
+  real = λ c m. absurd (Memᴰ.not-nil m);
+  inside = λ c m. absurd (Memᴰ.not-nil m);
 }

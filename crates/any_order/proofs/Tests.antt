@@ -29,7 +29,7 @@ right false y e = absurd (true≢false (sym e))
 
 of_every : {A : Type 0} (test : A → Bool) (xs : List A) → every test xs ≡ true → (x : A) → Memᴰ x xs → test x ≡ true
 unfolding every
-of_every test [] h x m = absurd (Memᴰ.not_nil m)
+of_every test [] h x m = absurd (Memᴰ.not-nil m)
 of_every test (y ∷ ys) h x m =
     ⊎_elim (λ e. rw e (left (test y) (every test ys) h)) (λ t. of_every test ys (right (test y) (every test ys) h) x t) (Memᴰ.cases_cons m)
 

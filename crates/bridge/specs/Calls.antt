@@ -10,7 +10,7 @@ use Rattle.filter.specs.declared.Asked.{Asked}
 use Rattle.filter.specs.Filter.{Filter, reason_number}
 use Rattle.queue.specs.declared.Frame.{Frame}
 use Rattle.queue.specs.declared.Taken.{Taken}
-use Rattle.queue.specs.Queue.{size, priority, taken_of, queue_next, idle, block_length as queueLength}
+use Rattle.queue.specs.Queue.{size, priority, taken_of, queue_next, idle, block_length as queue_length}
 use Rattle.address_claims.specs.declared.Event.{Event}
 use Rattle.network_message.specs.Decoding.{decoded}
 use Rattle.unit.specs.declared.Claim.TheVariants.{Unstarted, Claimed}
@@ -234,14 +234,14 @@ pub record Framing (ports : ℕ) (before after : List ℕ) (port id : ℕ) (byte
 
 -- where the queue of a port begins in the record
 abbrev pub queue_at : ℕ → ℕ
-queue_at port = rows_from + queueLength * (port - 1)
+queue_at port = rows_from + queue_length * (port - 1)
 
 -- "A take changes that port's queue only": every word before it and behind it is as it was
 pub record TakingOut (ports : ℕ) (before after : List ℕ) (port : ℕ) (r : TakeAnswer) : Type 0 where
   pub call : Calling ports before after (TakeOut port)
   pub answer : r ≡ take_answer ports (length before) (model_of ports before) port
   pub ahead : take (queue_at port) after ≡ take (queue_at port) before
-  pub behind : drop (queue_at port + queueLength) after ≡ drop (queue_at port + queueLength) before
+  pub behind : drop (queue_at port + queue_length) after ≡ drop (queue_at port + queue_length) before
 
 pub record Messaging (ports : ℕ) (before after : List ℕ) (port requester : ℕ) (payload lent back : List ℕ) (r : MessageAnswer) : Type 0 where
   pub call : Calling ports before after (Message port requester payload (length lent))

@@ -30,7 +30,7 @@ use Rattle.refusals.specs.Refusals.{frame_refusal, take_refusal, start_refusal, 
 use Rattle.bridge.specs.Calls.{Call, FrameIn, TakeOut, Message, Start, Quiet, ReadUnit, refusal, performed, next, queue_at, messaged, frame_answer, take_answer, start_answer, unit_answer, counts_answer, Calling, Framing, TakingOut, Messaging, Starting, Quieting, Reading, Counting}
 use Rattle.flat_answers.specs.Answers.{frame_length, take_length, bytes_length, unit_length, counts_length, take_words, bytes_of_taken}
 use Rattle.deorasaeng.specs.Interface.{lent_refusal, Served, message_length, start_length, over, replied_to, taken_from, FrameCall, TakeCall, MessageCall, StartCall, UnitCall, CountsCall, QueueCall}
-use Rattle.bridge.specs.Calls.{gave as takenIn}
+use Rattle.bridge.specs.Calls.{gave as taken_in}
 use Rattle.deorasaeng.proofs.Numbers.{not_0, frame_lent, frame_number_lem, take_lent, take_lent_bytes, take_number_lem, silent, replied_as, start_lent, start_number_lem, unit_lent, unit_number_lem, counts_lent, counts_number_lem, queue_lent, queue_lent_bytes, queue_number_lem}
 use Rattle.deorasaeng.proofs.Calls.{frame_refusal_lem, start_refusal_lem, counts_refusal}
 use Rattle.record.specs.Steps.{RowTaking}
@@ -41,7 +41,7 @@ use Rattle.made.specs.Made as made
 use Rattle.demand_3.specs.Demand3.{Answer, ToFrame, ToTake, ToMessage, ToStart, ToQuiet, ToUnit, ToCounts}
 use Rattle.demand_3.specs.Demand3 as demand_3
 use Rattle.c_demands.specs.Exported.{Arrived, arrived, Handed, handed, Started, started, Quieted, quieted, ToldUnit, told_unit, ToldCounts, told_counts, TookQueue, took_queue, block_of, with_block}
-use Rattle.c_demands.specs.Exported.{Took as TookOut, took as tookOut}
+use Rattle.c_demands.specs.Exported.{Took as TookOut, took as took_out}
 use Rattle.c_demands.specs.CDemands.{Exported, CFrame, CTake, CMessage, CStart, CQuiet, CUnit, CCounts, CTakeQueue, Gave, gave, Made, frame_made, take_made, message_made, start_made, quiet_made, unit_made, counts_made, queue_made, lends, call_of, Tells, of_frame, of_take, of_refused_take, of_message, of_start, of_quiet, of_unit_lem, of_refused_unit, of_counts, of_queue, portless, refused_lent, IsCall, IsNone}
 use Rattle.address_claims.specs.declared.Event.{Event}
 use Rattle.address_claims.specs.declared.Event.TheVariants.{Nothing, Withdrew, Defended, Displaced, Recorded, Refreshed, TookOver, Beaten}
@@ -298,7 +298,7 @@ is_call full (frame_made (arrived κs w w' b b' a a' port id r f)) l =
       made = demand_3.frame_made (made.arrived (κs.0, (κs.1.0, tt)) w w' b b' port id _ (λ _. P.0));
       tells = of_frame {port = port} {id = id} {bytes = b.now} {answer = a.now} {g = gave r a'.now []} (frame_answer (ports_of w.now) (length w.now) (model_of (ports_of w.now) w.now) port id b.now) (rw (F.tells, P.1, event_is _, old_name_is _));
     }
-is_call full (take_made (tookOut κs w w' a a' b b' port r f)) l =
+is_call full (take_made (took_out κs w w' a a' b b' port r f)) l =
     let T = f tt in
     let two = both (eqb (length a.now) 3) (eqb (length b.now) 8) l in
     let e = eqb-true (length a.now) 3 two.0 in
@@ -370,7 +370,7 @@ is_call full (queue_made (took_queue κs w w' port answer bytes r block told wri
 
 pub is_none : {w w' : List ℕ} {c : Exported} {g : Gave} → Made w c g w' → lends c ≡ false → IsNone w c g w'
 is_none (frame_made (arrived κs w w' b b' a a' port id r f)) l = frame_none refl (f tt) (eqb-false (length a.now) 8 l)
-is_none (take_made (tookOut κs w w' a a' b b' port r f)) l =
+is_none (take_made (took_out κs w w' a a' b b' port r f)) l =
     let T = f tt in
     ⊎_elim
     (λ h. take_none refl T (T.number ∙ sym (take_lent (ports_of w.now) (length w.now) (length a.now) port (length b.now) (eqb-false (length a.now) 3 h))))

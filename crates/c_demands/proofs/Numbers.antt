@@ -20,7 +20,7 @@ use Rattle.deorasaeng.proofs.Numbers.{silent, replied_as}
 use Rattle.demand_1.specs.Demand1.{Exact, message_numbers, rest_of}
 use Rattle.demand_1.proofs.Numbers.{exact, message_number_lem}
 use Rattle.c_demands.specs.Exported.{arrived, handed, started, quieted, told_unit, told_counts, took_queue, block_of, with_block}
-use Rattle.c_demands.specs.Exported.{took as tookOut}
+use Rattle.c_demands.specs.Exported.{took as took_out}
 use Rattle.c_demands.specs.CDemands.{Exported, CFrame, CTake, CMessage, CStart, CQuiet, CUnit, CCounts, CTakeQueue, Gave, Made, frame_made, take_made, message_made, start_made, quiet_made, unit_made, counts_made, queue_made, numbers}
 use Rattle.c_demands.proofs.Calls.{put_back}
 
@@ -51,7 +51,7 @@ pub exact_number : {w w' : List ℕ} {c : Exported} {g : Gave} → Made w c g w'
 unfolding frame_number take_number start_number unit_number counts_number queue_number quiet_refusal refusal
 exact_number (frame_made (arrived κs w w' b b' a a' port id r f)) =
     let F = f tt in (rw F.number (exact (numbers w.now (CFrame port id b.now a.now)) refl), F.served.refused)
-exact_number (take_made (tookOut κs w w' a a' b b' port r f)) =
+exact_number (take_made (took_out κs w w' a a' b b' port r f)) =
     let T = f tt in (rw T.number (exact (numbers w.now (CTake port a.now b.now)) refl), T.served.refused)
 exact_number (message_made (handed κs w w' p p' b b' a a' port requester r f)) =
     let M = f tt in (rw (message_first M) (exact (numbers w.now (CMessage port requester p.now b.now a.now)) refl), M.served.refused)

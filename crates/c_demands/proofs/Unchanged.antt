@@ -52,7 +52,7 @@ sent_goes ports rest k q f m = go (goes ports rest k) refl m
   where
     go : (b : Bool) → goes ports rest k ≡ b → Memᴰ f (cond b (demand_3.forwarded ports rest k q) [] ++ cond b (demand_3.announced ports rest k) []) → goes ports rest k ≡ true
     go true e m = e
-    go false e m = absurd (Memᴰ.not_nil m)
+    go false e m = absurd (Memᴰ.not-nil m)
 
 short : (ports : ℕ) (rest : Rest) (port id : ℕ) (bytes : List ℕ) → goes ports rest (FrameIn port id bytes) ≡ true → length bytes ≤ 8
 unfolding refusal
@@ -66,7 +66,7 @@ tails : {A : Type 0} {x y : A} {xs ys : List A} → x ∷ xs ≡ y ∷ ys → xs
 tails e = cc
 
 in_front : {A : Type 0} {a : A} (xs ys : List A) → Memᴰ a xs → Memᴰ a (xs ++ ys)
-in_front [] ys m = absurd (Memᴰ.not_nil m)
+in_front [] ys m = absurd (Memᴰ.not-nil m)
 in_front (x ∷ xs) ys m = ⊎_elim (λ e. Memᴰ.head e) (λ i. Memᴰ.tail (in_front xs ys i)) (Memᴰ.cases_cons m)
 
 from_frame : (c : Exported) (port id : ℕ) (bytes : List ℕ) → FrameIn port id bytes ≡ call_of c → (answer : List ℕ) × (c ≡ CFrame port id bytes answer)
@@ -92,7 +92,7 @@ record At (ks : List Call) (xs : List Answer) (before : List Exported) (c : Expo
   frames : Frames js before
 
 frames_none : (before : List Exported) → Frames [] before
-frames_none before port id bytes m = absurd (Memᴰ.not_nil m)
+frames_none before port id bytes m = absurd (Memᴰ.not-nil m)
 
 frames_passed : {js : List Call} {before : List Exported} (c : Exported) → Frames js before → Frames js (c ∷ before)
 frames_passed c F port id bytes m = let n = F port id bytes m in (n.0, Memᴰ.tail n.1)

@@ -49,14 +49,14 @@ module _ {F : Type 0} where
 
   -- What was accepted was sent.
   was_sent : (n : ℕ) (row sent : List F) (f : F) → Memᴰ f (accepted n row sent) → Memᴰ f sent
-  was_sent n row [] f m = absurd (Memᴰ.not_nil m)
+  was_sent n row [] f m = absurd (Memᴰ.not-nil m)
   was_sent n row (g ∷ sent) f m =
       first (λ i. was_sent n (join n row g) sent f i) (room n row) (Memᴰ.append_cases (cond (room n row) (g ∷ []) []) m)
     where
       first : (Memᴰ f (accepted n (join n row g) sent) → Memᴰ f sent) → (b : Bool)
           → Memᴰ f (cond b (g ∷ []) []) ⊎ Memᴰ f (accepted n (join n row g) sent) → Memᴰ f (g ∷ sent)
       first later true (inl i) = Memᴰ.head (Memᴰ.eq_of_singleton i)
-      first later false (inl i) = absurd (Memᴰ.not_nil i)
+      first later false (inl i) = absurd (Memᴰ.not-nil i)
       first later b (inr i) = Memᴰ.tail (later i)
 
   no_join : (b : Bool) (p : List (Event F)) (f : F) (c : List (Event F)) → cond b (Take ∷ []) [] ≡ p ++ Join f ∷ c → ⊥

@@ -87,7 +87,7 @@ module _ {F : Type 0} (priority : F → ℕ) where
 
   -- A ticket is not among others.
   among : (t : Ticket F) (r : List (Ticket F)) → All (λ u. u.number ≡ t.number → ⊥) r → Memᴰ t r → ⊥
-  among t [] w m = Memᴰ.not_nil m
+  among t [] w m = Memᴰ.not-nil m
   among t (x ∷ r) w m = go (λ k. among t r w.1 k) (Memᴰ.cases_cons m)
     where
       go : (Memᴰ t r → ⊥) → (t ≡ x) ⊎ Memᴰ t r → ⊥

@@ -9,10 +9,10 @@ use native.Mathlib.Omega.{arith}
 use lib.ListN.{length}
 use Rattle.delivery.specs.Row.{pull, given}
 use Rattle.delivery.specs.Port.{Event, Join, Take, Ticket, Due, NotYet, ticket_of, waiting, frame_of}
-use Rattle.delivery.specs.Port.{gives as givesAfter}
+use Rattle.delivery.specs.Port.{gives as gives_after}
 use Rattle.delivery.specs.Calls.{after_calls, answers_of}
 use Rattle.delivery.specs.Unit.{happens, row_at, Demand3}
-use Rattle.delivery.specs.Unit.{Story as UnitStory, left_at as unitLeft, stays_on as unitStays}
+use Rattle.delivery.specs.Unit.{Story as UnitStory, left_at as unit_left, stays_on as unit_stays}
 use Rattle.delivery.specs.Product.{Product, Lawful, Fresh, Answered, book_after, happened, Came, Leaves, Story, left_at, waits_on, Gave, frame_that_leaves, nothing_waiting, Obeys}
 use Rattle.delivery.proofs.Calls.{answers_append, length_answers}
 use Rattle.delivery.proofs.Unit.{model_row, demand3}
@@ -75,7 +75,7 @@ module _ {F R M C X : Type 0} (P : Product F R M C X) (Fine : M → Type 0) (L :
 
     -- what the book answers to a take
     take_answer_lem : (js : List C)
-        → P.answer (book_after P m js) (P.take_on q) ≡ P.took (frame_of P.priority (givesAfter P.priority (happened P m q js)))
+        → P.answer (book_after P m js) (P.take_on q) ≡ P.took (frame_of P.priority (gives_after P.priority (happened P m q js)))
     take_answer_lem js = L.take_told (book_after P m js) q h ∙ rw (row_after_lem js, port_law.answers js)
 
     came : (ks : List C) (before : List (Event F)) (f : F) (after : List (Event F)) → happened P m q ks ≡ before ++ Join f ∷ after → Came P m q ks before f
@@ -93,7 +93,7 @@ module _ {F R M C X : Type 0} (P : Product F R M C X) (Fine : M → Type 0) (L :
         }
 
     -- ---- what a take gives
-    gave_if : (js : List C) (x : X) (o : Option (Ticket F)) → givesAfter P.priority (happened P m q js) ≡ o → x ≡ P.took (frame_of P.priority o)
+    gave_if : (js : List C) (x : X) (o : Option (Ticket F)) → gives_after P.priority (happened P m q js) ≡ o → x ≡ P.took (frame_of P.priority o)
         → Gave P m q js x
     gave_if js x none e a = nothing_waiting ((port_law.obeys.nothing (happened P m q js)).0 e) a
     gave_if js x (some t) e a = go (port_law.obeys.exactly (happened P m q js) t e)
@@ -108,19 +108,19 @@ module _ {F R M C X : Type 0} (P : Product F R M C X) (Fine : M → Type 0) (L :
     no_frame_lem (some t) e = let z : ◌≡◌ {A = ℕ} 0 1 = cc in absurd (omega arith)
 
     module _ (ks : List C) (xs : List X) (said : xs ≡ answers_of P.next P.answer m ks) where
-      taken : (js : List C) (x : X) → Answered ks xs js (P.take_on q) x → x ≡ P.took (frame_of P.priority (givesAfter P.priority (happened P m q js)))
+      taken : (js : List C) (x : X) → Answered ks xs js (P.take_on q) x → x ≡ P.took (frame_of P.priority (gives_after P.priority (happened P m q js)))
       taken js x a = answered P.next P.answer m said a ∙ take_answer_lem js
 
       gives : (js : List C) (x : X) → Answered ks xs js (P.take_on q) x → Gave P m q js x
-      gives js x a = gave_if js x (givesAfter P.priority (happened P m q js)) refl (taken js x a)
+      gives js x a = gave_if js x (gives_after P.priority (happened P m q js)) refl (taken js x a)
 
       nothing : (js : List C) (x : X) → Answered ks xs js (P.take_on q) x
           → (x ≡ P.took none) ↔ (waiting P.priority (happened P m q js) ≡ [])
       nothing js x a =
           let law = port_law.obeys.nothing (happened P m q js) in (
             λ e. law.0
-                (no_frame_lem (givesAfter P.priority (happened P m q js))
-                (L.nothing_told_lem (frame_of P.priority (givesAfter P.priority (happened P m q js))) (sym (taken js x a) ∙ e))),
+                (no_frame_lem (gives_after P.priority (happened P m q js))
+                (L.nothing_told_lem (frame_of P.priority (gives_after P.priority (happened P m q js))) (sym (taken js x a) ∙ e))),
             λ e. taken js x a ∙ rw (law.1 e),
           )
 
@@ -129,7 +129,7 @@ module _ {F R M C X : Type 0} (P : Product F R M C X) (Fine : M → Type 0) (L :
           → (since rest : List (Event F)) → after ≡ since ++ Take ∷ rest → happened P m q js ≡ before ++ Join f ∷ since
           → Due P.priority before f since → NotYet P.priority before f since → Story P m q ks xs before f after
       left_at_lem before f after js k ls e t since rest w j d n =
-          let own : givesAfter P.priority (happened P m q js) ≡ some (ticket_of P.priority before f) = rw j ((port_law.obeys.leaves before f since).1 (d, n)) in
+          let own : gives_after P.priority (happened P m q js) ≡ some (ticket_of P.priority before f) = rw j ((port_law.obeys.leaves before f since).1 (d, n)) in
           left_at js since rest w (record { accepted = j; due = d; first = n; itself = own })
           (stands P.next P.answer m js (P.take_on q) ls (P.took (some f)) said (e ∙ rw t) (take_answer_lem js ∙ rw own))
 
@@ -137,9 +137,9 @@ module _ {F R M C X : Type 0} (P : Product F R M C X) (Fine : M → Type 0) (L :
       leaves before f after e = go (port_law.stories ks before f after e)
         where
           go : UnitStory P.priority P.size P.rest_next P.asks P.sends q (P.rest m) ks before f after → Story P m q ks xs before f after
-          go (unitLeft js k ls c a since rest w j d n g) =
+          go (unit_left js k ls c a since rest w j d n g) =
               left_at_lem before f after js k ls c (L.asks_take (after_calls P.rest_next (P.rest m) js) k q a) since rest w j d n
-          go (unitStays n i) = waits_on n i
+          go (unit_stays n i) = waits_on n i
 
     -- what Once.antt needs
     grown : Grown P m q

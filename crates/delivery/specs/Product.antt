@@ -45,7 +45,7 @@ module _ {F R M C X : Type 0} (P : Product F R M C X) where
     pub take_told : (m : M) (q : ℕ) → q < P.ports → P.answer m (P.take_on q) ≡ P.took (given (pull P.priority (P.row m q)))
     pub nothing_told_lem : (o : Option F) → P.took o ≡ P.took none → o ≡ none
 
-  -- A book as power-on leaves it: every row is empty.
+  -- A book as power_on leaves it: every row is empty.
   pub record Fresh (Fine : M → Type 0) (m : M) : Type 0 where
     pub fine : Fine m
     pub empty : (q : ℕ) → q < P.ports → P.row m q ≡ []

@@ -16,7 +16,7 @@ use Rattle.storage.proofs.Blocks.{length_blocks}
 use Rattle.checks.specs.Checks.{first}
 use Rattle.checks.specs.Ports.{is_port, no_port}
 use Rattle.checks.proofs.Ports.{port_bounds}
-use Rattle.filter.specs.Filter.{Filter, clear, filter_of, block_size as filterLength}
+use Rattle.filter.specs.Filter.{Filter, clear, filter_of, block_size as filter_length}
 use Rattle.filter.proofs.Meaning.{counting}
 use Rattle.entries.specs.Entries.{listed}
 use Rattle.losses.specs.Losses.{most, counter_length, losses_of}
@@ -139,12 +139,12 @@ unfolding total
 total_entries [] = refl
 total_entries (f ∷ fs) = total_first (λ i. length (get_or (f ∷ fs) i clear).entries) (length fs) ∙ rw (total_entries fs)
 
-few_entries : (words : List ℕ) (start n : ℕ) → start + filterLength * n ≤ length words → entries_in (blocks_of start filterLength n filter_of words) ≤ 32 * n
+few_entries : (words : List ℕ) (start n : ℕ) → start + filter_length * n ≤ length words → entries_in (blocks_of start filter_length n filter_of words) ≤ 32 * n
 unfolding blocks_of
 few_entries words start zero h = omega arith
 few_entries words start (suc n) h =
-    let l : length (take filterLength (drop start words)) ≡ filterLength = omega (arith, length-take filterLength (drop start words), length-drop start words) in
-    omega (arith, (counting (take filterLength (drop start words)) (omega (arith, l))).small, few_entries words (start + filterLength) n (omega arith))
+    let l : length (take filter_length (drop start words)) ≡ filter_length = omega (arith, length-take filter_length (drop start words), length-drop start words) in
+    omega (arith, (counting (take filter_length (drop start words)) (omega (arith, l))).small, few_entries words (start + filter_length) n (omega arith))
 
 module _ (ports : ℕ) (words : List ℕ) (small : ports ≤ 8) (full : length words ≡ record_length ports) where
   abbrev rest : Rest
@@ -152,7 +152,7 @@ module _ (ports : ℕ) (words : List ℕ) (small : ports ≤ 8) (full : length w
 
   as_many : length rest.pairs ≡ pair_count ports
   unfolding model_of
-  as_many = length_blocks filter_of filterLength (pairs_from ports) (pair_count ports) words
+  as_many = length_blocks filter_of filter_length (pairs_from ports) (pair_count ports) words
 
   all_entries : total (entries_at rest) (pair_count ports) ≡ entries_in rest.pairs
   all_entries = sym (ap (λ n. total (entries_at rest) n) as_many) ∙ total_entries rest.pairs
@@ -163,8 +163,8 @@ module _ (ports : ℕ) (words : List ℕ) (small : ports ≤ 8) (full : length w
 
   pair_few : (i : ℕ) → i < pair_count ports → length (get_or rest.pairs i clear).entries < 65536
   pair_few i h =
-      let block = take filterLength (drop (pairs_from ports + filterLength * i) words) in
-      let l : length block ≡ filterLength = omega (arith, length-take filterLength (drop (pairs_from ports + filterLength * i) words), length-drop (pairs_from ports + filterLength * i) words) in
+      let block = take filter_length (drop (pairs_from ports + filter_length * i) words) in
+      let l : length block ≡ filter_length = omega (arith, length-take filter_length (drop (pairs_from ports + filter_length * i) words), length-drop (pairs_from ports + filter_length * i) words) in
       rw (pair_of ports words i full h) (omega (arith, (counting block (omega (arith, l))).small))
 
   few_losses : (i : ℕ) → i ≤ pair_count ports → get_or (model_of ports words).seen.losses i 0 < 65536

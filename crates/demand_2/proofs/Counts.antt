@@ -17,7 +17,7 @@ use Rattle.sorted_list.specs.SortedList.{halved}
 use Rattle.sorted_list.proofs.Ceiling.{ceiling}
 use Rattle.filter.specs.declared.Reason.{Reason}
 use Rattle.filter.specs.declared.Asked.{Asked}
-use Rattle.filter.specs.Filter.{Filter, clear, is_permanent, asked, block_size as filterLength}
+use Rattle.filter.specs.Filter.{Filter, clear, is_permanent, asked, block_size as filter_length}
 use Rattle.addresses.specs.Table.{name_at}
 use Rattle.bridge.specs.declared.FrameAnswer.{FrameAnswer}
 use Rattle.unit.specs.Ports.{total}
@@ -179,7 +179,7 @@ module _ {words bytes after : List ℕ} {port id : ℕ} {r : FrameAnswer} (F : F
 
     few : (q : ℕ) → length (pair_on words port q).sorted ≤ list_size
     unfolding model_of
-    few q = pair_few (pairs_from (ports_of words)) filterLength (pair_count (ports_of words)) words (pair_at (ports_of words) (port - 1) (q - 1))
+    few q = pair_few (pairs_from (ports_of words)) filter_length (pair_count (ports_of words)) words (pair_at (ports_of words) (port - 1) (q - 1))
 
     bounded : Ceiling words port r.compared
     bounded = record {

@@ -44,7 +44,7 @@ use Rattle.unit.proofs.Ports.{length_each}
 use Rattle.refusals.proofs.Checks.{message_goes}
 use Rattle.delivery.proofs.Calls.{every_list}
 use Rattle.made.proofs.Made.{powering}
-use Rattle.demand_3.specs.Demand3.{Made, answer, next as nextIn}
+use Rattle.demand_3.specs.Demand3.{Made, answer, next as next_in}
 use Rattle.demand_3.proofs.OneCall.{Good as Long, simulates}
 use Rattle.demand_3.proofs.Demand3.{power_on_goes}
 use Rattle.demand_2.specs.Demand2.{rest_of, Reached, reached}
@@ -212,5 +212,5 @@ stands (reached {w = w} {u = u} {name = name} {preferred = preferred} {count = c
     let p = powering P in
     let ports = count_of count in
     let good : Long (count_of count) u = (p.long ∙ power_on_goes count (length w) (λ e. done (p.answer ∙ e)), sym (own_ports ports u) ∙ ap (λ (m : Model). m.rest.own.ports) (p.state done)) in
-    let all = every_list Made (Long ports) (model_of ports) (nextIn ports) (answer ports) (simulates ports) good run in
-    standing all.good (all.moved ∙ ap (λ (m : Model). after_calls (nextIn ports) m ks) (p.state done)) (calls_all ports (record_length ports) (fresh ports name preferred) ks (fresh_all ports))
+    let all = every_list Made (Long ports) (model_of ports) (next_in ports) (answer ports) (simulates ports) good run in
+    standing all.good (all.moved ∙ ap (λ (m : Model). after_calls (next_in ports) m ks) (p.state done)) (calls_all ports (record_length ports) (fresh ports name preferred) ks (fresh_all ports))

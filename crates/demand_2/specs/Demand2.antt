@@ -6,7 +6,7 @@ use Rattle.std.specs.Prelude.{◌≡◌, ◌⊎◌, ◌↔◌, Bool, true, false
 use Rattle.identifier.specs.Identifier.{pgn_of}
 use Rattle.delivery.specs.Calls.{Run}
 use Rattle.delivery.specs.Unit.{join_all}
-use Rattle.filter.specs.Filter.{Mode, cleared, block, pass, Filter, clear, block_size as filterLength}
+use Rattle.filter.specs.Filter.{Mode, cleared, block, pass, Filter, clear, block_size as filter_length}
 use Rattle.entries.specs.Entries.{listed}
 use Rattle.queue.specs.Queue.{size}
 use Rattle.addresses.specs.declared.Place.TheVariants.{Free, Held}
@@ -142,7 +142,7 @@ resets_general payload = eqb (get_or payload 0 0) 130
 -- word n of the record lies outside the block of the pair from a to b
 abbrev pub Outside : ℕ → ℕ → ℕ → ℕ → Type 0
 Outside ports a b n =
-    (n < pairs_from ports + filterLength * pair_at ports (a - 1) (b - 1)) ⊎ (pairs_from ports + filterLength * pair_at ports (a - 1) (b - 1) + filterLength ≤ n)
+    (n < pairs_from ports + filter_length * pair_at ports (a - 1) (b - 1)) ⊎ (pairs_from ports + filter_length * pair_at ports (a - 1) (b - 1) + filter_length ≤ n)
 
 -- word n is in no block of a pair that a payload names, and is no counter that it resets
 pub record Unnamed (ports : ℕ) (payload : List ℕ) (n : ℕ) : Type 0 where

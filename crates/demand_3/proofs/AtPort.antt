@@ -18,7 +18,7 @@ use Rattle.unit.specs.PowerOn.{fresh}
 use Rattle.checks.specs.Ports.{is_port}
 use Rattle.refusals.specs.Refusals.{take_refusal}
 use Rattle.bridge.specs.Calls.{Call, FrameIn, TakeOut, Message, Start, Quiet, ReadUnit, ReadCounts, refusal, take_answer}
-use Rattle.bridge.specs.Calls.{asks as asksOf}
+use Rattle.bridge.specs.Calls.{asks as asks_of}
 use Rattle.refusals.proofs.Checks.{take_goes}
 use Rattle.demand_3.specs.Demand3.{ToTake, words, answer, goes, asks, bridge}
 use Rattle.demand_3.proofs.Moves.{rest_moves, queues_stay, row_moves}
@@ -38,7 +38,7 @@ module _ (ports : ℕ) where
   none_asks false q e = clash q e
 
   asks_take : (rest : Rest) (k : Call) (q : ℕ) → asks ports rest k ≡ some q → k ≡ TakeOut (suc q)
-  unfolding asks asksOf refusal
+  unfolding asks asks_of refusal
   asks_take rest (FrameIn port id bytes) q e = absurd (none_asks (goes ports rest (FrameIn port id bytes)) q e)
   asks_take rest (TakeOut port) q e = go (goes ports rest (TakeOut port)) refl e
     where
@@ -56,7 +56,7 @@ module _ (ports : ℕ) where
 
   -- and it asks
   take_asks : (rest : Rest) (q : ℕ) → q < ports → asks ports rest (TakeOut (suc q)) ≡ some q
-  unfolding asks asksOf refusal
+  unfolding asks asks_of refusal
   take_asks rest q h = let e : suc q - 1 ≡ q = omega arith in rw (take_goes_at q h, e)
 
   -- what the book answers to it

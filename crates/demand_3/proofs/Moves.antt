@@ -11,14 +11,14 @@ use Rattle.queue.specs.Queue.{size, priority, Queued, queue_next, idle}
 use Rattle.queue.proofs.Rows.{row_next_lem}
 use Rattle.unit.specs.Model.{Rest, Model, queue_on, row_at}
 use Rattle.bridge.specs.Calls.{Call, FrameIn, TakeOut, Message, Start, Quiet, ReadUnit, ReadCounts, rest_after, performed}
-use Rattle.bridge.specs.Calls.{next as next_of, asks as asksOf, sends as sendsOf}
+use Rattle.bridge.specs.Calls.{next as next_of, asks as asks_of, sends as sends_of}
 use Rattle.unit.proofs.Ports.{each_at, length_each}
 use Rattle.demand_3.specs.Demand3.{words, next, goes, rest_next, asks, forwarded, forwards, announced, announces, sends}
 
 module _ (ports : ℕ) where
   -- what is sent is the forwarded frame and the unit's own
-  sends_is : (rest : Rest) (k : Call) (q : ℕ) → sendsOf ports rest k q ≡ forwarded ports rest k q ++ announced ports rest k
-  unfolding sendsOf
+  sends_is : (rest : Rest) (k : Call) (q : ℕ) → sends_of ports rest k q ≡ forwarded ports rest k q ++ announced ports rest k
+  unfolding sends_of
   sends_is rest (FrameIn port id bytes) q = refl
   sends_is rest (TakeOut port) q = refl
   sends_is rest (Message port requester payload lentReply) q = refl
@@ -41,7 +41,7 @@ module _ (ports : ℕ) where
     queues_stay four = go (goes ports m.rest k)
       where
         go : (b : Bool) → length (cond b (performed ports (words ports) m k) m).queues ≡ ports
-        go true = length_each (λ q x. queue_next (asksOf k) q x (sendsOf ports m.rest k q)) ports m.queues ∙ four
+        go true = length_each (λ q x. queue_next (asks_of k) q x (sends_of ports m.rest k q)) ports m.queues ∙ four
         go false = four
 
     -- a port's queue, what is counted there too
@@ -51,10 +51,10 @@ module _ (ports : ℕ) where
     queue_moves q h four = go (goes ports m.rest k)
       where
         go : (b : Bool) → queue_on (cond b (performed ports (words ports) m k) m) q
-            ≡ queue_next (cond b (asksOf k) none) q (queue_on m q) (cond b (forwarded ports m.rest k q) [] ++ cond b (announced ports m.rest k) [])
+            ≡ queue_next (cond b (asks_of k) none) q (queue_on m q) (cond b (forwarded ports m.rest k q) [] ++ cond b (announced ports m.rest k) [])
         go true =
             rw (← (sends_is m.rest k q))
-            (each_at (λ q x. queue_next (asksOf k) q x (sendsOf ports m.rest k q)) ports m.queues q idle h (omega arith))
+            (each_at (λ q x. queue_next (asks_of k) q x (sends_of ports m.rest k q)) ports m.queues q idle h (omega arith))
         go false = refl
 
     pub row_moves : (q : ℕ) → q < ports → length m.queues ≡ ports

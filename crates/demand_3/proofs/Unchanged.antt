@@ -38,7 +38,7 @@ module _ (ports : ℕ) where
     keeps : a.rest.own.name ≡ name
 
   none_sent : {own : Unit} (k : Call) (f : Frame) → Memᴰ f [] → AsHandedIn own k f
-  none_sent k f m = absurd (Memᴰ.not_nil m)
+  none_sent k f m = absurd (Memᴰ.not-nil m)
 
   either : (name : ℕ) (b : Bool) {x y : Acted} → Ours name x → Ours name y → Ours name (cond b x y)
   either name true p q = p
@@ -46,7 +46,7 @@ module _ (ports : ℕ) where
 
   module _ (rest : Rest) where
     silent : (a : Acted) → a.sent ≡ Sent.Nothing → a.rest.own.name ≡ rest.own.name → Ours rest.own.name a
-    silent a s n = record { frame = λ k f m. absurd (Memᴰ.not_nil (rw s at m)); keeps = n }
+    silent a s n = record { frame = λ k f m. absurd (Memᴰ.not-nil (rw s at m)); keeps = n }
 
     request_ours : (e : Event) (c : Claim) → Ours rest.own.name (record { rest = rest; event = e; sent = request_answer rest.own c })
     request_ours e Unstarted = record { frame = λ k f m. none_sent k f m; keeps = refl }

@@ -37,7 +37,7 @@ use Rattle.claims.specs.Claims.{started}
 use Rattle.bridge.specs.Calls.{Call, FrameIn, TakeOut, Message, Start, Quiet, ReadUnit, ReadCounts, refusal, rest_after, frame_done, frame_answer, take_answer, take_number, start_answer, unit_answer, read_number, counts_answer}
 use Rattle.message_answers.specs.Messages.{message_answer}
 use Rattle.unit.specs.PowerOn.{fresh}
-use Rattle.bridge.specs.Calls.{next as next_of, asks as asksOf}
+use Rattle.bridge.specs.Calls.{next as next_of, asks as asks_of}
 use Rattle.made.specs.Made as made
 
 -- ---- 1. the calls
@@ -107,7 +107,7 @@ module _ (ports : ℕ) where
 
   -- "Takes on that port alone are counted, refused ones not": the port of a take that isn't refused.
   unfoldable pub asks : Rest → Call → Option ℕ
-  asks rest k = cond (goes rest k) (asksOf k) none
+  asks rest k = cond (goes rest k) (asks_of k) none
 
   -- Rules 1 and 2: the frame, as it was handed in, that is sent to port q.
   abbrev pub forwarded : Rest → Call → ℕ → List Frame

@@ -9,7 +9,7 @@ use native.Mathlib.Omega.{arith}
 use borrow.Author.Tests.{eq-eqb, ne_eqb, lt-ltb, le-ltb}
 use lib.Seq.{set-get_or}
 use Rattle.filter.specs.declared.Asked.{Asked}
-use Rattle.filter.specs.Filter.{Filter, crosses, reason_number, block_size as filterLength}
+use Rattle.filter.specs.Filter.{Filter, crosses, reason_number, block_size as filter_length}
 use Rattle.sorted_list.specs.SortedList.{most_probes}
 use Rattle.name_entries.specs.NameEntries.{most_names}
 use Rattle.queue.specs.declared.Frame.{Frame}
@@ -117,7 +117,7 @@ module _ {ports p at n : ℕ} (port : p < ports) (L : Standing ports p at n) whe
   stand_self e = inr (omega arith, ⊎_elim (λ l. omega (arith, l.1)) (λ l. omega (arith, l.0)) L)
 
   module _ (other : p ≡ n → ⊥) where
-    pub stand_pair : at ≡ pairs_from ports + filterLength * pair_at ports p n
+    pub stand_pair : at ≡ pairs_from ports + filter_length * pair_at ports p n
     stand_pair =
         ⊎_elim
         (λ l. let near : n < p = omega (arith, l.0) in rw (lt-ltb n p near) l.1)
@@ -131,7 +131,7 @@ module _ {ports p at n : ℕ} (port : p < ports) (L : Standing ports p at n) whe
         (λ l. let far : p ≤ n = omega (arith, l.0) in rw (le-ltb n p far) (pair_below {ports = ports} {p = p} {k = n - 1} port (omega (arith, l.0))))
         L
 
-    pub stand_next : Standing ports p (at + filterLength) (n + 1)
+    pub stand_next : Standing ports p (at + filter_length) (n + 1)
     stand_next = ⊎_elim (λ l. inl (omega (arith, l.0), omega (arith, l.1))) (λ l. inr (omega (arith, l.0), omega (arith, l.1))) L
 
 -- the unit's own frame

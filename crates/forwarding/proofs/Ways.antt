@@ -6,7 +6,7 @@ use Prim.Native.Nat.{ℕ, ◌+◌, ◌-◌, ◌*◌, ◌^◌, ◌≤◌, ◌<◌
 use native.Mathlib.Omega.{arith}
 use lib.ListN.{length}
 use Rattle.filter.specs.declared.Asked.{Asked}
-use Rattle.filter.specs.Filter.{block_size as filterLength}
+use Rattle.filter.specs.Filter.{block_size as filter_length}
 use Rattle.identifier.specs.Identifier.{sa_of}
 use Rattle.queue.specs.declared.Frame.{Frame}
 use Rattle.unit.specs.Model.{Rest, model_of, pairs_from, record_length}
@@ -47,7 +47,7 @@ module _ {ports : ℕ} {start : List ℕ} {p pgn : ℕ} {f : Frame} (few : ports
     standing = L;
   }
 
-  pub gone_start : {at : ℕ} → length start ≡ record_length ports → at ≡ pairs_from ports + filterLength * ((ports - 1) * p)
+  pub gone_start : {at : ℕ} → length start ≡ record_length ports → at ≡ pairs_from ports + filter_length * ((ports - 1) * p)
       → Gone ports start start p pgn f (record { accepted = 0; lost = 0; reasons = 0; compared = 0; bit = 1; weight = 1; at = at; to = 0 })
   gone_start {at} long e =
       gone (record { accepted = 0; lost = 0; reasons = 0; compared = 0; bit = 1; weight = 1; at = at; to = 0 }) (going_start few long) (inl (omega arith, omega arith))
@@ -67,7 +67,7 @@ module _ {ports : ℕ} {start : List ℕ} {p pgn : ℕ} {f : Frame} (few : ports
 
     module _ (other : p ≡ way.to → ⊥) where
       -- the pair's filter lies in the record
-      pub pair_in_lem : way.at + filterLength ≤ length words
+      pub pair_in_lem : way.at + filter_length ≤ length words
       pair_in_lem = omega (arith, G.whole, stand_pair port G.standing other, stand_count port G.standing other more)
 
       module _ {after : List ℕ} {s : Offered} (S : SendingAt words after way.at way.to pgn f s) where

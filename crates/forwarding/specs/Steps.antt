@@ -3,7 +3,7 @@
 use Rattle.std.specs.Prelude.{ℕ, ◌+◌, ◌-◌, ◌*◌, ◌^◌, ◌≤◌, ◌<◌, Bool, true, false, cond, ◌⊎◌, ◌≡◌, List, [], ◌∷◌, length}
 use Rattle.delivery.specs.Row.{room}
 use Rattle.filter.specs.declared.Asked.{Asked}
-use Rattle.filter.specs.Filter.{crosses, reason_number, block_size as filterLength}
+use Rattle.filter.specs.Filter.{crosses, reason_number, block_size as filter_length}
 use Rattle.sorted_list.specs.SortedList.{most_probes}
 use Rattle.name_entries.specs.NameEntries.{most_names}
 use Rattle.identifier.specs.Identifier.{sa_of}
@@ -67,13 +67,13 @@ pub record Sending (ports : ℕ) (before after : List ℕ) (v : Asked) (q : ℕ)
 -- from any other port, by the pair whose filter begins at a word, whatever the number of ports
 abbrev pub SendingAt : (before after : List ℕ) (at q pgn : ℕ) (f : Frame) (r : Offered) → Type 0
 SendingAt before after at q pgn f r =
-    (ports p : ℕ) → q < ports → (p ≡ q → ⊥) → pair_at ports p q < pair_count ports → at ≡ pairs_from ports + filterLength * pair_at ports p q
+    (ports p : ℕ) → q < ports → (p ≡ q → ⊥) → pair_at ports p q < pair_count ports → at ≡ pairs_from ports + filter_length * pair_at ports p q
     → Sending ports before after (verdict ports (model_of ports before).rest p pgn (sa_of f.id) q) q f r
 
 -- where the filter begins that port p's frame meets next, before port n: port p itself has none
 abbrev pub Standing : ℕ → ℕ → ℕ → ℕ → Type 0
 Standing ports p at n =
-    ((n ≤ p) × (at ≡ pairs_from ports + filterLength * ((ports - 1) * p + n))) ⊎ ((p < n) × (at + filterLength ≡ pairs_from ports + filterLength * ((ports - 1) * p + n)))
+    ((n ≤ p) × (at ≡ pairs_from ports + filter_length * ((ports - 1) * p + n))) ⊎ ((p < n) × (at + filter_length ≡ pairs_from ports + filter_length * ((ports - 1) * p + n)))
 
 -- what came of a frame at the port where it is, and at its own; and what it is told by then
 unfoldable pub way_after : Way → Offered → Way
@@ -84,7 +84,7 @@ way_after way s = record {
   compared = way.compared + s.compared;
   bit = 2 * way.bit;
   weight = 16 * way.weight;
-  at = way.at + filterLength;
+  at = way.at + filter_length;
   to = way.to + 1;
 }
 

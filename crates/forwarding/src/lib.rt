@@ -2,11 +2,11 @@
 #![tactic(auto)]
 
 ghost use Rattle.std.specs.Prelude.{◌≡◌, false, List, ℕ, ◌+◌, ◌*◌, ◌^◌, ◌≤◌, ◌<◌, length, get_or};
-ghost use Rattle.filter.specs.Filter.{block_size as filterLength};
+ghost use Rattle.filter.specs.Filter.{block_size as filter_length};
 ghost use Rattle.sorted_list.specs.SortedList.{most_probes};
 ghost use Rattle.name_entries.specs.NameEntries.{most_names};
 ghost use Rattle.identifier.specs.Identifier.{sa_of};
-ghost use Rattle.queue.specs.Queue.{block_length as queueLength};
+ghost use Rattle.queue.specs.Queue.{block_length as queue_length};
 ghost use Rattle.unit.specs.Ports.{bit_at};
 ghost use Rattle.unit.specs.Model.{model_of, record_length, rows_from};
 ghost use Rattle.forwarding.specs.Forwarding.{verdict};
@@ -68,7 +68,7 @@ struct Offered {
 
 // What a pair answered is done at the port that it leads to: the frame joins where it may cross.
 fn carry(words: &mut [u64], to: usize, v: Asked, f: Frame) -> Offered
-    requires { (rows_from + queueLength * to + queueLength ≤ length words.old) × (v.compared ≤ most_probes + most_names) }
+    requires { (rows_from + queue_length * to + queue_length ≤ length words.old) × (v.compared ≤ most_probes + most_names) }
     ensures { (ports : ℕ) → to < ports → Sending ports words.old words.new v to f result }
 {
     let why = v.reason;
@@ -98,7 +98,7 @@ fn carry(words: &mut [u64], to: usize, v: Asked, f: Frame) -> Offered
 
 // A frame from one port at another: the pair, whose filter begins at a word, is asked, and the frame joins where it is permitted.
 fn send(words: &mut [u64], at: usize, to: usize, pgn: u32, f: Frame) -> Offered
-    requires { (at + filterLength ≤ length words.old) × (rows_from + queueLength * to + queueLength ≤ length words.old) }
+    requires { (at + filter_length ≤ length words.old) × (rows_from + queue_length * to + queue_length ≤ length words.old) }
     ensures { SendingAt words.old words.new at to pgn f result }
 {
     let v = record::ask_filter(words, at, pgn, identifier::sa(f.id));
@@ -107,7 +107,7 @@ fn send(words: &mut [u64], at: usize, to: usize, pgn: u32, f: Frame) -> Offered
 
 // The same by a pair that has no NAME entries, so that nobody asks who sent the frame.
 fn send_by_list(words: &mut [u64], at: usize, to: usize, pgn: u32, f: Frame) -> Offered
-    requires { (at + filterLength ≤ length words.old) × (rows_from + queueLength * to + queueLength ≤ length words.old) × (get_or words.old at 0 < 3) }
+    requires { (at + filter_length ≤ length words.old) × (rows_from + queue_length * to + queue_length ≤ length words.old) × (get_or words.old at 0 < 3) }
     ensures { SendingAt words.old words.new at to pgn f result }
 {
     let v = record::ask_plain(words, at, pgn);

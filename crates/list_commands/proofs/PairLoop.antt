@@ -22,14 +22,14 @@ use Rattle.record.specs.Steps.{PairChanging}
 use Rattle.list_commands.specs.Steps.{Naming, PairsChanging, Commanding}
 use Rattle.unit.proofs.Count.{row_below, pair_below}
 use Rattle.unit.proofs.Ports.{each_later, each_step}
-use Rattle.filter.specs.Filter.{block_size as filterLength}
+use Rattle.filter.specs.Filter.{block_size as filter_length}
 
 abbrev pub pairs_in : ℕ → List ℕ → List Filter
 pairs_in ports words = (model_of ports words).rest.pairs
 
 pub pairs_long : (ports : ℕ) (words : List ℕ) → length (pairs_in ports words) ≡ pair_count ports
 unfolding model_of
-pairs_long ports words = length_blocks filter_of filterLength (pairs_from ports) (pair_count ports) words
+pairs_long ports words = length_blocks filter_of filter_length (pairs_from ports) (pair_count ports) words
 
 -- ---- which pairs are named
 named_lower : (from to k : ℕ) → (to ≡ 15 → ⊥) → k < from - 1 → names from to k ≡ eqb to (k + 1)

@@ -1,7 +1,7 @@
 -- docs/RULES.md, "Network messages": which pairs a command names, what it is refused with by the lists, and what it does to them.
 -- Assumes nothing.
 use Rattle.std.specs.Prelude.{ℕ, zero, suc, ◌+◌, ◌-◌, ◌*◌, ◌≤◌, ◌<◌, Bool, true, false, ◌&&◌, ◌||◌, cond, ◌⊎◌, ◌≡◌, List, [], ◌∷◌, ◌++◌, take, drop, get_or, ltb, eqb}
-use Rattle.filter.specs.Filter.{Filter, clear, block_size as filterLength}
+use Rattle.filter.specs.Filter.{Filter, clear, block_size as filter_length}
 use Rattle.entries.specs.Entries.{listed, leading}
 use Rattle.checks.specs.Checks.{Check, check, first}
 use Rattle.checks.specs.Ports.{is_port}
@@ -47,7 +47,7 @@ change_at change from to k f = cond (names from to k) (change f) f
 -- word n of the record lies outside the blocks of the pairs that are named
 abbrev pub Beside : ℕ → ℕ → ℕ → ℕ → Type 0
 Beside ports from to n = (k : ℕ) → k < ports - 1 → names from to k ≡ true
-    → (n < pairs_from ports + filterLength * (first_pair ports from + k)) ⊎ (pairs_from ports + filterLength * (first_pair ports from + k) + filterLength ≤ n)
+    → (n < pairs_from ports + filter_length * (first_pair ports from + k)) ⊎ (pairs_from ports + filter_length * (first_pair ports from + k) + filter_length ≤ n)
 
 -- whether a test holds of one of the first n pairs from that port that is named
 unfoldable pub any_named : ℕ → ℕ → (Filter → Bool) → ℕ → ℕ → List Filter → Bool

@@ -13,8 +13,8 @@ use Rattle.storage.proofs.Blocks.{blocks_within}
 use Rattle.name_entries.specs.NameEntries.{NameEntry, names_length}
 use Rattle.pgn_list.specs.PgnList.{list_size}
 use Rattle.filter.specs.Filter.{meant, filter_of, list_place, names_place}
-use Rattle.filter.specs.Filter.{block_size as filterLength}
-use Rattle.queue.specs.Queue.{queue_of, block_length as queueLength}
+use Rattle.filter.specs.Filter.{block_size as filter_length}
+use Rattle.queue.specs.Queue.{queue_of, block_length as queue_length}
 use Rattle.losses.specs.Losses.{counter_length, losses_of}
 use Rattle.addresses.specs.Table.{table_length, table_of}
 use Rattle.unit.specs.Count.{ports_of, pair_count}
@@ -132,7 +132,7 @@ forget_meant (suc (suc zero)) es ns ss = refl
 forget_meant (suc (suc (suc zero))) es ns ss = refl
 forget_meant (suc (suc (suc (suc m)))) es ns ss = refl
 
-block_cut : (xs : List ℕ) → old_filter_of (take old_block xs) ≡ forget (filter_of (take filterLength xs))
+block_cut : (xs : List ℕ) → old_filter_of (take old_block xs) ≡ forget (filter_of (take filter_length xs))
 unfolding old_filter_of filter_of
 block_cut xs =
     rw (
@@ -140,22 +140,22 @@ block_cut xs =
       get_or-take old_block xs 1 0 (omega arith),
       within list_place list_size old_block xs (omega arith),
       within names_place names_length old_block xs (omega arith),
-      get_or-take filterLength xs 0 0 (omega arith),
-      get_or-take filterLength xs 1 0 (omega arith),
-      within list_place list_size filterLength xs (omega arith),
-      within names_place names_length filterLength xs (omega arith),
+      get_or-take filter_length xs 0 0 (omega arith),
+      get_or-take filter_length xs 1 0 (omega arith),
+      within list_place list_size filter_length xs (omega arith),
+      within names_place names_length filter_length xs (omega arith),
     )
     (forget_meant (get_or xs 0 0) _ _ _)
 
 -- ---- the record
 pub shrink : ℕ → List ℕ → List ℕ
-shrink ports words = take (pairs_from ports) words ++ cut old_block filterLength (pair_count ports) (drop (pairs_from ports) words)
+shrink ports words = take (pairs_from ports) words ++ cut old_block filter_length (pair_count ports) (drop (pairs_from ports) words)
 
 module _ (ports : ℕ) (words : List ℕ) (long : length words ≡ record_length ports) where
   fits : pairs_from ports ≤ length words
   fits = omega arith
 
-  pairs_in_lem : filterLength * pair_count ports ≤ length (drop (pairs_from ports) words)
+  pairs_in_lem : filter_length * pair_count ports ≤ length (drop (pairs_from ports) words)
   pairs_in_lem = omega (arith, length-drop (pairs_from ports) words)
 
   pub length_shrunk : length (shrink ports words) ≡ old_length ports
@@ -164,9 +164,9 @@ module _ (ports : ℕ) (words : List ℕ) (long : length words ≡ record_length
       let tail = drop (pairs_from ports) words in
       omega (
         arith,
-        length-append (take (pairs_from ports) words) (cut old_block filterLength (pair_count ports) tail),
+        length-append (take (pairs_from ports) words) (cut old_block filter_length (pair_count ports) tail),
         length-take-le (pairs_from ports) words fits,
-        length_cut old_block filterLength (omega arith) (pair_count ports) tail pairs_in_lem,
+        length_cut old_block filter_length (omega arith) (pair_count ports) tail pairs_in_lem,
         length-drop (pairs_from ports) words,
       )
 
@@ -181,24 +181,24 @@ module _ (ports : ℕ) (words : List ℕ) (long : length words ≡ record_length
   unfolding shrink
   table_same = front (pairs_from ports) words _ fits table_from table_length (omega arith)
 
-  queues_same : blocks_of rows_from queueLength ports queue_of (shrink ports words)
-      ≡ blocks_of rows_from queueLength ports queue_of words
+  queues_same : blocks_of rows_from queue_length ports queue_of (shrink ports words)
+      ≡ blocks_of rows_from queue_length ports queue_of words
   unfolding shrink
-  queues_same = blocks_front (pairs_from ports) words _ fits queue_of queueLength rows_from ports (omega arith)
+  queues_same = blocks_front (pairs_from ports) words _ fits queue_of queue_length rows_from ports (omega arith)
 
   tail_there : drop (pairs_from ports) (shrink ports words)
-      ≡ cut old_block filterLength (pair_count ports) (drop (pairs_from ports) words)
+      ≡ cut old_block filter_length (pair_count ports) (drop (pairs_from ports) words)
   unfolding shrink
   tail_there = behind (pairs_from ports) words _ fits
 
   pairs_same : blocks_of (pairs_from ports) old_block (pair_count ports) old_filter_of (shrink ports words)
-      ≡ map forget (blocks_of (pairs_from ports) filterLength (pair_count ports) filter_of words)
+      ≡ map forget (blocks_of (pairs_from ports) filter_length (pair_count ports) filter_of words)
   pairs_same =
       blocks_there old_filter_of old_block (pairs_from ports) (pair_count ports) (shrink ports words)
       ∙ ap (blocks_of 0 old_block (pair_count ports) old_filter_of) tail_there
-      ∙ blocks_cut old_block filterLength (omega arith) filter_of old_filter_of forget block_cut (pair_count ports)
+      ∙ blocks_cut old_block filter_length (omega arith) filter_of old_filter_of forget block_cut (pair_count ports)
       (drop (pairs_from ports) words) pairs_in_lem
-      ∙ ap (map forget) (sym (blocks_there filter_of filterLength (pairs_from ports) (pair_count ports) words))
+      ∙ ap (map forget) (sym (blocks_there filter_of filter_length (pairs_from ports) (pair_count ports) words))
 
   losses_same : blocks_of (old_losses_from ports) counter_length (pair_count ports + 1) losses_of (shrink ports words)
       ≡ blocks_of (losses_from ports) counter_length (pair_count ports + 1) losses_of words
@@ -208,8 +208,8 @@ module _ (ports : ℕ) (words : List ℕ) (long : length words ≡ record_length
       ∙ ap (blocks_of 0 counter_length (n + 1) losses_of)
       (sym (drop-drop (old_block * n) (pairs_from ports) (shrink ports words))
       ∙ ap (drop (old_block * n)) tail_there
-      ∙ behind_cut old_block filterLength (omega arith) n (drop (pairs_from ports) words) pairs_in_lem
-      ∙ drop-drop (filterLength * n) (pairs_from ports) words)
+      ∙ behind_cut old_block filter_length (omega arith) n (drop (pairs_from ports) words) pairs_in_lem
+      ∙ drop-drop (filter_length * n) (pairs_from ports) words)
       ∙ sym (blocks_there losses_of counter_length (losses_from ports) (n + 1) words)
 
   pub model_shrunk : old_model_of ports (shrink ports words) ≡ forgotten (model_of ports words)

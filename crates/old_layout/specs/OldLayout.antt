@@ -25,7 +25,7 @@ use Rattle.network_message.specs.declared.Command.TheVariants.{Parameter, Reset,
 use Rattle.network_message.specs.Decoding.{between, decoded}
 use Rattle.list_commands.specs.Commands.{change_named, list_refusal}
 use Rattle.queue.specs.declared.Frame.{Frame}
-use Rattle.queue.specs.Queue.{size, queue_of, queue_next, block_length as queueLength}
+use Rattle.queue.specs.Queue.{size, queue_of, queue_next, block_length as queue_length}
 use Rattle.losses.specs.Losses.{counter_length, losses_of}
 use Rattle.addresses.specs.Table.{table_length, table_of, name_at}
 use Rattle.unit.specs.Count.{count_of, ports_of, pair_count}
@@ -66,7 +66,7 @@ old_model_of ports words = record {
     pairs = blocks_of (pairs_from ports) old_block (pair_count ports) old_filter_of words;
     table = table_of (take table_length (drop table_from words));
   };
-  queues = blocks_of rows_from queueLength ports queue_of words;
+  queues = blocks_of rows_from queue_length ports queue_of words;
   seen = record { losses = blocks_of (old_losses_from ports) counter_length (pair_count ports + 1) losses_of words };
 }
 

@@ -9,7 +9,7 @@ use native.Mathlib.Omega.{arith}
 use borrow.Author.Tests.{eqb-true, eq-eqb}
 use lib.ListN.{length}
 use lib.Dec.{eqb}
-use Rattle.plan_shape.specs.Plan.{Plan, Crossing, most_segments, most_units, port_count}
+use Rattle.plan_shape.specs.Plan.{Plan, Crossing, most_segments, most_units, port_count, onward}
 use Rattle.plan_rings.specs.Rings.{unit_node, nodes, label, Fresh, Relabeled}
 use Rattle.plan_rings.proofs.PathsIn.{segment_of, unit_of, enter_link, leave_link, between, JoinsIn, PathIn, Conn, path_end, path_head, path_tail, conn_none, conn_more, conn_trans, conn_one, conn_sym}
 
@@ -198,4 +198,4 @@ label_path {plan} {labels = labels} (c ∷ cs) B P =
     let ul : unit_of (leave_link c) ≡ c.unit = omega arith in
     let enters : label labels (segment_of plan (enter_link c)) ≡ label labels (unit_node c.unit) = rw ue at (B.same (enter_link c) head.enters (rw head.joins.from head.joins.segment)) in
     let leaves : label labels (segment_of plan (leave_link c)) ≡ label labels (unit_node c.unit) = rw ul at (B.same (leave_link c) head.leaves head.joins.used) in
-    ap (label labels) (sym head.joins.from) ∙ enters ∙ sym leaves ∙ label_path cs B (path_tail P)
+    ap (label labels) (sym head.joins.from) ∙ enters ∙ sym leaves ∙ label_path {s = onward plan c} cs B (path_tail P)

@@ -118,9 +118,9 @@ record After (plan : Plan) (k unit t : ℕ) : Type 0 where
 -- a unit is not on a path, or the path has a part after it
 after_unit : {plan : Plan} {k s : ℕ} (unit : ℕ) (cs : List Crossing) {t : ℕ} → PathIn plan k s cs t → Unused unit cs ⊎ After plan k unit t
 after_unit unit [] P = inl (unused_none unit)
-after_unit unit (c ∷ cs) P = elim (ℕ_discrete c.unit unit) [
+after_unit {plan = plan} {s = s} unit (c ∷ cs) P = elim (ℕ_discrete c.unit unit) [
   | yes e ↦ inr (record { crossing = c; rest = cs; is = e; joins = rw (← (path_head P).joins.from) at (path_head P); path = path_tail P; free = rw e at (path_unused P) })
-  | no ne ↦ ⊎_elim (λ u. inl (unused_one unit c cs ne u)) inr (after_unit unit cs (path_tail P))
+  | no ne ↦ ⊎_elim (λ u. inl (unused_one unit c cs ne u)) inr (after_unit {s = onward plan c} unit cs (path_tail P))
 ]
 
 -- a crossing, and then a path
@@ -152,7 +152,7 @@ conn_cons {plan} {k} {s} {t} c J C =
 
 conn_then : {plan : Plan} {k s m t : ℕ} (cs : List Crossing) → PathIn plan k s cs m → Conn plan k m t → Conn plan k s t
 conn_then [] P C = rw (path_end P) C
-conn_then (c ∷ cs) P C = conn_cons c (path_head P) (conn_then cs (path_tail P) C)
+conn_then {plan = plan} {s = s} (c ∷ cs) P C = conn_cons c (path_head P) (conn_then {s = onward plan c} cs (path_tail P) C)
 
 pub conn_trans : {plan : Plan} {k s m t : ℕ} → Conn plan k s m → Conn plan k m t → Conn plan k s t
 conn_trans B C = conn_then B.crossings B.path C
@@ -179,7 +179,7 @@ turned c J = conn_one (record { unit = c.unit; enter = c.leave; leave = c.enter 
 
 conn_back : {plan : Plan} {k s t : ℕ} (cs : List Crossing) → PathIn plan k s cs t → Conn plan k t s
 conn_back [] P = conn_none (sym (path_end P))
-conn_back (c ∷ cs) P = conn_trans (conn_back cs (path_tail P)) (turned c (path_head P))
+conn_back {plan = plan} {s = s} (c ∷ cs) P = conn_trans (conn_back {s = onward plan c} cs (path_tail P)) (turned c (path_head P))
 
 pub conn_sym : {plan : Plan} {k s t : ℕ} → Conn plan k s t → Conn plan k t s
 conn_sym C = conn_back C.crossings C.path
@@ -197,7 +197,7 @@ pub record UpTo (plan : Plan) (k unit s : ℕ) (through : List Crossing) : Type 
 
 pub up_to : {plan : Plan} {k s : ℕ} (unit : ℕ) (cs : List Crossing) {t : ℕ} → PathIn plan k s cs t → Unused unit cs ⊎ UpTo plan k unit s cs
 up_to unit [] P = inl (unused_none unit)
-up_to {plan} {k} {s} unit (c ∷ cs) P = go (up_to unit cs (path_tail P)) (ℕ_discrete c.unit unit)
+up_to {plan} {k} {s} unit (c ∷ cs) P = go (up_to {s = onward plan c} unit cs (path_tail P)) (ℕ_discrete c.unit unit)
   where
     go : Unused unit cs ⊎ UpTo plan k unit (onward plan c) cs → Dec (c.unit ≡ unit) → Unused unit (c ∷ cs) ⊎ UpTo plan k unit s (c ∷ cs)
     go later (yes e) =

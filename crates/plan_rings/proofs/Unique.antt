@@ -28,8 +28,8 @@ unused_then unit (a ∷ xs) c u ne = unused_one unit a (xs ++ (c ∷ [])) (unuse
 
 path_then : {plan : Plan} {k s m : ℕ} (xs : List Crossing) (c : Crossing) → PathIn plan k s xs m → JoinsIn plan k m c (onward plan c) → Unused c.unit xs → PathIn plan k s (xs ++ (c ∷ [])) (onward plan c)
 path_then [] c P K u = path_cons (rw (path_end P) K) (unused_none c.unit) (path_none refl)
-path_then (a ∷ xs) c P K u =
-    path_cons (path_head P) (unused_then a.unit xs c (path_unused P) (λ e. unused_head c.unit a xs u (sym e))) (path_then xs c (path_tail P) K (unused_tail c.unit a xs u))
+path_then {plan = plan} {s = s} (a ∷ xs) c P K u =
+    path_cons (path_head P) (unused_then a.unit xs c (path_unused P) (λ e. unused_head c.unit a xs u (sym e))) (path_then {s = onward plan a} xs c (path_tail P) K (unused_tail c.unit a xs u))
 
 same_crossing : (c d : Crossing) → c.unit ≡ d.unit → c.enter ≡ d.enter → c.leave ≡ d.leave → c ≡ d
 same_crossing c d u e l =
@@ -41,13 +41,13 @@ same_crossing c d u e l =
 -- a path off a unit does not use the unit's link
 off_unit : {plan : Plan} {k s t : ℕ} (cs : List Crossing) → Unused (unit_of k) cs → PathIn plan (k + 1) s cs t → PathIn plan k s cs t
 off_unit [] u P = path_none (path_end P)
-off_unit {k = k} (c ∷ cs) u P =
+off_unit {plan = plan} {k = k} {s = s} (c ∷ cs) u P =
     let head = path_head P in
     let other = unused_head (unit_of k) c cs u in
     let in-unit = head.joins.entered in
     let in-unit2 = head.joins.left in
     path_cons (record { joins = head.joins; enters = under (enter_link c) head.enters (λ e. other (omega arith)); leaves = under (leave_link c) head.leaves (λ e. other (omega arith)) })
-    (path_unused P) (off_unit cs (unused_tail (unit_of k) c cs u) (path_tail P))
+    (path_unused P) (off_unit {s = onward plan c} cs (unused_tail (unit_of k) c cs u) (path_tail P))
   where
     under : (i : ℕ) → i < k + 1 → (i ≡ k → ⊥) → i < k
     under i h ne = elim (ℕ_discrete i k) [ yes e ↦ absurd (ne e) | no n ↦ omega arith ]
@@ -68,7 +68,7 @@ record Through (plan : Plan) (k s : ℕ) (cs : List Crossing) (t : ℕ) : Type 0
 
 split : {plan : Plan} {k s t : ℕ} (cs : List Crossing) → PathIn plan (k + 1) s cs t → PathIn plan k s cs t ⊎ Through plan k s cs t
 split [] P = inl (path_none (path_end P))
-split {plan} {k} {s} {t} (c ∷ cs) P = go (split cs (path_tail P)) (ℕ_discrete (enter_link c) k) (ℕ_discrete (leave_link c) k)
+split {plan} {k} {s} {t} (c ∷ cs) P = go (split {s = onward plan c} cs (path_tail P)) (ℕ_discrete (enter_link c) k) (ℕ_discrete (leave_link c) k)
   where
     head : JoinsIn plan (k + 1) s c (onward plan c)
     head = path_head P

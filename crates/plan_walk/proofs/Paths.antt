@@ -1,5 +1,5 @@
 -- What a walk from unmarked marks reaches is what hears: no unit twice is what the marks say, and a path that comes to a segment twice has a shorter one. Assumes nothing.
-use mathlib.Core.Path.{◌≡◌, refl, sym, ap, ◌∙◌}
+use mathlib.Core.Path.{◌≡◌, refl, sym, ap, ◌∙◌, subst}
 use mathlib.Core.Logic.{◌⊎◌, inl, inr, ⊎_elim, ◌↔◌}
 use mathlib.Core.List.{List, [], ◌∷◌}
 use Prim.Native.Nat.{ℕ, zero, suc, ◌+◌, ◌*◌, ◌≤◌, ◌<◌}
@@ -49,7 +49,7 @@ module _ (plan : Plan) (pgn : ℕ) where
   part_from s m (c ∷ cs) t O N = go (part_from s (onward plan c) cs t (tail m c cs t O) N.1) (ℕ_discrete m s)
     where
       go : ((onward plan c ≡ s → ⊥) × Away plan s cs) ⊎ Shorter plan pgn s cs t → Dec (m ≡ s) → ((m ≡ s → ⊥) × Away plan s (c ∷ cs)) ⊎ Shorter plan pgn s (c ∷ cs) t
-      go later (yes e) = inr (record { crossings = c ∷ cs; way = rw e at O; simple = rw e at N; fewer = λ unit h. h })
+      go later (yes e) = inr (record { crossings = c ∷ cs; way = subst (λ (x : ℕ). Open plan pgn x (c ∷ cs) t) e O; simple = subst (λ (x : ℕ). NoSegmentTwice plan x (c ∷ cs)) e N; fewer = λ unit h. h })
       go (inl away) (no ne) = inl (ne, away)
       go (inr S) (no ne) = inr (record { crossings = S.crossings; way = S.way; simple = S.simple; fewer = λ unit h. S.fewer unit h.1 })
 

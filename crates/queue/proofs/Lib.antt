@@ -4,5 +4,4 @@ pub mod Tallies
 pub mod Lists
 pub mod Scan
 pub mod Block
-pub mod Values
 mod Examples

@@ -97,7 +97,7 @@ abbrev pub queue_next : Option ℕ → ℕ → Queued → List Frame → Queued
 queue_next none q x sent = sent_all x sent
 queue_next (some p) q x sent = cond (p == q) (taking x) x
 
--- as power-on leaves it
+-- as power_on leaves it
 abbrev pub idle : Queued
 idle = record { row = []; tally = record { waiting = replicate 8 0; accepted = 0; taken = 0 } }
 

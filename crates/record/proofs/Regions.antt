@@ -27,14 +27,14 @@ use Rattle.unit.specs.Count.{pair_count}
 use Rattle.unit.specs.Model.{model_of, table_from, rows_from, pairs_from, losses_from, record_length, pair_at, queue_on, row_at, with_queue, with_rest, with_pairs, with_table, with_losses}
 use Rattle.filter_commands.specs.Changes.{Changing}
 use Rattle.record.specs.Steps.{PairChanging, PairJudging, PairAsking, RowJoining, RowTaking, LossesChanging, TableChanging, TableClaiming}
-use Rattle.filter.specs.Filter.{block_size as filterLength}
+use Rattle.filter.specs.Filter.{block_size as filter_length}
 use Rattle.addresses.specs.Table.{table_length}
-use Rattle.queue.specs.Queue.{block_length as queueLength}
+use Rattle.queue.specs.Queue.{block_length as queue_length}
 
 -- there is a queue for each port
 pub queues_long : (ports : ℕ) (words : List ℕ) → length (model_of ports words).queues ≡ ports
 unfolding model_of
-queues_long ports words = length_blocks queue_of queueLength rows_from ports words
+queues_long ports words = length_blocks queue_of queue_length rows_from ports words
 
 -- a word outside a part that was lent is as it was
 word_apart : (a k : ℕ) (words ys : List ℕ) → length ys ≡ k → a + k ≤ length words → (n : ℕ) → (n < a) ⊎ (a + k ≤ n) → get_or (back a k words ys) n 0 ≡ get_or words n 0
@@ -47,49 +47,49 @@ word_apart a k words ys long fits n h =
     one xs = get_or-take 1 (drop n xs) 0 0 (omega arith) ∙ get_or-drop n xs 0 0 ∙ ap (λ i. get_or xs i 0) (omega arith)
 
 -- ---- the queue of port q
-module _ (words : List ℕ) (q : ℕ) (inside : rows_from + queueLength * q + queueLength ≤ length words) (ports : ℕ) (port : q < ports) where
-  pub queue_of_lem : queue_on (model_of ports words) q ≡ queue_of (take queueLength (drop (rows_from + queueLength * q) words))
+module _ (words : List ℕ) (q : ℕ) (inside : rows_from + queue_length * q + queue_length ≤ length words) (ports : ℕ) (port : q < ports) where
+  pub queue_of_lem : queue_on (model_of ports words) q ≡ queue_of (take queue_length (drop (rows_from + queue_length * q) words))
   unfolding model_of block_at
-  queue_of_lem = blocks_at queue_of queueLength rows_from ports words q idle port
+  queue_of_lem = blocks_at queue_of queue_length rows_from ports words q idle port
 
-  row_of_lem : row_at (model_of ports words) q ≡ row_of (take queueLength (drop (rows_from + queueLength * q) words))
+  row_of_lem : row_at (model_of ports words) q ≡ row_of (take queue_length (drop (rows_from + queue_length * q) words))
   unfolding queue_of
   row_of_lem = ap (λ (x : Queued). x.row) queue_of_lem
 
-  module _ (ys : List ℕ) (long : length ys ≡ queueLength) where
-    queue_back : model_of ports (back (rows_from + queueLength * q) queueLength words ys) ≡ with_queue (model_of ports words) q (queue_of ys)
+  module _ (ys : List ℕ) (long : length ys ≡ queue_length) where
+    queue_back : model_of ports (back (rows_from + queue_length * q) queue_length words ys) ≡ with_queue (model_of ports words) q (queue_of ys)
     unfolding model_of
     queue_back =
         rw (
-          part_before (rows_from + queueLength * q) queueLength words ys long (omega arith) 0 5 (omega arith),
-          blocks_apart (rows_from + queueLength * q) queueLength words ys long (omega arith) filter_of filterLength (pairs_from ports) (pair_count ports) (inr (omega arith)),
-          blocks_apart (rows_from + queueLength * q) queueLength words ys long (omega arith) losses_of counter_length (losses_from ports) (pair_count ports + 1) (inr (omega arith)),
-          blocks_set rows_from queueLength words ys q long (omega arith) queue_of ports port,
-          part_apart (rows_from + queueLength * q) queueLength words ys long (omega arith) table_from table_length (inl (omega arith)),
+          part_before (rows_from + queue_length * q) queue_length words ys long (omega arith) 0 5 (omega arith),
+          blocks_apart (rows_from + queue_length * q) queue_length words ys long (omega arith) filter_of filter_length (pairs_from ports) (pair_count ports) (inr (omega arith)),
+          blocks_apart (rows_from + queue_length * q) queue_length words ys long (omega arith) losses_of counter_length (losses_from ports) (pair_count ports + 1) (inr (omega arith)),
+          blocks_set rows_from queue_length words ys q long (omega arith) queue_of ports port,
+          part_apart (rows_from + queue_length * q) queue_length words ys long (omega arith) table_from table_length (inl (omega arith)),
         )
 
-    pub row_joined : (f : Frame) (r : Bool) → Joining (take queueLength (drop (rows_from + queueLength * q) words)) ys f r → RowJoining ports words (back (rows_from + queueLength * q) queueLength words ys) q f r
+    pub row_joined : (f : Frame) (r : Bool) → Joining (take queue_length (drop (rows_from + queue_length * q) words)) ys f r → RowJoining ports words (back (rows_from + queue_length * q) queue_length words ys) q f r
     row_joined f r J = record { answer = rw row_of_lem J.answer; state = rw (queue_back, queue_of_lem, J.state) }
 
-    pub row_taken : (r : Taken) → Taking (take queueLength (drop (rows_from + queueLength * q) words)) ys r → RowTaking ports words (back (rows_from + queueLength * q) queueLength words ys) q r
+    pub row_taken : (r : Taken) → Taking (take queue_length (drop (rows_from + queue_length * q) words)) ys r → RowTaking ports words (back (rows_from + queue_length * q) queue_length words ys) q r
     row_taken r T = record {
       answer = rw row_of_lem T.answer;
       state = rw (queue_back, queue_of_lem, T.state);
-      ahead = part_before (rows_from + queueLength * q) queueLength words ys long (omega arith) 0 (rows_from + queueLength * q) (omega arith);
-      behind = part_after (rows_from + queueLength * q) queueLength words ys long (omega arith) (rows_from + queueLength * q + queueLength) (omega arith);
+      ahead = part_before (rows_from + queue_length * q) queue_length words ys long (omega arith) 0 (rows_from + queue_length * q) (omega arith);
+      behind = part_after (rows_from + queue_length * q) queue_length words ys long (omega arith) (rows_from + queue_length * q + queue_length) (omega arith);
     }
 
 -- ---- the filter of a pair
-pair_lent : (ports : ℕ) (words ys : List ℕ) (i : ℕ) → length words ≡ record_length ports → i < pair_count ports → length ys ≡ filterLength
-    → model_of ports (back (pairs_from ports + filterLength * i) filterLength words ys) ≡ with_rest (model_of ports words) (with_pairs (model_of ports words).rest (set (model_of ports words).rest.pairs i (filter_of ys)))
+pair_lent : (ports : ℕ) (words ys : List ℕ) (i : ℕ) → length words ≡ record_length ports → i < pair_count ports → length ys ≡ filter_length
+    → model_of ports (back (pairs_from ports + filter_length * i) filter_length words ys) ≡ with_rest (model_of ports words) (with_pairs (model_of ports words).rest (set (model_of ports words).rest.pairs i (filter_of ys)))
 unfolding model_of
 pair_lent ports words ys i full pair long =
     rw (
-      part_before (pairs_from ports + filterLength * i) filterLength words ys long (omega arith) 0 5 (omega arith),
-      blocks_set (pairs_from ports) filterLength words ys i long (omega arith) filter_of (pair_count ports) pair,
-      blocks_apart (pairs_from ports + filterLength * i) filterLength words ys long (omega arith) queue_of queueLength rows_from ports (inl (omega arith)),
-      blocks_apart (pairs_from ports + filterLength * i) filterLength words ys long (omega arith) losses_of counter_length (losses_from ports) (pair_count ports + 1) (inr (omega arith)),
-      part_apart (pairs_from ports + filterLength * i) filterLength words ys long (omega arith) table_from table_length (inl (omega arith)),
+      part_before (pairs_from ports + filter_length * i) filter_length words ys long (omega arith) 0 5 (omega arith),
+      blocks_set (pairs_from ports) filter_length words ys i long (omega arith) filter_of (pair_count ports) pair,
+      blocks_apart (pairs_from ports + filter_length * i) filter_length words ys long (omega arith) queue_of queue_length rows_from ports (inl (omega arith)),
+      blocks_apart (pairs_from ports + filter_length * i) filter_length words ys long (omega arith) losses_of counter_length (losses_from ports) (pair_count ports + 1) (inr (omega arith)),
+      part_apart (pairs_from ports + filter_length * i) filter_length words ys long (omega arith) table_from table_length (inl (omega arith)),
     )
 
 counter_lent : (ports : ℕ) (words ys : List ℕ) (i : ℕ) → length words ≡ record_length ports → i ≤ pair_count ports → length ys ≡ counter_length
@@ -98,8 +98,8 @@ unfolding model_of
 counter_lent ports words ys i full counter long =
     rw (
       part_before (losses_from ports + counter_length * i) counter_length words ys long (omega arith) 0 5 (omega arith),
-      blocks_apart (losses_from ports + counter_length * i) counter_length words ys long (omega arith) filter_of filterLength (pairs_from ports) (pair_count ports) (inl (omega arith)),
-      blocks_apart (losses_from ports + counter_length * i) counter_length words ys long (omega arith) queue_of queueLength rows_from ports (inl (omega arith)),
+      blocks_apart (losses_from ports + counter_length * i) counter_length words ys long (omega arith) filter_of filter_length (pairs_from ports) (pair_count ports) (inl (omega arith)),
+      blocks_apart (losses_from ports + counter_length * i) counter_length words ys long (omega arith) queue_of queue_length rows_from ports (inl (omega arith)),
       blocks_set (losses_from ports) counter_length words ys i long (omega arith) losses_of (pair_count ports + 1) (omega arith),
       part_apart (losses_from ports + counter_length * i) counter_length words ys long (omega arith) table_from table_length (inl (omega arith)),
     )
@@ -125,40 +125,40 @@ name_past ports words address h =
     let past = get_or-eq_default (table_of (take table_length (drop table_from words))) Place.Free {n = address} (omega (arith, table_length_lem (take table_length (drop table_from words)))) in
     rw past
 
-pub pair_asked : (ports : ℕ) (words : List ℕ) (p q pgn i : ℕ) (sender : Option ℕ) (r : Asked) → i ≡ pair_at ports p q → i < pair_count ports → Asking (take filterLength (drop (pairs_from ports + filterLength * i) words)) pgn sender r
+pub pair_asked : (ports : ℕ) (words : List ℕ) (p q pgn i : ℕ) (sender : Option ℕ) (r : Asked) → i ≡ pair_at ports p q → i < pair_count ports → Asking (take filter_length (drop (pairs_from ports + filter_length * i) words)) pgn sender r
     → PairAsking ports words p q pgn sender r
 unfolding model_of block_at
 pair_asked ports words p q pgn i sender r e h A = record {
-  answer = rw (← e, blocks_at filter_of filterLength (pairs_from ports) (pair_count ports) words i clear h) A.answer;
+  answer = rw (← e, blocks_at filter_of filter_length (pairs_from ports) (pair_count ports) words i clear h) A.answer;
   small = A.small;
 }
 
 module _ (ports : ℕ) (words : List ℕ) (i : ℕ) (full : length words ≡ record_length ports) (pair : i < pair_count ports) where
-  pub pair_of : get_or (model_of ports words).rest.pairs i clear ≡ filter_of (take filterLength (drop (pairs_from ports + filterLength * i) words))
+  pub pair_of : get_or (model_of ports words).rest.pairs i clear ≡ filter_of (take filter_length (drop (pairs_from ports + filter_length * i) words))
   unfolding model_of block_at
-  pair_of = blocks_at filter_of filterLength (pairs_from ports) (pair_count ports) words i clear pair
+  pair_of = blocks_at filter_of filter_length (pairs_from ports) (pair_count ports) words i clear pair
 
-  pub pair_changed : (ys : List ℕ) (change : Filter → Filter) → length ys ≡ filterLength → filter_of ys ≡ change (filter_of (take filterLength (drop (pairs_from ports + filterLength * i) words)))
-      → PairChanging ports words (back (pairs_from ports + filterLength * i) filterLength words ys) i change
+  pub pair_changed : (ys : List ℕ) (change : Filter → Filter) → length ys ≡ filter_length → filter_of ys ≡ change (filter_of (take filter_length (drop (pairs_from ports + filter_length * i) words)))
+      → PairChanging ports words (back (pairs_from ports + filter_length * i) filter_length words ys) i change
   pair_changed ys change long e = record {
     state = pair_back ∙ rw (e, pair_of);
-    others = word_apart (pairs_from ports + filterLength * i) filterLength words ys long (omega arith);
+    others = word_apart (pairs_from ports + filter_length * i) filter_length words ys long (omega arith);
   }
     where
-      pair_back : model_of ports (back (pairs_from ports + filterLength * i) filterLength words ys) ≡ with_rest (model_of ports words) (with_pairs (model_of ports words).rest (set (model_of ports words).rest.pairs i (filter_of ys)))
+      pair_back : model_of ports (back (pairs_from ports + filter_length * i) filter_length words ys) ≡ with_rest (model_of ports words) (with_pairs (model_of ports words).rest (set (model_of ports words).rest.pairs i (filter_of ys)))
       pair_back = pair_lent ports words ys i full pair long
 
-  pub pair_judged : (ys : List ℕ) (may : Filter → Bool) (change : Filter → Filter) {r : Bool} → length ys ≡ filterLength
-      → Changing (take filterLength (drop (pairs_from ports + filterLength * i) words)) ys (may (filter_of (take filterLength (drop (pairs_from ports + filterLength * i) words)))) (change (filter_of (take filterLength (drop (pairs_from ports + filterLength * i) words)))) r
-      → PairJudging ports words (back (pairs_from ports + filterLength * i) filterLength words ys) i may change r
+  pub pair_judged : (ys : List ℕ) (may : Filter → Bool) (change : Filter → Filter) {r : Bool} → length ys ≡ filter_length
+      → Changing (take filter_length (drop (pairs_from ports + filter_length * i) words)) ys (may (filter_of (take filter_length (drop (pairs_from ports + filter_length * i) words)))) (change (filter_of (take filter_length (drop (pairs_from ports + filter_length * i) words)))) r
+      → PairJudging ports words (back (pairs_from ports + filter_length * i) filter_length words ys) i may change r
   pair_judged ys may change long C = record {
     done = rw pair_of C.done;
     changed = pair_changed ys change long C.state;
     refused = λ e. rw (C.refused (sym C.done ∙ e)) whole_again;
   }
     where
-      whole_again : back (pairs_from ports + filterLength * i) filterLength words (take filterLength (drop (pairs_from ports + filterLength * i) words)) ≡ words
-      whole_again = rw (take-append-drop filterLength (drop (pairs_from ports + filterLength * i) words)) (take-append-drop (pairs_from ports + filterLength * i) words)
+      whole_again : back (pairs_from ports + filter_length * i) filter_length words (take filter_length (drop (pairs_from ports + filter_length * i) words)) ≡ words
+      whole_again = rw (take-append-drop filter_length (drop (pairs_from ports + filter_length * i) words)) (take-append-drop (pairs_from ports + filter_length * i) words)
 
 -- ---- a counter of losses
 module _ (ports : ℕ) (words : List ℕ) (i : ℕ) (full : length words ≡ record_length ports) (counter : i ≤ pair_count ports) where
@@ -186,8 +186,8 @@ module _ (words ys : List ℕ) (inside : rows_from ≤ length words) (long : len
   table_back =
       rw (
         part_before table_from table_length words ys long (omega arith) 0 5 (omega arith),
-        blocks_apart table_from table_length words ys long (omega arith) filter_of filterLength (pairs_from ports) (pair_count ports) (inr (omega arith)),
-        blocks_apart table_from table_length words ys long (omega arith) queue_of queueLength rows_from ports (inr (omega arith)),
+        blocks_apart table_from table_length words ys long (omega arith) filter_of filter_length (pairs_from ports) (pair_count ports) (inr (omega arith)),
+        blocks_apart table_from table_length words ys long (omega arith) queue_of queue_length rows_from ports (inr (omega arith)),
         blocks_apart table_from table_length words ys long (omega arith) losses_of counter_length (losses_from ports) (pair_count ports + 1) (inr (omega arith)),
         part_in table_from table_length words ys long (omega arith),
       )

@@ -4,12 +4,12 @@ use Rattle.std.specs.Prelude.{ℕ, ◌+◌, ◌*◌, ◌≤◌, ◌<◌, Bool, f
 use Rattle.std.proofs.Math.Option.{Option}
 use Rattle.delivery.specs.Row.{room, pull, given}
 use Rattle.filter.specs.declared.Asked.{Asked}
-use Rattle.filter.specs.Filter.{Filter, clear, asked, block_size as filterLength}
+use Rattle.filter.specs.Filter.{Filter, clear, asked, block_size as filter_length}
 use Rattle.sorted_list.specs.SortedList.{most_probes}
 use Rattle.name_entries.specs.NameEntries.{most_names}
 use Rattle.queue.specs.declared.Frame.{Frame}
 use Rattle.queue.specs.declared.Taken.{Taken}
-use Rattle.queue.specs.Queue.{size, priority, taken_of, joined, taking, block_length as queueLength}
+use Rattle.queue.specs.Queue.{size, priority, taken_of, joined, taking, block_length as queue_length}
 use Rattle.addresses.specs.declared.Place.{Place}
 use Rattle.address_claims.specs.declared.Event.{Event}
 use Rattle.unit.specs.Model.{queue_on, row_at, pair_at, with_rest, with_pairs, with_table, with_queue, with_losses, pairs_from, rows_from, losses_from, model_of}
@@ -31,7 +31,7 @@ pub record PairAsking (ports : ℕ) (words : List ℕ) (p q pgn : ℕ) (sender :
 pub record PairChanging (ports : ℕ) (before after : List ℕ) (i : ℕ) (change : Filter → Filter) : Type 0 where
   pub state : model_of ports after
       ≡ with_rest (model_of ports before) (with_pairs (model_of ports before).rest (set (model_of ports before).rest.pairs i (change (get_or (model_of ports before).rest.pairs i clear))))
-  pub others : (n : ℕ) → (n < pairs_from ports + filterLength * i) ⊎ (pairs_from ports + filterLength * i + filterLength ≤ n) → get_or after n 0 ≡ get_or before n 0
+  pub others : (n : ℕ) → (n < pairs_from ports + filter_length * i) ⊎ (pairs_from ports + filter_length * i + filter_length ≤ n) → get_or after n 0 ≡ get_or before n 0
 
 -- or, if it may not be, not a word
 pub record PairJudging (ports : ℕ) (before after : List ℕ) (i : ℕ) (may : Filter → Bool) (change : Filter → Filter) (r : Bool) : Type 0 where
@@ -53,5 +53,5 @@ pub record RowJoining (ports : ℕ) (before after : List ℕ) (q : ℕ) (f : Fra
 pub record RowTaking (ports : ℕ) (before after : List ℕ) (q : ℕ) (r : Taken) : Type 0 where
   pub answer : r ≡ taken_of (given (pull priority (row_at (model_of ports before) q)))
   pub state : model_of ports after ≡ with_queue (model_of ports before) q (taking (queue_on (model_of ports before) q))
-  pub ahead : take (rows_from + queueLength * q) after ≡ take (rows_from + queueLength * q) before
-  pub behind : drop (rows_from + queueLength * q + queueLength) after ≡ drop (rows_from + queueLength * q + queueLength) before
+  pub ahead : take (rows_from + queue_length * q) after ≡ take (rows_from + queue_length * q) before
+  pub behind : drop (rows_from + queue_length * q + queue_length) after ≡ drop (rows_from + queue_length * q + queue_length) before

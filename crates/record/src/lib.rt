@@ -5,13 +5,13 @@ ghost use Rattle.std.specs.Prelude.{◌≡◌, ℕ, ◌+◌, ◌-◌, ◌*◌, �
 ghost use Rattle.std.proofs.Math.Option.{Option};
 ghost use Rattle.addresses.specs.Table.{name_at};
 ghost use Rattle.address_claims.specs.Claims.{claimed, claim_event, withdrawn, withdraw_event, others_dropped, settled};
-ghost use Rattle.filter.specs.Filter.{clear, block_size as filterLength};
+ghost use Rattle.filter.specs.Filter.{clear, block_size as filter_length};
 ghost use Rattle.entries.specs.Entries.{listed, entries_of};
 ghost use Rattle.network_message.specs.Decoding.{longest};
 ghost use Rattle.pgn_list.specs.PgnList.{list_size};
 ghost use Rattle.sorted_list.specs.SortedList.{most_probes};
 ghost use Rattle.name_entries.specs.NameEntries.{most_names, sender_of};
-ghost use Rattle.queue.specs.Queue.{block_length as queueLength};
+ghost use Rattle.queue.specs.Queue.{block_length as queue_length};
 ghost use Rattle.losses.specs.Losses.{most, one_more, counter_length};
 ghost use Rattle.replies.specs.Replies.{list_reply, address_reply, Writing};
 ghost use Rattle.filter_commands.specs.Pairs.{holds_of, may_of, change_of};
@@ -50,7 +50,7 @@ pub fn pair_at(ports: usize, from: usize, to: usize) -> usize
 // Where the filter of pair i begins.
 fn filter_at(ports: usize, i: usize) -> usize
     requires { (ports ≤ 8) × (i ≤ pair_count ports) }
-    ensures { result ≡ pairs_from ports + filterLength * i }
+    ensures { result ≡ pairs_from ports + filter_length * i }
 {
     Unit::QUEUES_AT + queue::BLOCK_LENGTH * ports + filter::BLOCK_SIZE * i
 }
@@ -75,7 +75,7 @@ fn counter_at(ports: usize, i: usize) -> usize
 // Where the filters of the pairs from a port begin: they stand side by side, in order of the ports that the pairs lead to.
 pub fn filters_from(ports: usize, from: usize) -> usize
     requires { (ports ≤ 8) × (from < ports) }
-    ensures { result ≡ pairs_from ports + filterLength * ((ports - 1) * from) }
+    ensures { result ≡ pairs_from ports + filter_length * ((ports - 1) * from) }
 {
     let i = first_pair(ports, from);
     filter_at(ports, i)
@@ -83,7 +83,7 @@ pub fn filters_from(ports: usize, from: usize) -> usize
 
 // Whether the pair whose filter begins at a word may have NAME entries.
 pub fn has_names(words: &[u64], a: usize) -> bool
-    requires { a + filterLength ≤ length words.now }
+    requires { a + filter_length ≤ length words.now }
     ensures { result ≡ leb 3 (get_or words.now a 0) }
 {
     let e = a + filter::BLOCK_SIZE;
@@ -92,8 +92,8 @@ pub fn has_names(words: &[u64], a: usize) -> bool
 
 // Asks the pair whose filter begins at a word, which has no NAME entries, about a PGN: whoever sent it.
 pub fn ask_plain(words: &[u64], a: usize, pgn: u32) -> Asked
-    requires { (a + filterLength ≤ length words.now) × (get_or words.now a 0 < 3) }
-    ensures { ((ports p q : ℕ) (sender : Option ℕ) → pair_at ports p q < pair_count ports → a ≡ pairs_from ports + filterLength * pair_at ports p q → PairAsking ports words.now p q pgn sender result) × (result.compared ≤ most_probes) }
+    requires { (a + filter_length ≤ length words.now) × (get_or words.now a 0 < 3) }
+    ensures { ((ports p q : ℕ) (sender : Option ℕ) → pair_at ports p q < pair_count ports → a ≡ pairs_from ports + filter_length * pair_at ports p q → PairAsking ports words.now p q pgn sender result) × (result.compared ≤ most_probes) }
 {
     let e = a + filter::BLOCK_SIZE;
     filter::ask_plain(&words[a..e], pgn)
@@ -101,8 +101,8 @@ pub fn ask_plain(words: &[u64], a: usize, pgn: u32) -> Asked
 
 // Asks the pair whose filter begins at a word about a PGN from an address. The sender's NAME is looked up where the pair may have NAME entries.
 pub fn ask_filter(words: &[u64], a: usize, pgn: u32, address: u32) -> Asked
-    requires { (rows_from ≤ length words.now) × (a + filterLength ≤ length words.now) }
-    ensures { ((ports p q : ℕ) → pair_at ports p q < pair_count ports → a ≡ pairs_from ports + filterLength * pair_at ports p q → PairAsking ports words.now p q pgn (name_at (model_of ports words.now).rest.table address) result) × (result.compared ≤ most_probes + most_names) }
+    requires { (rows_from ≤ length words.now) × (a + filter_length ≤ length words.now) }
+    ensures { ((ports p q : ℕ) → pair_at ports p q < pair_count ports → a ≡ pairs_from ports + filter_length * pair_at ports p q → PairAsking ports words.now p q pgn (name_at (model_of ports words.now).rest.table address) result) × (result.compared ≤ most_probes + most_names) }
 {
     if has_names(words, a) {
         let from = sender(words, address);
@@ -171,7 +171,7 @@ pub fn clear(words: &mut [u64], ports: usize, i: usize)
 
 // A frame joins a port's queue, or is lost there. The place of a queue, as that of the table, does not depend on the number of ports.
 pub fn join_row(words: &mut [u64], q: usize, f: Frame) -> bool
-    requires { rows_from + queueLength * q + queueLength ≤ length words.old }
+    requires { rows_from + queue_length * q + queue_length ≤ length words.old }
     ensures { (ports : ℕ) → q < ports → RowJoining ports words.old words.new q f result }
 {
     let a = Unit::QUEUES_AT + queue::BLOCK_LENGTH * q;
@@ -181,7 +181,7 @@ pub fn join_row(words: &mut [u64], q: usize, f: Frame) -> bool
 
 // A frame leaves a port's queue.
 pub fn take_row(words: &mut [u64], q: usize) -> Taken
-    requires { rows_from + queueLength * q + queueLength ≤ length words.old }
+    requires { rows_from + queue_length * q + queue_length ≤ length words.old }
     ensures { (ports : ℕ) → q < ports → RowTaking ports words.old words.new q result }
 {
     let a = Unit::QUEUES_AT + queue::BLOCK_LENGTH * q;
@@ -191,7 +191,7 @@ pub fn take_row(words: &mut [u64], q: usize) -> Taken
 
 // What is counted at a port.
 pub fn counts_at(words: &[u64], q: usize) -> Tally
-    requires { rows_from + queueLength * q + queueLength ≤ length words.now }
+    requires { rows_from + queue_length * q + queue_length ≤ length words.now }
     ensures { (ports : ℕ) → q < ports → result ≡ (queue_on (model_of ports words.now) q).tally }
 {
     let a = Unit::QUEUES_AT + queue::BLOCK_LENGTH * q;

@@ -1,4 +1,4 @@
--- The unit's own words: read, stored, and as power-on leaves them. Assumes nothing.
+-- The unit's own words: read, stored, and as power_on leaves them. Assumes nothing.
 use mathlib.Core.Path.{◌≡◌, refl, sym, ◌∙◌}
 use mathlib.Core.Bool.{Bool, true, false, not, cond}
 use mathlib.Core.Logic.{inr}
@@ -12,9 +12,9 @@ use lib.Seq.{get_or-take}
 use Rattle.storage.proofs.Parts.{back, part_in, part_apart, store_back}
 use Rattle.storage.proofs.Blocks.{blocks_apart, blocks_filled, part_filled}
 use Rattle.filter.specs.Filter.{filter_of, meant, clear}
-use Rattle.filter.specs.Filter.{block_size as filterLength}
+use Rattle.filter.specs.Filter.{block_size as filter_length}
 use Rattle.queue.specs.Queue.{row_of, tally_of, queue_of, idle}
-use Rattle.queue.specs.Queue.{block_length as queueLength}
+use Rattle.queue.specs.Queue.{block_length as queue_length}
 use Rattle.losses.specs.Losses.{held, counter_length, losses_of}
 use Rattle.addresses.specs.declared.Place.TheVariants.{Free}
 use Rattle.addresses.specs.Table.{places, place_from, place_of, table_of, table_length}
@@ -99,8 +99,8 @@ own_stored words u w full a p l m e ports =
       five_stores words (claim_word u.claim) u.address u.preferred u.name u.ports full,
       part_in 0 5 words ys refl (omega arith),
       unit_of_five u a p l m,
-      blocks_apart 0 5 words ys refl (omega arith) filter_of filterLength (pairs_from ports) (pair_count ports) (inr (omega arith)),
-      blocks_apart 0 5 words ys refl (omega arith) queue_of queueLength rows_from ports (inr (omega arith)),
+      blocks_apart 0 5 words ys refl (omega arith) filter_of filter_length (pairs_from ports) (pair_count ports) (inr (omega arith)),
+      blocks_apart 0 5 words ys refl (omega arith) queue_of queue_length rows_from ports (inr (omega arith)),
       blocks_apart 0 5 words ys refl (omega arith) losses_of counter_length (losses_from ports) (pair_count ports + 1) (inr (omega arith)),
       part_apart 0 5 words ys refl (omega arith) table_from table_length (inr (omega arith)),
     )
@@ -124,18 +124,18 @@ claim_stored words claim w full e ports =
       e,
       own_moved words claim full,
       store_back 0 words (claim_word claim) (omega arith),
-      blocks_apart 0 1 words ys refl (omega arith) filter_of filterLength (pairs_from ports) (pair_count ports) (inr (omega arith)),
-      blocks_apart 0 1 words ys refl (omega arith) queue_of queueLength rows_from ports (inr (omega arith)),
+      blocks_apart 0 1 words ys refl (omega arith) filter_of filter_length (pairs_from ports) (pair_count ports) (inr (omega arith)),
+      blocks_apart 0 1 words ys refl (omega arith) queue_of queue_length rows_from ports (inr (omega arith)),
       blocks_apart 0 1 words ys refl (omega arith) losses_of counter_length (losses_from ports) (pair_count ports + 1) (inr (omega arith)),
       part_apart 0 1 words ys refl (omega arith) table_from table_length (inr (omega arith)),
     )
 
--- ---- power-on: a record of zeros, with the fresh unit
-no_filter : filter_of (replicate filterLength 0) ≡ clear
+-- ---- power_on: a record of zeros, with the fresh unit
+no_filter : filter_of (replicate filter_length 0) ≡ clear
 unfolding filter_of meant
 no_filter = refl
 
-no_queue : queue_of (replicate queueLength 0) ≡ idle
+no_queue : queue_of (replicate queue_length 0) ≡ idle
 unfolding queue_of row_of tally_of
 no_queue = refl
 
@@ -159,8 +159,8 @@ pub wiped : (n ports : ℕ) (u : Unit) → n ≡ record_length ports → with_re
 unfolding model_of
 wiped n ports u e =
     rw (
-      blocks_filled n 0 filter_of filterLength (pairs_from ports) (pair_count ports) (omega arith),
-      blocks_filled n 0 queue_of queueLength rows_from ports (omega arith),
+      blocks_filled n 0 filter_of filter_length (pairs_from ports) (pair_count ports) (omega arith),
+      blocks_filled n 0 queue_of queue_length rows_from ports (omega arith),
       blocks_filled n 0 losses_of counter_length (losses_from ports) (pair_count ports + 1) (omega arith),
       part_filled n 0 table_from table_length (omega arith),
       no_table table_length refl,

@@ -4,10 +4,10 @@
 use Rattle.std.specs.Prelude.{ℕ, zero, suc, ◌+◌, ◌-◌, ◌*◌, ◌%◌, ◌^◌, cond, List, [], take, drop, get_or, set, ltb}
 use Rattle.storage.specs.Blocks.{blocks_of}
 use Rattle.filter.specs.Filter.{Filter, filter_of}
-use Rattle.filter.specs.Filter.{block_size as filterLength}
+use Rattle.filter.specs.Filter.{block_size as filter_length}
 use Rattle.queue.specs.declared.Frame.{Frame}
 use Rattle.queue.specs.Queue.{Queued, queue_of, idle}
-use Rattle.queue.specs.Queue.{block_length as queueLength}
+use Rattle.queue.specs.Queue.{block_length as queue_length}
 use Rattle.losses.specs.Losses.{counter_length, losses_of}
 use Rattle.addresses.specs.declared.Place.{Place}
 use Rattle.addresses.specs.Table.{table_length, table_of}
@@ -98,10 +98,10 @@ abbrev pub rows_from : ℕ
 rows_from = table_from + table_length
 
 abbrev pub pairs_from : ℕ → ℕ
-pairs_from ports = rows_from + queueLength * ports
+pairs_from ports = rows_from + queue_length * ports
 
 abbrev pub losses_from : ℕ → ℕ
-losses_from ports = pairs_from ports + filterLength * pair_count ports
+losses_from ports = pairs_from ports + filter_length * pair_count ports
 
 abbrev pub record_length : ℕ → ℕ
 record_length ports = losses_from ports + counter_length * (pair_count ports + 1)
@@ -110,9 +110,9 @@ unfoldable pub model_of : ℕ → List ℕ → Model
 model_of ports words = record {
   rest = record {
     own = unit_of (take own_length words);
-    pairs = blocks_of (pairs_from ports) filterLength (pair_count ports) filter_of words;
+    pairs = blocks_of (pairs_from ports) filter_length (pair_count ports) filter_of words;
     table = table_of (take table_length (drop table_from words));
   };
-  queues = blocks_of rows_from queueLength ports queue_of words;
+  queues = blocks_of rows_from queue_length ports queue_of words;
   seen = record { losses = blocks_of (losses_from ports) counter_length (pair_count ports + 1) losses_of words };
 }

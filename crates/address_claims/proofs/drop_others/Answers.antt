@@ -3,19 +3,18 @@ use Prim.Native.Nat.{◌+◌, ◌-◌, zero-le}
 use native.Mathlib.Omega.{arith}
 use Rattle.addresses.specs.Table.{places}
 use Rattle.address_claims.proofs.Dropping.{Passed, passed_start, passed_free, passed_keep, passed_drop, passed_skip, passed_done}
+use Rattle.address_claims.proofs.drop_others.Goals.{then-is_held_by+then-address-keep, then-is_held_by+else-address-keep, else-is_held_by}
 use Rattle.address_claims.proofs.drop_others.Goals as goal
 
 -- where the ways meet, one more place is passed
-stepped : (c : tie.Joined1 invariant-loop decreases-loop) → let at = c.before.before.before.before in let start = at.before.before.before.before in Passed start.args.table.now c.if1.table start.args.name start.args.keep c.if1.dropped (at.loop.address + 1)
+stepped : (c : goal.Joined-is_held_by) → Passed c.args.table.now c.if-is_held_by.table c.args.name c.args.keep c.if-is_held_by.dropped (c.loop-address.address + 1)
 stepped c =
-    let at-loop = c.before.before.before.before in
-    let asked = c.before.is-held-by.ensures in
-    ⊎_elim
-    (λ w. rw (w.6, w.7) (passed_drop at-loop.loop.invariant (omega arith) asked w.0.taken w.1.taken (omega arith) w.3.ensures))
-    (⊎_elim
-    (λ w. rw (w.2, w.3) (passed_keep at-loop.loop.invariant (omega arith) w.1.left))
-    (λ w. rw (w.1, w.2) (passed_free at-loop.loop.invariant (omega arith) asked w.0.left)))
-    c.if1.branch
+    let asked = c.is_held_by.ensures in
+    elim c.if-is_held_by.branch [
+      | then-is_held_by+then-address-keep w ↦ rw (w.table-is, w.dropped-is) (passed_drop c.loop-address.invariant (omega arith) asked w.if-is_held_by.true w.if-address-keep.true (omega arith) w.release.ensures)
+      | then-is_held_by+else-address-keep w ↦ rw (w.table-is, w.dropped-is) (passed_keep c.loop-address.invariant (omega arith) w.if-address-keep.false)
+      | else-is_held_by w ↦ rw (w.table-is, w.dropped-is) (passed_free c.loop-address.invariant (omega arith) asked w.if-is_held_by.false)
+    ]
 
 pub past_others-address-requires : goal.past_others-address-requires
 past_others-address-requires c = (c.requires, omega arith, zero-le)
@@ -30,7 +29,15 @@ pub loop-address-smaller : goal.loop-address-smaller
 loop-address-smaller c = let far = c.past_others-address-in-loop-address.ensures.onward in omega arith
 
 pub loop-address-preserved : goal.loop-address-preserved
-loop-address-preserved c = passed_skip c.past_others-address-in-loop-address.ensures (stepped c)
+loop-address-preserved c =
+    let asked = c.is_held_by.ensures in
+    passed_skip c.past_others-address-in-loop-address.ensures (
+    elim c.if-is_held_by.branch [
+      | then-is_held_by+then-address-keep w ↦ rw (w.table-is, w.dropped-is) (passed_drop c.loop-address.invariant (omega arith) asked w.if-is_held_by.true w.if-address-keep.true (omega arith) w.release.ensures)
+      | then-is_held_by+else-address-keep w ↦ rw (w.table-is, w.dropped-is) (passed_keep c.loop-address.invariant (omega arith) w.if-address-keep.false)
+      | else-is_held_by w ↦ rw (w.table-is, w.dropped-is) (passed_free c.loop-address.invariant (omega arith) asked w.if-is_held_by.false)
+    ]
+    )
 
 pub returns : goal.returns
 returns c = passed_done c.loop-address.invariant (omega arith)

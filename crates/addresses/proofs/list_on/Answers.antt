@@ -3,6 +3,7 @@ use Prim.Native.Nat.{◌-◌}
 use native.Mathlib.Omega.{arith}
 use Rattle.addresses.specs.Table.{places}
 use Rattle.addresses.proofs.Listing.{Written, written_start, written_not, written_except, written_one, written_others, written_done}
+use Rattle.addresses.proofs.list_on.Goals.{else-is_held_on, then-is_held_on+else-address-except, then-is_held_on+then-address-except}
 use Rattle.addresses.proofs.list_on.Goals as goal
 
 pub loop-address-init : goal.loop-address-init
@@ -10,12 +11,7 @@ loop-address-init c = written_others c.past_others-address.ensures written_start
 
 pub loop-address-preserved : goal.loop-address-preserved
 loop-address-preserved c = let asked = c.is_held_on.ensures in
-    ⊎_elim
-    (λ w. rw (w.2, w.3) (written_one c.loop-address.invariant (omega arith) asked w.0.taken w.1.taken (omega arith)))
-    (⊎_elim
-    (λ w. rw (w.2, w.3) (written_except c.loop-address.invariant (omega arith) w.1.left))
-    (λ w. rw (w.1, w.2) (written_not c.loop-address.invariant (omega arith) asked w.0.left)))
-    c.if-is_held_on.branch-raw
+    elim c.if-is_held_on.branch [ then-is_held_on+then-address-except w ↦ rw (w.out-is, w.n-is) (written_one c.loop-address.invariant (omega arith) asked w.if-is_held_on.true w.if-address-except.true (omega arith)) | then-is_held_on+else-address-except w ↦ rw (w.out-is, w.n-is) (written_except c.loop-address.invariant (omega arith) w.if-address-except.false) | else-is_held_on w ↦ rw (w.out-is, w.n-is) (written_not c.loop-address.invariant (omega arith) asked w.if-is_held_on.false) ]
 
 pub returns : goal.returns
 returns c = written_done c.loop-address.invariant (omega arith)

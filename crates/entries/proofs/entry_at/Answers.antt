@@ -5,7 +5,7 @@ use borrow.Author.Rules.{rules}
 use Rattle.entries.proofs.entry_at.Goals as goal
 
 pub overflow_mul-i : goal.overflow_mul-i
-overflow_mul-i c = omega (arith, entries_count c.args.bytes.now, c.well-formed)
+overflow_mul-i c = omega (arith, entries_count c.args.bytes.now, c.well_formed)
 
 pub three-requires : goal.three-requires
 three-requires c = omega (arith, entries_count c.args.bytes.now)

@@ -4,4 +4,4 @@ use borrow.Author.Rules.{rules}
 use Rattle.filter_commands.proofs.begin_names.Goals as goal
 
 pub returns : goal.returns
-returns c = name_begun _ _ c.requires.0 c.requires.1 c.requires.2 c.requires.3 (c.append.auto.table ∙ names_long c.args.block.now c.requires.0) c.append.ensures
+returns c = name_begun _ _ c.requires.0 c.requires.1 c.requires.2 c.requires.3 (c.append.auto.block ∙ names_long c.args.block.now c.requires.0) c.append.ensures

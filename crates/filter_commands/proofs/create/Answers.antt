@@ -5,13 +5,13 @@ use borrow.Author.Rules.{rules}
 use Rattle.filter_commands.proofs.create.Goals as goal
 
 pub returns-then-not-is_cleared : goal.returns-then-not-is_cleared
-returns-then-not-is_cleared c = create_listing _ _ _ (sym c.is_cleared.ensures ∙ not-true _ c.if-not-is_cleared.true)
+returns-then-not-is_cleared c = create_listing _ _ _ (sym c.is_cleared.ensures ∙ c.if-not-is_cleared.true)
 
 pub returns-then-not-begin : goal.returns-then-not-begin
-returns-then-not-begin c = create_over _ _ _ (sym c.is_cleared.ensures ∙ not-false _ c.if-not-is_cleared.false) (not-true _ c.if-not-begin.true) c.begin.ensures
+returns-then-not-begin c = create_over _ _ _ (sym c.is_cleared.ensures ∙ c.if-not-is_cleared.false) c.if-not-begin.true c.begin.ensures
 
 pub returns-then-pass : goal.returns-then-pass
-returns-then-pass c = create_pass _ _ _ (sym c.is_cleared.ensures ∙ not-false _ c.if-not-is_cleared.false) c.requires (not-false _ c.if-not-begin.false) c.begin.ensures c.if-pass.true
+returns-then-pass c = create_pass _ _ _ (sym c.is_cleared.ensures ∙ c.if-not-is_cleared.false) c.requires c.if-not-begin.false c.begin.ensures c.if-pass.true
 
 pub returns-else-pass : goal.returns-else-pass
-returns-else-pass c = create_block _ _ _ (sym c.is_cleared.ensures ∙ not-false _ c.if-not-is_cleared.false) c.requires (not-false _ c.if-not-begin.false) c.begin.ensures c.if-pass.false
+returns-else-pass c = create_block _ _ _ (sym c.is_cleared.ensures ∙ c.if-not-is_cleared.false) c.requires c.if-not-begin.false c.begin.ensures c.if-pass.false

@@ -22,11 +22,11 @@ returns-then-lacks c = delete_lacking _ _ (sym c.lacks.ensures ∙ c.if-lacks.tr
 pub sort_out-requires : goal.sort_out-requires
 sort_out-requires c = let kept = c.keep_others-kept in
     let small = c.count-n.ensures.small in
-    (written_long c.args.block.now kept.new.0 kept.result c.requires (kept.auto.0 ∙ list_whole c.args.block.now c.requires), small, omega (arith, kept.ensures.inside, small))
+    (written_long c.args.block.now kept.new.list kept.result c.requires (kept.auto.list ∙ list_whole c.args.block.now c.requires), small, omega (arith, kept.ensures.inside, small))
 
 pub shape_of-block : goal.shape_of-block
 shape_of-block c = c.sort_out.auto.block ∙ search rules
 
 pub returns : goal.returns
 returns c = let kept = c.keep_others-kept in
-    delete_done _ _ _ c.requires (sym c.is_cleared.ensures ∙ c.if-is_cleared.false) (sym c.lacks.ensures ∙ c.if-lacks.false) c.count-n.ensures (kept.auto.0 ∙ list_whole c.args.block.now c.requires) kept.ensures c.sort_out.ensures
+    delete_done _ _ _ c.requires (sym c.is_cleared.ensures ∙ c.if-is_cleared.false) (sym c.lacks.ensures ∙ c.if-lacks.false) c.count-n.ensures (kept.auto.list ∙ list_whole c.args.block.now c.requires) kept.ensures c.sort_out.ensures

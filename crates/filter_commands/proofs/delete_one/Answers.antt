@@ -11,7 +11,7 @@ returns-then-i-n c = let pre = c.requires in
 
 pub sort_out_one-requires : goal.sort_out_one-requires
 sort_out_one-requires c = let closed = c.close_up-kept in
-    (written_long c.args.block.now closed.new.0 closed.result c.requires.0 (closed.auto.0 ∙ list_whole c.args.block.now c.requires.0), c.requires.1.small, omega (arith, closed.ensures.inside, c.requires.1.small))
+    (written_long c.args.block.now closed.new.list closed.result c.requires.0 (closed.auto.list ∙ list_whole c.args.block.now c.requires.0), c.requires.1.small, omega (arith, closed.ensures.inside, c.requires.1.small))
 
 pub shape_of-block : goal.shape_of-block
 shape_of-block c = c.sort_out_one.auto.block ∙ search rules
@@ -19,4 +19,4 @@ shape_of-block c = c.sort_out_one.auto.block ∙ search rules
 pub returns : goal.returns
 returns c = let pre = c.requires in
     let closed = c.close_up-kept in
-    delete_done _ _ _ pre.0 pre.2 (one_listed pre.0 pre.1 c.find-i.ensures c.if-i-n.false) pre.1 (closed.auto.0 ∙ list_whole c.args.block.now pre.0) closed.ensures c.sort_out_one.ensures
+    delete_done _ _ _ pre.0 pre.2 (one_listed pre.0 pre.1 c.find-i.ensures c.if-i-n.false) pre.1 (closed.auto.list ∙ list_whole c.args.block.now pre.0) closed.ensures c.sort_out_one.ensures

@@ -10,14 +10,14 @@ use Rattle.filter_commands.proofs.grow.Goals as goal
 pub sort_in-requires : goal.sort_in-requires
 sort_in-requires c = let E = c.extend-held in
     let whole = list_whole c.args.block.now c.requires.0 in
-    (written_long c.args.block.now E.new.0 E.result c.requires.0 (E.auto.0 ∙ whole), not_fewer whole c.requires.1 E.ensures, grow_few c.args.block.now (entries_of c.args.bytes.now) c.requires.0 c.requires.1 (omega arith) E.ensures)
+    (written_long c.args.block.now E.new.list E.result c.requires.0 (E.auto.list ∙ whole), not_fewer whole c.requires.1 E.ensures, grow_few c.args.block.now (entries_of c.args.bytes.now) c.requires.0 c.requires.1 (omega arith) E.ensures)
 
 pub shape_of-block-then-count-n : goal.shape_of-block-then-count-n
 shape_of-block-then-count-n c = c.sort_in.auto.block ∙ search rules
 
 pub returns-then-count-n : goal.returns-then-count-n
 returns-then-count-n c = let E = c.extend-held in
-    grow_part c.requires.0 c.requires.1 _ (omega arith) (E.auto.0 ∙ list_whole c.args.block.now c.requires.0) E.ensures c.sort_in.ensures
+    grow_part c.requires.0 c.requires.1 _ (omega arith) (E.auto.list ∙ list_whole c.args.block.now c.requires.0) E.ensures c.sort_in.ensures
 
 pub returns-then-held-gt-LIST_SIZE : goal.returns-then-held-gt-LIST_SIZE
 returns-then-held-gt-LIST_SIZE c = grow_over c.requires.0 c.requires.1 c.copied-list.ensures c.extend-held-2.ensures c.if-held-gt-LIST_SIZE.true

@@ -12,11 +12,11 @@ returns-then-held-gt-LIST_SIZE c = let E = c.extend_by_one-held.ensures in
 pub sort_in-requires : goal.sort_in-requires
 sort_in-requires c = let E = c.extend_by_one-held in
     let whole = list_whole c.args.block.now c.requires.0 in
-    (written_long c.args.block.now E.new.0 E.result c.requires.0 (E.auto.0 ∙ whole), not_fewer whole c.requires.1 E.ensures.0, omega (arith, c.if-held-gt-LIST_SIZE.false))
+    (written_long c.args.block.now E.new.list E.result c.requires.0 (E.auto.list ∙ whole), not_fewer whole c.requires.1 E.ensures.0, omega (arith, c.if-held-gt-LIST_SIZE.false))
 
 pub shape_of-block : goal.shape_of-block
 shape_of-block c = c.sort_in.auto.block ∙ search rules
 
 pub returns : goal.returns
 returns c = let E = c.extend_by_one-held in
-    grow_put c.requires.0 c.requires.1 refl E.ensures.0 _ refl (E.auto.0 ∙ list_whole c.args.block.now c.requires.0) c.if-held-gt-LIST_SIZE.false c.sort_in.ensures
+    grow_put c.requires.0 c.requires.1 refl E.ensures.0 _ refl (E.auto.list ∙ list_whole c.args.block.now c.requires.0) c.if-held-gt-LIST_SIZE.false c.sort_in.ensures

@@ -10,4 +10,4 @@ pub returns-then-n-eq-MOST : goal.returns-then-n-eq-MOST
 returns-then-n-eq-MOST c = name_ninth _ _ c.requires.1 c.count-n.ensures.0 c.holds.ensures c.if-holds.false c.if-n-eq-MOST.true
 
 pub returns : goal.returns
-returns c = name_grown _ _ c.requires.1 c.count-n.ensures.0 c.holds.ensures c.if-holds.false c.requires.0 c.if-n-eq-MOST.false (c.append.auto.table ∙ names_long c.args.block.now c.requires.0) c.append.ensures
+returns c = name_grown _ _ c.requires.1 c.count-n.ensures.0 c.holds.ensures c.if-holds.false c.requires.0 c.if-n-eq-MOST.false (c.append.auto.block ∙ names_long c.args.block.now c.requires.0) c.append.ensures

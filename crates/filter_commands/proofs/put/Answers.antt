@@ -7,20 +7,17 @@ use Rattle.storage.proofs.Copy.{Copied, copied_none, copied_one, copied_long, co
 use Rattle.pgn_list.specs.PgnList.{list_size}
 use Rattle.filter_commands.proofs.put.Goals as goal
 
-fits : (c : tie.Start invariant-loop decreases-loop) → 0 + length c.args.list.now ≡ length c.args.over.now
-fits c = omega arith
-
 pub loop-i-init : goal.loop-i-init
 loop-i-init c = copied_none
 
 pub bounds-over-i : goal.bounds-over-i
-bounds-over-i c = omega (arith, copied_long (fits c) c.loop-i.invariant, fits c)
+bounds-over-i c = omega (arith, copied_long (omega arith) c.loop-i.invariant)
 
 pub loop-i-preserved : goal.loop-i-preserved
-loop-i-preserved c = rw (zero-add c.loop-i.i) at (copied_one (fits c) c.loop-i.invariant (omega arith))
+loop-i-preserved c = rw (zero-add c.loop-i.i) at (copied_one (omega arith) c.loop-i.invariant (omega arith))
 
 pub shape_of-over : goal.shape_of-over
-shape_of-over c = copied_long (fits c) c.loop-i.invariant
+shape_of-over c = copied_long (omega arith) c.loop-i.invariant
 
 pub returns : goal.returns
-returns c = copied_all (fits c) c.loop-i.invariant (omega arith)
+returns c = copied_all (omega arith) c.loop-i.invariant (omega arith)

@@ -20,7 +20,7 @@ pub entry_at-pgn-requires : goal.entry_at-pgn-requires
 entry_at-pgn-requires c = omega (arith, c.count-n.ensures)
 
 pub loop-entry-preserved : goal.loop-entry-preserved
-loop-entry-preserved c = held_one _ c.loop-entry.invariant (omega (arith, c.count-n.ensures)) (rw (← c.entry_at-pgn.ensures) (sym c.lists.ensures ∙ not-false c.lists.result c.if-not-lists.false))
+loop-entry-preserved c = held_one _ c.loop-entry.invariant (omega (arith, c.count-n.ensures)) (rw (← c.entry_at-pgn.ensures) (sym c.lists.ensures ∙ c.if-not-lists.false))
 
 pub search-preserved : goal.search-preserved
 search-preserved c = searched_one c.search.invariant (omega arith) c.loop-entry.invariant (omega (arith, c.count-n.ensures))
@@ -29,4 +29,4 @@ pub returns-after-search : goal.returns-after-search
 returns-after-search c = stopped_none c.search.invariant (omega arith)
 
 pub returns-then-not-lists : goal.returns-then-not-lists
-returns-then-not-lists c = stopped_here c.search.invariant (omega arith) c.loop-entry.invariant (omega (arith, c.count-n.ensures)) (rw (← c.entry_at-pgn.ensures) (sym c.lists.ensures ∙ not-true c.lists.result c.if-not-lists.true))
+returns-then-not-lists c = stopped_here c.search.invariant (omega arith) c.loop-entry.invariant (omega (arith, c.count-n.ensures)) (rw (← c.entry_at-pgn.ensures) (sym c.lists.ensures ∙ c.if-not-lists.true))

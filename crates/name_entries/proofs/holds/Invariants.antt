@@ -5,7 +5,7 @@ use Rattle.name_entries.proofs.Holding.{Seeking, start, other, found, done}
 use Rattle.name_entries.proofs.holds.Given as goal
 
 abbrev pub invariant-loop-i : goal.invariant-loop-i
-invariant-loop-i l = Seeking l.block l.n (record { l.pgn = l.pgn; l.name = l.name; l.mask = l.mask }) l.i
+invariant-loop-i l = Seeking l.block l.n (record { pgn = l.pgn; name = l.name; mask = l.mask }) l.i
 
 abbrev pub decreases-loop-i : goal.decreases-loop-i
 decreases-loop-i l = l.n - l.i

@@ -45,7 +45,7 @@ returns-in-131 c = rw (c.in-131.is, c.parameter_of-in-131.ensures)
 
 pub returns-in_default : goal.returns-in_default
 unfolding command_of
-returns-in_default c = let rest = c.in_default.rest in
+returns-in_default c = let rest = c.in_default.in_default-own.rest in
     simp (
       ne_eqb _ _ rest.0.0.0.0.0.0.0.0.0.1,
       ne_eqb _ _ rest.0.0.0.0.0.0.0.0.1,

@@ -5,6 +5,7 @@ use Prim.Native.Nat.{◌-◌, ◌≤◌}
 use native.Mathlib.Omega.{arith}
 use Rattle.pgn_list.proofs.Changes.{Kept, kept_not, kept_one, kept_all}
 use Rattle.pgn_list.proofs.Removing.{kept_before, lone_other, lone_same}
+use Rattle.pgn_list.proofs.close_up.Goals.{else-y-x, then-y-x}
 use Rattle.pgn_list.proofs.close_up.Goals as goal
 
 pub loop-i-init : goal.loop-i-init
@@ -13,10 +14,7 @@ loop-i-init c = (c.requires.1.inside, kept_before c.requires.0 c.requires.1)
 pub loop-i-preserved : goal.loop-i-preserved
 loop-i-preserved c = (
   omega arith,
-  ⊎_elim
-      (λ w. rw (w.1, w.2) (kept_one c.requires.0 c.loop-i.invariant.1 (omega arith) (lone_other w.0.taken) refl))
-      (λ w. rw (w.1, w.2) (kept_not c.requires.0 c.loop-i.invariant.1 (omega arith) (lone_same w.0.left) refl))
-      c.if-y-x.branch-raw,
+  elim c.if-y-x.branch [ then-y-x w ↦ rw (w.list-is, w.kept-is) (kept_one c.requires.0 c.loop-i.invariant.1 (omega arith) (lone_other w.if-y-x.true) refl) | else-y-x w ↦ rw (w.list-is, w.kept-is) (kept_not c.requires.0 c.loop-i.invariant.1 (omega arith) (lone_same w.if-y-x.false) refl) ],
 )
 
 pub shape_of-list : goal.shape_of-list

@@ -8,33 +8,25 @@ use Rattle.plan_links.proofs.add.Goals as goal
 
 -- `plan_links::add` meets its contract: by the two tests. Assumes nothing.
 -- on the way of a link in range
-known : (c : tie.Then1) → let args = c.before.before.before.args in link_in_range args.segments args.units args.link ≡ true
-known c = sym c.before.is_in_range.ensures ∙ c.if1.true
-
-in_range_lem : (c : tie.Then1) → let args = c.before.before.before.args in Ranged args.segments args.link
-in_range_lem c =
-    let args = c.before.before.before.args in
-    ranged args.segments args.units args.link (known c)
-
 pub overflow_sub-at : goal.overflow_sub-at
-overflow_sub-at c = omega (arith, in_range_lem c)
+overflow_sub-at c = omega (arith, (ranged c.args.segments c.args.units c.args.link (sym c.is_in_range-known.ensures ∙ c.if-known.true)))
 
 pub overflow_sub-at-then-known : goal.overflow_sub-at-then-known
-overflow_sub-at-then-known c = omega (arith, in_range_lem c)
+overflow_sub-at-then-known c = omega (arith, (ranged c.args.segments c.args.units c.args.link (sym c.is_in_range-known.ensures ∙ c.if-known.true)))
 
 pub bounds-ports-at : goal.bounds-ports-at
-bounds-ports-at c = omega (arith, in_range_lem c)
+bounds-ports-at c = omega (arith, (ranged c.args.segments c.args.units c.args.link (sym c.is_in_range-known.ensures ∙ c.if-known.true)))
 
 pub bounds-ports-at-then-ports-at-eq0 : goal.bounds-ports-at-then-ports-at-eq0
-bounds-ports-at-then-ports-at-eq0 c = omega (arith, in_range_lem c)
+bounds-ports-at-then-ports-at-eq0 c = omega (arith, (ranged c.args.segments c.args.units c.args.link (sym c.is_in_range-known.ensures ∙ c.if-known.true)))
 
 pub returns-then-ports-at-eq0 : goal.returns-then-ports-at-eq0
 returns-then-ports-at-eq0 c = let args = c.args in
-    put_good args.segments args.units args.table args.link (known c) c.if-ports-at-eq0.true
+    put_good args.segments args.units args.table args.link (sym c.is_in_range-known.ensures ∙ c.if-known.true) c.if-ports-at-eq0.true
 
 pub returns-else-ports-at-eq0 : goal.returns-else-ports-at-eq0
 returns-else-ports-at-eq0 c = let args = c.args in
-    put_again args.segments args.units args.table args.link (known c) c.if-ports-at-eq0.false
+    put_again args.segments args.units args.table args.link (sym c.is_in_range-known.ensures ∙ c.if-known.true) c.if-ports-at-eq0.false
 
 pub returns-else-known : goal.returns-else-known
 returns-else-known c = let args = c.args in

@@ -2,6 +2,7 @@ use Rattle.std.proofs.Common.{◌≡◌, ◌-◌, ◌≤◌, take, ⊎_elim, ari
 use Rattle.queue.specs.Queue.{frames_of}
 use Rattle.queue.proofs.Words.{frames_length}
 use Rattle.queue.proofs.Scan.{Scan, scan_start, scan_lower, scan_keep, scan_done}
+use Rattle.queue.proofs.first.Goals.{else-p-low, then-p-low}
 use Rattle.queue.proofs.first.Goals as goal
 
 pub loop-i-init : goal.loop-i-init
@@ -13,10 +14,7 @@ loop-i-preserved c = let loop = c.loop-i in
     let block = c.args.block.now in
     let inside = frames_length block (omega arith) in (
       omega arith,
-      ⊎_elim
-          (λ w. rw (w.1, w.2) (scan_lower (frames_of block) loop.i loop.at loop.low c.priority_at-p.result (omega arith) loop.invariant.1 c.priority_at-p.ensures (omega arith)))
-          (λ w. rw (w.1, w.2) (scan_keep (frames_of block) loop.i loop.at loop.low c.priority_at-p.result (omega arith) loop.invariant.1 c.priority_at-p.ensures (omega arith)))
-          c.if-p-low.branch-raw,
+      elim c.if-p-low.branch [ then-p-low w ↦ rw (w.at-is, w.low-is) (scan_lower (frames_of block) loop.i loop.at loop.low c.priority_at-p.result (omega arith) loop.invariant.1 c.priority_at-p.ensures (omega arith)) | else-p-low w ↦ rw (w.at-is, w.low-is) (scan_keep (frames_of block) loop.i loop.at loop.low c.priority_at-p.result (omega arith) loop.invariant.1 c.priority_at-p.ensures (omega arith)) ],
     )
 
 pub returns : goal.returns

@@ -4,7 +4,7 @@ use native.Mathlib.Omega.{arith}
 use lib.ListN.{get_or}
 use Rattle.storage.proofs.Parts.{range_size}
 use Rattle.addresses.specs.Table.{name_at}
-use Rattle.filter.specs.Filter.{block_size as filterLength}
+use Rattle.filter.specs.Filter.{block_size as filter_length}
 use Rattle.unit.specs.Model.{pair_at, model_of}
 use Rattle.record.proofs.Regions.{first_word, pair_asked}
 use borrow.Author.Rules.{rules}
@@ -13,11 +13,11 @@ use Rattle.record.proofs.ask_filter.Goals as goal
 pub ask_named-requires : goal.ask_named-requires
 ask_named-requires c = let args = c.args in
     let named = leb-true 3 (get_or args.words.now args.a 0) (sym c.has_names.ensures ∙ c.if-has_names.true) in
-    (search rules, rw (range_size args.a filterLength, first_word args.words.now args.a filterLength (omega arith)) named)
+    (search rules, rw (range_size args.a filter_length, first_word args.words.now args.a filter_length (omega arith)) named)
 
 pub returns-then-has_names : goal.returns-then-has_names
 returns-then-has_names c = let args = c.args in
-    let A = rw (range_size args.a filterLength) at c.ask_named.ensures in (
+    let A = rw (range_size args.a filter_length) at c.ask_named.ensures in (
       (λ ports p q h e.
           pair_asked ports args.words.now p q args.pgn (pair_at ports p q) _ c.ask_named.result refl h (rw (e, c.sender-from.ensures ports) at A)),
       A.small,

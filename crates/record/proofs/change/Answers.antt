@@ -1,12 +1,12 @@
 use native.Mathlib.Omega.{arith}
 use Rattle.storage.proofs.Parts.{range_size}
-use Rattle.filter.specs.Filter.{block_size as filterLength}
+use Rattle.filter.specs.Filter.{block_size as filter_length}
 use Rattle.record.proofs.Regions.{pair_judged}
 use borrow.Author.Rules.{rules}
 use Rattle.record.proofs.change.Goals as goal
 
 pub returns : goal.returns
 returns c = let args = c.args in
-    rw (range_size c.filter_at-a.result filterLength, c.filter_at-a.ensures)
+    rw (range_size c.filter_at-a.result filter_length, c.filter_at-a.ensures)
     (pair_judged args.ports args.words.now args.i (search rules) (search rules) c.apply.new.block _ _ (omega arith)
-    (rw (range_size c.filter_at-a.result filterLength, c.filter_at-a.ensures) at c.apply.ensures))
+    (rw (range_size c.filter_at-a.result filter_length, c.filter_at-a.ensures) at c.apply.ensures))

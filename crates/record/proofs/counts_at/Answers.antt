@@ -2,7 +2,7 @@ use mathlib.Core.Path.{◌≡◌, sym, ap, ◌∙◌}
 use Prim.Native.Nat.{◌+◌, ◌*◌}
 use native.Mathlib.Omega.{arith}
 use Rattle.storage.proofs.Parts.{range_size}
-use Rattle.queue.specs.Queue.{Queued, queue_of, block_length as queueLength}
+use Rattle.queue.specs.Queue.{Queued, queue_of, block_length as queue_length}
 use Rattle.unit.specs.Model.{rows_from}
 use Rattle.record.proofs.Regions.{queue_of_lem}
 use borrow.Author.Rules.{rules}
@@ -12,5 +12,5 @@ pub returns : goal.returns
 unfolding queue_of
 returns c = λ ports more.
     let args = c.args in
-    (rw (range_size (rows_from + queueLength * args.q) queueLength) at c.counts.ensures)
+    (rw (range_size (rows_from + queue_length * args.q) queue_length) at c.counts.ensures)
     ∙ sym (ap (λ (x : Queued). x.tally) (queue_of_lem args.words.now args.q (search rules) ports more))

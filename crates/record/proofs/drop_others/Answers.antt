@@ -4,4 +4,4 @@ use borrow.Author.Rules.{rules}
 use Rattle.record.proofs.drop_others.Goals as goal
 
 pub returns : goal.returns
-returns c = λ ports. table_changed c.args.words.now c.drop_others.new.words (search rules) (omega arith) ports _ c.drop_others.ensures.table
+returns c = λ ports. table_changed c.args.words.now c.drop_others.new.table (search rules) (omega arith) ports _ c.drop_others.ensures.table

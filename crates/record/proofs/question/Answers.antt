@@ -1,5 +1,5 @@
 use Rattle.storage.proofs.Parts.{range_size}
-use Rattle.filter.specs.Filter.{block_size as filterLength}
+use Rattle.filter.specs.Filter.{block_size as filter_length}
 use Rattle.record.proofs.Regions.{pair_of}
 use borrow.Author.Rules.{rules}
 use Rattle.record.proofs.question.Goals as goal
@@ -7,4 +7,4 @@ use Rattle.record.proofs.question.Goals as goal
 pub returns : goal.returns
 returns c = let args = c.args in
     rw (pair_of args.ports args.words.now args.i (search rules) (search rules))
-    (rw (range_size c.filter_at-a.result filterLength, c.filter_at-a.ensures) at c.answer.ensures)
+    (rw (range_size c.filter_at-a.result filter_length, c.filter_at-a.ensures) at c.answer.ensures)

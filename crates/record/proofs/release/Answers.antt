@@ -4,4 +4,4 @@ use borrow.Author.Rules.{rules}
 use Rattle.record.proofs.release.Goals as goal
 
 pub returns : goal.returns
-returns c = λ ports. table_changed c.args.words.now c.release.new.words (search rules) (omega arith) ports _ c.release.ensures
+returns c = λ ports. table_changed c.args.words.now c.release.new.table (search rules) (omega arith) ports _ c.release.ensures

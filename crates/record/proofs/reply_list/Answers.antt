@@ -1,5 +1,5 @@
 use Rattle.storage.proofs.Parts.{range_size}
-use Rattle.filter.specs.Filter.{block_size as filterLength}
+use Rattle.filter.specs.Filter.{block_size as filter_length}
 use Rattle.record.proofs.Regions.{pair_of}
 use borrow.Author.Rules.{rules}
 use Rattle.record.proofs.reply_list.Goals as goal
@@ -8,4 +8,4 @@ pub returns : goal.returns
 returns c = let args = c.args in
     let i = c.pair_at-i.result in
     rw (← c.pair_at-i.ensures.0, pair_of args.ports args.words.now i (search rules) c.pair_at-i.ensures.1)
-    (rw (range_size c.filter_at-a.result filterLength, c.filter_at-a.ensures) at c.reply_list.ensures)
+    (rw (range_size c.filter_at-a.result filter_length, c.filter_at-a.ensures) at c.reply_list.ensures)

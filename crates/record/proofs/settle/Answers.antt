@@ -4,4 +4,4 @@ use borrow.Author.Rules.{rules}
 use Rattle.record.proofs.settle.Goals as goal
 
 pub returns : goal.returns
-returns c = λ ports. table_changed c.args.words.now c.settle.new.words (search rules) (omega arith) ports _ c.settle.ensures
+returns c = λ ports. table_changed c.args.words.now c.settle.new.table (search rules) (omega arith) ports _ c.settle.ensures

@@ -4,11 +4,11 @@ use Rattle.storage.proofs.Parts.{range_size}
 use Rattle.record.proofs.Regions.{row_taken}
 use borrow.Author.Rules.{rules}
 use Rattle.unit.specs.Model.{rows_from}
-use Rattle.queue.specs.Queue.{block_length as queueLength}
+use Rattle.queue.specs.Queue.{block_length as queue_length}
 use Rattle.record.proofs.take_row.Goals as goal
 
 pub returns : goal.returns
 returns c = let args = c.args in
-    λ ports more. rw (range_size (rows_from + queueLength * args.q) queueLength)
-    (row_taken args.words.now args.q (search rules) ports more c.take.new.words (omega arith) c.take.result
-    (rw (range_size (rows_from + queueLength * args.q) queueLength) at c.take.ensures))
+    λ ports more. rw (range_size (rows_from + queue_length * args.q) queue_length)
+    (row_taken args.words.now args.q (search rules) ports more c.take.new.block (omega arith) c.take.result
+    (rw (range_size (rows_from + queue_length * args.q) queue_length) at c.take.ensures))

@@ -4,4 +4,4 @@ use borrow.Author.Rules.{rules}
 use Rattle.record.proofs.withdraw.Goals as goal
 
 pub returns : goal.returns
-returns c = λ ports. table_claimed c.args.words.now c.withdraw.new.words (search rules) (omega arith) ports _ c.withdraw.ensures.table _ c.withdraw.result c.withdraw.ensures.event
+returns c = λ ports. table_claimed c.args.words.now c.withdraw.new.table (search rules) (omega arith) ports _ c.withdraw.ensures.table _ c.withdraw.result c.withdraw.ensures.event

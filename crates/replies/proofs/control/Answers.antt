@@ -12,4 +12,4 @@ returns-in-11 c = rw c.in-11.is
 
 pub returns-in_default : goal.returns-in_default
 unfolding control_of
-returns-in_default c = simp (ne_eqb _ _ c.in_default.rest.0.1, ne_eqb _ _ c.in_default.rest.1)
+returns-in_default c = simp (ne_eqb _ _ c.in_default.in_default-own.rest.0.1, ne_eqb _ _ c.in_default.in_default-own.rest.1)

@@ -20,4 +20,4 @@ pub slice_bounds-ask_through-end : goal.slice_bounds-ask_through-end
 slice_bounds-ask_through-end c = omega (arith, talk_long c.args.words.now)
 
 pub returns : goal.returns
-returns c = changed c.args.words.now c.args.i c.ask_through.new.words (asking c.args.through) c.requires.0 c.requires.1 (search rules) c.ask_through.ensures
+returns c = changed c.args.words.now c.args.i c.ask_through.new.block (asking c.args.through) c.requires.0 c.requires.1 (search rules) c.ask_through.ensures

@@ -21,4 +21,4 @@ pub slice_bounds-fill-end : goal.slice_bounds-fill-end
 slice_bounds-fill-end c = omega (arith, talk_long c.args.words.now)
 
 pub returns : goal.returns
-returns c = changed c.args.words.now c.args.i c.fill.new.words (with_packets (cut_words c.args.bytes.now)) c.requires.0 c.requires.1 (search rules) c.fill.ensures
+returns c = changed c.args.words.now c.args.i c.fill.new.block (with_packets (cut_words c.args.bytes.now)) c.requires.0 c.requires.1 (search rules) c.fill.ensures

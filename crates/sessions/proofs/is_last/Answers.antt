@@ -1,5 +1,5 @@
 use Rattle.sessions.proofs.Talk.{talk_long, place_is}
-use Rattle.session.specs.Session.{isLast}
+use Rattle.session.specs.Session.{is_last}
 use native.Mathlib.Omega.{arith}
 use mathlib.Core.Path.{ap, ◌∙◌}
 use borrow.Author.Rules.{rules}
@@ -22,4 +22,4 @@ slice_bounds-is_last-end c = omega (arith, talk_long c.args.words.now)
 
 pub returns : goal.returns
 returns c = let here = place_is c.args.words.now c.args.i c.requires.1 in
-    c.is_last.ensures ∙ ap isLast here
+    c.is_last.ensures ∙ ap is_last here

@@ -11,5 +11,5 @@ use Rattle.sessions.proofs.open.Goals as goal
 pub returns : goal.returns
 returns c = let words = c.args.words.now in
     let got = c.count-n in
-    let put = block_back words got.result (omega arith) c.«open».new.0 c.requires.0 (search rules) ∙ ap (λ (s : Session). set (blocks_in words) got.result s) c.«open».ensures in
+    let put = block_back words got.result (omega arith) c.open.new.block c.requires.0 (search rules) ∙ ap (λ (s : Session). set (blocks_in words) got.result s) c.open.ensures in
     opens words _ got.result _ (search rules) got.ensures.0 (omega arith) put

@@ -8,8 +8,8 @@ use borrow.Author.Rules.{rules}
 use Rattle.sessions.proofs.open_reply.Goals as goal
 
 pub fill-requires : goal.fill-requires
-fill-requires c = let long = one_more_lem (talk_of c.args.words.now) (opened 2 c.args.peer (length c.args.bytes.now) 0 0 1250 c.args.time) c.«open».ensures in
+fill-requires c = let long = one_more_lem (talk_of c.args.words.now) (opened 2 c.args.peer (length c.args.bytes.now) 0 0 1250 c.args.time) c.open.ensures in
     (search rules, omega (arith, c.count-n.ensures.0), c.requires.3)
 
 pub returns : goal.returns
-returns c = sends (talk_of c.args.words.now) (opened 2 c.args.peer (length c.args.bytes.now) 0 0 1250 c.args.time) (with_packets (cut_words c.args.bytes.now)) c.count-n.result c.count-n.ensures.0 c.«open».ensures c.fill.ensures
+returns c = sends (talk_of c.args.words.now) (opened 2 c.args.peer (length c.args.bytes.now) 0 0 1250 c.args.time) (with_packets (cut_words c.args.bytes.now)) c.count-n.result c.count-n.ensures.0 c.open.ensures c.fill.ensures

@@ -15,15 +15,15 @@ returns-then-i-ge-MOST c = let args = c.args in
 
 pub returns-then-not-is_right : goal.returns-then-not-is_right
 returns-then-not-is_right c = let args = c.args in
-    wrong args.words.now args.i args.peer args.size args.packets args.limit args.time (omega arith) (sym c.is_right.ensures ∙ not-true c.is_right.result c.if-not-is_right.true)
+    wrong args.words.now args.i args.peer args.size args.packets args.limit args.time (omega arith) (sym c.is_right.ensures ∙ c.if-not-is_right.true)
 
 pub open-requires : goal.open-requires
 open-requires c = let args = c.args in
     let few : length (talk_of args.words.now) ≤ 4 = omega (arith, talk_long args.words.now) in
     let left : length (talk_of c.drop_at.new.words) < 4 = rw c.drop_at.ensures (room args.i (talk_of args.words.now) few (omega arith)) in
-    (search rules, left, omega arith, c.requires.2, right_bounds args.size args.packets (sym c.is_right.ensures ∙ not-false c.is_right.result c.if-not-is_right.false), omega (arith, c.least-most.ensures))
+    (search rules, left, omega arith, c.requires.2, right_bounds args.size args.packets (sym c.is_right.ensures ∙ c.if-not-is_right.false), omega (arith, c.least-most.ensures))
 
 pub returns : goal.returns
 returns c = let args = c.args in
-    opened_for args.words.now args.i args.peer args.size args.packets args.limit args.time (omega arith) c.least-most.result c.least-c.result (sym c.is_right.ensures ∙ not-false c.is_right.result c.if-not-is_right.false) c.least-most.ensures c.least-c.ensures
-    (rw c.drop_at.ensures at c.«open».ensures)
+    opened_for args.words.now args.i args.peer args.size args.packets args.limit args.time (omega arith) c.least-most.result c.least-c.result (sym c.is_right.ensures ∙ c.if-not-is_right.false) c.least-most.ensures c.least-c.ensures
+    (rw c.drop_at.ensures at c.open.ensures)

@@ -20,4 +20,4 @@ pub slice_bounds-set_timer-end : goal.slice_bounds-set_timer-end
 slice_bounds-set_timer-end c = omega (arith, talk_long c.args.words.now)
 
 pub returns : goal.returns
-returns c = changed c.args.words.now c.args.i c.set_timer.new.words (timed c.args.timer c.args.since) c.requires.0 c.requires.1 (search rules) c.set_timer.ensures
+returns c = changed c.args.words.now c.args.i c.set_timer.new.block (timed c.args.timer c.args.since) c.requires.0 c.requires.1 (search rules) c.set_timer.ensures

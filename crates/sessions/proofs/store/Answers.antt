@@ -20,4 +20,4 @@ pub slice_bounds-store-end : goal.slice_bounds-store-end
 slice_bounds-store-end c = omega (arith, talk_long c.args.words.now)
 
 pub returns : goal.returns
-returns c = changed c.args.words.now c.args.i c.store.new.words (with_packet c.args.word) c.requires.0 c.requires.1 (search rules) c.store.ensures
+returns c = changed c.args.words.now c.args.i c.store.new.block (with_packet c.args.word) c.requires.0 c.requires.1 (search rules) c.store.ensures

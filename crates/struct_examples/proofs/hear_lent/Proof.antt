@@ -50,9 +50,9 @@ use Rattle.plan_links.specs.contracts.Link as T
 use Rattle.plan_links.proofs.Link.TheLaws as T'
 use Rattle.deorasaeng.specs.PlanCalls.{LinksCall}
 use Rattle.deorasaeng.specs.contracts.deorasaeng_plan_links as ask
-use Rattle.deorasaeng.proofs.deorasaeng_plan_links.Symbol as ask-def
+use Rattle.deorasaeng.proofs.deorasaeng_plan_links.Symbol as ask_def
 use Rattle.deorasaeng.proofs.deorasaeng_plan_links.Symbol.{name as #ask}
-use Rattle.deorasaeng.proofs.deorasaeng_plan_links.Met as ask-thm
+use Rattle.deorasaeng.proofs.deorasaeng_plan_links.Met as ask_thm
 use Rattle.struct_examples.proofs.Lends.{lies, back, lends_all}
 use Rattle.struct_examples.specs.contracts.hear_lent.Key.{name as #hear-lent}
 use Rattle.struct_examples.specs.contracts.hear_lent as f
@@ -215,4 +215,4 @@ hear_lent_spec 𝓤 𝓛 𝓜 𝓡 =
     entered 𝓤 𝓛.H (triple_of 𝓛 f.signature (f.spec 𝓛 𝓜.mem 𝓡.run))
     (tables 𝓤 𝓛.H 𝓜 𝓡 code.env).C (tables 𝓤 𝓛.H 𝓜 𝓡 code.env).Λ #hear-lent code.function (code.unfolded 𝓤 𝓛.H 𝓜 𝓡)
     (meets 𝓛 𝓜.mem 𝓡.run (tables_of 𝓤 𝓛.H 𝓜 (tables 𝓤 𝓛.H 𝓜 𝓡 code.env))
-    (cited 𝓤 𝓛.H (Ask 𝓛 𝓜.mem 𝓡.run) 𝓜 𝓡 code.env #ask ask-def.routine code.calls-deorasaeng::deorasaeng-plan-links (ask-thm.met 𝓤 𝓛 𝓜 𝓡)))
+    (cited 𝓤 𝓛.H (Ask 𝓛 𝓜.mem 𝓡.run) 𝓜 𝓡 code.env #ask ask_def.routine code.calls-deorasaeng::deorasaeng-plan-links (ask_thm.met 𝓤 𝓛 𝓜 𝓡)))

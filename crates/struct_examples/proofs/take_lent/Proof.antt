@@ -48,9 +48,9 @@ use Rattle.queue.proofs.Values.{queue}
 use Rattle.deorasaeng.specs.Interface.{QueueCall}
 use Rattle.deorasaeng.proofs.Values.{number}
 use Rattle.deorasaeng.specs.contracts.deorasaeng_take_queue as take
-use Rattle.deorasaeng.proofs.deorasaeng_take_queue.Symbol as take-def
+use Rattle.deorasaeng.proofs.deorasaeng_take_queue.Symbol as take_def
 use Rattle.deorasaeng.proofs.deorasaeng_take_queue.Symbol.{name as #take}
-use Rattle.deorasaeng.proofs.deorasaeng_take_queue.Met as take-thm
+use Rattle.deorasaeng.proofs.deorasaeng_take_queue.Met as take_thm
 use Rattle.struct_examples.specs.declared.AfterTake.{AfterTake}
 use Rattle.struct_examples.specs.contracts.AfterTake as K
 use Rattle.struct_examples.proofs.AfterTake.TheLaws as K'
@@ -190,4 +190,4 @@ take_lent_spec 𝓤 𝓛 𝓜 𝓡 =
     entered 𝓤 𝓛.H (triple_of 𝓛 f.signature (f.spec 𝓛 𝓜.mem 𝓡.run))
     (tables 𝓤 𝓛.H 𝓜 𝓡 code.env).C (tables 𝓤 𝓛.H 𝓜 𝓡 code.env).Λ #take-lent code.function (code.unfolded 𝓤 𝓛.H 𝓜 𝓡)
     (meets 𝓛 𝓜.mem 𝓡.run (tables_of 𝓤 𝓛.H 𝓜 (tables 𝓤 𝓛.H 𝓜 𝓡 code.env))
-    (cited 𝓤 𝓛.H (Take 𝓛 𝓜.mem 𝓡.run) 𝓜 𝓡 code.env #take take-def.routine code.calls-deorasaeng::deorasaeng-take-queue (take-thm.met 𝓤 𝓛 𝓜 𝓡)))
+    (cited 𝓤 𝓛.H (Take 𝓛 𝓜.mem 𝓡.run) 𝓜 𝓡 code.env #take take_def.routine code.calls-deorasaeng::deorasaeng-take-queue (take_thm.met 𝓤 𝓛 𝓜 𝓡)))

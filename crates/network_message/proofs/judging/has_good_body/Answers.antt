@@ -16,11 +16,11 @@ returns-in-7 c = rw c.in-7.is
 pub returns-in_default : goal.returns-in_default
 unfolding has_good_body
 returns-in_default c = let rest = c.in_default-1.rest in
-    let none = ⊎_elim (λ l. entries_none rest.0.1 (λ h _. omega (arith, l.taken))) (λ l. entries_none rest.0.1 (λ _ h. omega (arith, l.1.left))) c.in_default.branch-raw in
+    let none = ⊎_elim (λ l. entries_none rest.0.1 (λ h _. omega arith)) (λ l. entries_none rest.0.1 (λ _ h. omega arith)) c.in_default.branch-raw in
     rw (none, ne_eqb _ 7 rest.1)
 
 pub returns-in-2 : goal.returns-in-2
 unfolding has_good_body listed
 returns-in-2 c = let function = c.args.function in
-    let some : has_entries function ≡ true = ⊎_elim (λ k. rw k.keys1) (λ k. some_entries function k.1.left k.2.taken) c.in-2-1.branch-raw in
+    let some : has_entries function ≡ true = ⊎_elim (λ k. rw k.in-6-1.keys1) (λ k. some_entries function (omega arith) (omega arith)) c.in-2-1.branch-raw in
     rw (some, ← c.entries_start.ensures.0) c.holds_entries.ensures

@@ -15,4 +15,4 @@ returns-in-130 c = sym (reset_held c.args.parameter c.in-130.is)
 pub returns-in_default : goal.returns-in_default
 unfolding holds_parameter
 returns-in_default c = let function = c.args.function in
-    rw (listed_none function 128 (131 ∷ []) c.in_default.rest.0.1, listed_none function 130 (133 ∷ []) c.in_default.rest.1)
+    rw (listed_none function 128 (131 ∷ []) c.in_default.in_default-own.rest.0.1, listed_none function 130 (133 ∷ []) c.in_default.in_default-own.rest.1)

@@ -5,10 +5,10 @@ use Rattle.network_message.proofs.Keys.{held_none, some_held}
 use Rattle.network_message.proofs.judging.is_held.Goals as goal
 
 pub returns-in_default : goal.returns-in_default
-returns-in_default c = sym (held_none c.in_default-1.rest.1 (λ l h. omega arith))
+returns-in_default c = sym (held_none c.in_default.in_default-own.rest.1 (λ l h. omega arith))
 
 pub returns-in_default-2 : goal.returns-in_default-2
-returns-in_default-2 c = sym (held_none c.in_default-1.rest.1 (λ l h. omega arith))
+returns-in_default-2 c = sym (held_none c.in_default.in_default-own.rest.1 (λ l h. omega arith))
 
 pub returns-in-1 : goal.returns-in-1
 unfolding listed

@@ -50,7 +50,7 @@ returns-in-133 c = rw c.in-133.is
 
 pub returns-in_default : goal.returns-in_default
 unfolding is_known listed
-returns-in_default c = let rest = c.in_default.rest in
+returns-in_default c = let rest = c.in_default.in_default-own.rest in
     simp (
       ne_eqb _ _ (λ e. rest.0.0.0.0.0.0.0.0.0.0.1 (sym e)),
       ne_eqb _ _ (λ e. rest.0.0.0.0.0.0.0.0.0.1 (sym e)),

@@ -6,10 +6,10 @@ use Rattle.network_message.proofs.Keys.{all_none, some_all}
 use Rattle.network_message.proofs.judging.may_be_all.Goals as goal
 
 pub returns-in_default : goal.returns-in_default
-returns-in_default c = sym (all_none c.in_default-1.rest.1 (λ l h. omega arith))
+returns-in_default c = sym (all_none c.in_default.in_default-own.rest.1 (λ l h. omega arith))
 
 pub returns-in_default-2 : goal.returns-in_default-2
-returns-in_default-2 c = sym (all_none c.in_default-1.rest.1 (λ l h. omega arith))
+returns-in_default-2 c = sym (all_none c.in_default.in_default-own.rest.1 (λ l h. omega arith))
 
 pub returns-in-2 : goal.returns-in-2
 unfolding may_be_all listed

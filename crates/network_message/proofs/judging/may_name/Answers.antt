@@ -22,5 +22,5 @@ returns-in-64 c = simp (ne_eqb _ _ c.if-port-eq1.false, c.in-64.is) (sym (or-fal
 
 pub returns-in_default : goal.returns-in_default
 unfolding may_name is_general
-returns-in_default c = let rest = c.in_default.rest in
+returns-in_default c = let rest = c.in_default.in_default-own.rest in
     simp (ne_eqb _ _ c.if-port-eq1.false, listed_none c.args.function 128 (130 ∷ []) rest.0.1, ne_eqb _ _ rest.1) c.all_touch.ensures

@@ -16,5 +16,5 @@ returns-in-64 c = simp c.in-64.is c.is_port.ensures
 
 pub returns-in_default : goal.returns-in_default
 unfolding names_ports is_general
-returns-in_default c = let rest = c.in_default.rest in
+returns-in_default c = let rest = c.in_default.in_default-own.rest in
     simp (listed_none c.args.function 128 (130 ∷ []) rest.0.1, ne_eqb _ _ rest.1) c.is_pair.ensures

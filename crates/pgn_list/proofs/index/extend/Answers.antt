@@ -9,6 +9,7 @@ use Rattle.storage.proofs.Walk.{left_all}
 use Rattle.pgn_list.specs.Slots.{Indexed}
 use Rattle.pgn_list.proofs.Slots.{indexed_none, indexed_new}
 use Rattle.pgn_list.proofs.Changes.{Held, held_listed, held_new, held_over, held_all}
+use Rattle.pgn_list.proofs.index.extend.Goals.{else-not-is_listed, then-not-is_listed+else-held-eq-LIST_SIZE}
 use Rattle.pgn_list.proofs.index.extend.Goals as goal
 
 pub note_list-requires : goal.note_list-requires
@@ -21,16 +22,16 @@ pub is_listed-requires : goal.is_listed-requires
 is_listed-requires c = (omega arith, c.loop-i.invariant.1)
 
 pub returns-then-held-eq-LIST_SIZE : goal.returns-then-held-eq-LIST_SIZE
-returns-then-held-eq-LIST_SIZE c = held_over c.loop-i.invariant.0 (omega arith) c.entry_at-x.ensures (sym c.is_listed.ensures ∙ not-true _ c.if-not-is_listed.true) c.if-held-eq-LIST_SIZE.true
+returns-then-held-eq-LIST_SIZE c = held_over c.loop-i.invariant.0 (omega arith) c.entry_at-x.ensures (sym c.is_listed.ensures ∙ c.if-not-is_listed.true) c.if-held-eq-LIST_SIZE.true
 
 pub loop-i-preserved : goal.loop-i-preserved
-loop-i-preserved c = ⊎_elim
-    (λ w. rw (w.4, w.5, w.6, w.3.ensures) (
-      held_new c.loop-i.invariant.0 (omega arith) c.entry_at-x.ensures (sym c.is_listed.ensures ∙ not-true _ w.0.taken) w.1.left,
-      indexed_new c.entry_at-x.result c.loop-i.invariant.1 (omega arith) (omega arith) (omega arith),
-    ))
-    (λ w. rw (w.1, w.2, w.3) (held_listed c.loop-i.invariant.0 (omega arith) c.entry_at-x.ensures (sym c.is_listed.ensures ∙ not-false _ w.0.left), c.loop-i.invariant.1))
-    c.if-not-is_listed.branch-raw
+loop-i-preserved c = elim c.if-not-is_listed.branch [
+  | then-not-is_listed+else-held-eq-LIST_SIZE w ↦ rw (w.list-is, w.index-is, w.held-is, w.note.ensures) (
+    held_new c.loop-i.invariant.0 (omega arith) c.entry_at-x.ensures (sym c.is_listed.ensures ∙ w.if-not-is_listed.true) w.if-held-eq-LIST_SIZE.false,
+    indexed_new c.entry_at-x.result c.loop-i.invariant.1 (omega arith) (omega arith) (omega arith),
+  )
+  | else-not-is_listed w ↦ rw (w.list-is, w.index-is, w.held-is) (held_listed c.loop-i.invariant.0 (omega arith) c.entry_at-x.ensures (sym c.is_listed.ensures ∙ w.if-not-is_listed.false), c.loop-i.invariant.1)
+]
 
 pub returns : goal.returns
 returns c = held_all c.loop-i.invariant.0 (omega arith)

@@ -6,6 +6,7 @@ use borrow.Author.Tests.{not-true, not-false}
 use Rattle.entries.specs.Entries.{entries_of}
 use Rattle.pgn_list.proofs.Slots.{indexed_none}
 use Rattle.pgn_list.proofs.Changes.{Kept, kept_none, kept_not, kept_one, kept_all}
+use Rattle.pgn_list.proofs.index.keep_others.Goals.{else-not-is_named, then-not-is_named}
 use Rattle.pgn_list.proofs.index.keep_others.Goals as goal
 
 pub note_entries-requires : goal.note_entries-requires
@@ -20,10 +21,7 @@ is_named-requires c = c.note_entries.ensures
 pub loop-i-preserved : goal.loop-i-preserved
 loop-i-preserved c = (
   omega arith,
-  ⊎_elim
-      (λ w. rw (w.1, w.2) (kept_one c.requires c.loop-i.invariant.1 (omega arith) c.is_named.ensures (not-true _ w.0.taken)))
-      (λ w. rw (w.1, w.2) (kept_not c.requires c.loop-i.invariant.1 (omega arith) c.is_named.ensures (not-false _ w.0.left)))
-      c.if-not-is_named.branch-raw,
+  elim c.if-not-is_named.branch [ then-not-is_named w ↦ rw (w.list-is, w.kept-is) (kept_one c.requires c.loop-i.invariant.1 (omega arith) c.is_named.ensures w.if-not-is_named.true) | else-not-is_named w ↦ rw (w.list-is, w.kept-is) (kept_not c.requires c.loop-i.invariant.1 (omega arith) c.is_named.ensures w.if-not-is_named.false) ],
 )
 
 pub shape_of-list : goal.shape_of-list

@@ -20,10 +20,10 @@ pub is_listed-requires : goal.is_listed-requires
 is_listed-requires c = (omega arith, c.note_list.ensures)
 
 pub returns-then-not-is_listed : goal.returns-then-not-is_listed
-returns-then-not-is_listed c = sym (every_not _ c.loop-i.invariant (omega arith) c.entry_at-x.ensures (sym c.is_listed.ensures ∙ not-true _ c.if-not-is_listed.true))
+returns-then-not-is_listed c = sym (every_not _ c.loop-i.invariant (omega arith) c.entry_at-x.ensures (sym c.is_listed.ensures ∙ c.if-not-is_listed.true))
 
 pub loop-i-preserved : goal.loop-i-preserved
-loop-i-preserved c = every_on _ c.loop-i.invariant (omega arith) c.entry_at-x.ensures (sym c.is_listed.ensures ∙ not-false _ c.if-not-is_listed.false)
+loop-i-preserved c = every_on _ c.loop-i.invariant (omega arith) c.entry_at-x.ensures (sym c.is_listed.ensures ∙ c.if-not-is_listed.false)
 
 pub returns : goal.returns
 unfolding every

@@ -1,0 +1,32 @@
+-- `from_segment` and `from_unit`, which call each other, meet their contracts. The measure of both is the number of unvisited units and segments: each marks one
+-- before it calls the other. Assumes nothing.
+use native.Mathlib.Omega.{arith}
+use Prim.Native.Nat.{◌+◌, ◌-◌, ◌*◌, ◌<◌}
+use mathlib.Core.Path.{◌≡◌, sym, ◌∙◌}
+use mathlib.Core.Logic.{⊎_elim}
+use lib.ListN.{get_or}
+use Rattle.plan_shape.specs.Plan.{plan_of}
+use Rattle.plan_walk.specs.Walk.{unit_place, unvisited}
+use Rattle.plan_walk.proofs.Marks.{falls_to}
+use Rattle.plan_walk.proofs.Bits.{shifted}
+use Rattle.plan_walk.proofs.Turns.{FromSegment, FromUnit, walk_marked, walk_told, unit_start, unit_past, unit_more, unit_done, segment_start, segment_past, segment_more, segment_next, segment_done}
+use Rattle.plan_walk.proofs.+from_segment_from_unit.Given as goal
+
+abbrev pub decreases-from_segment : goal.decreases-from_segment
+decreases-from_segment l = unvisited l.visited.now
+
+abbrev pub decreases-from_unit : goal.decreases-from_unit
+decreases-from_unit l = unvisited l.visited.now
+
+abbrev pub invariant-from_segment-loop-link : goal.invariant-from_segment-loop-link
+invariant-from_segment-loop-link l =
+    FromSegment (plan_of l.units l.ports l.lists) l.pgn l.chain l.initial.visited l.initial.all l.segment l.visited l.all l.link × (l.link < l.end → get_or l.ports l.link 0 ≡ l.segment)
+
+abbrev pub decreases-from_segment-loop-link : goal.decreases-from_segment-loop-link
+decreases-from_segment-loop-link l = l.end - l.link
+
+abbrev pub invariant-from_unit-loop-port : goal.invariant-from_unit-loop-port
+invariant-from_unit-loop-port l = FromUnit (plan_of l.units l.ports l.lists) l.pgn l.chain l.initial.visited l.initial.all l.unit l.entered l.visited l.all l.port
+
+abbrev pub decreases-from_unit-loop-port : goal.decreases-from_unit-loop-port
+decreases-from_unit-loop-port l = 8 - l.port
