@@ -1,3 +1,4 @@
+-- `address_claims::drop_others` meets its contract. The loop's invariant is `Passed`: the places passed are as the drop leaves them. Assumes nothing.
 use mathlib.Core.Logic.{⊎_elim}
 use Prim.Native.Nat.{◌+◌, ◌-◌, zero-le}
 use native.Mathlib.Omega.{arith}

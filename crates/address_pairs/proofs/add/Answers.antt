@@ -1,3 +1,4 @@
+-- `address_pairs::add` meets its contract: refused, or the table is lent and comes back with one more pair. Assumes nothing.
 use mathlib.Core.Path.{sym, ◌∙◌}
 use Prim.Native.Nat.{◌-◌, ◌*◌}
 use Rattle.storage.proofs.Parts.{range_size}

@@ -1,3 +1,4 @@
+-- `address_pairs::address_at` meets its contract: a word below 254 is its own remainder. Assumes nothing.
 use native.Mathlib.Omega.{arith}
 use Rattle.address_pairs.proofs.Looking.{side_word}
 use borrow.Author.Rules.{rules}

@@ -1,3 +1,4 @@
+-- `address_pairs::any_outer` meets its contract: one table after the other. Assumes nothing.
 use Prim.Native.Nat.{◌-◌}
 use mathlib.Core.Path.{sym, ◌∙◌}
 use native.Mathlib.Omega.{arith}

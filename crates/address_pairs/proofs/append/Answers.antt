@@ -1,3 +1,4 @@
+-- `address_pairs::append` meets its contract: two words and the count are stored. Assumes nothing.
 use native.Mathlib.Omega.{arith}
 use lib.ListN.{length-set}
 use Rattle.address_pairs.proofs.Appending.{appended}

@@ -1,3 +1,4 @@
+-- `address_pairs::count` meets its contract: a count above sixteen is sixteen. Assumes nothing.
 use native.Mathlib.Omega.{arith}
 use Rattle.address_pairs.proofs.Looking.{counted}
 use borrow.Author.Rules.{rules}

@@ -1,3 +1,4 @@
+-- `address_pairs::look_up` meets its contract: the pairs are compared one after the other. Assumes nothing.
 use Prim.Native.Nat.{◌-◌}
 use mathlib.Core.Path.{sym, ◌∙◌}
 use native.Mathlib.Omega.{arith}

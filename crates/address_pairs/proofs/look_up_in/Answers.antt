@@ -1,3 +1,4 @@
+-- `address_pairs::look_up_in` meets its contract: the table is lent. Assumes nothing.
 use Prim.Native.Nat.{◌*◌}
 use Rattle.storage.proofs.Parts.{range_size}
 use Rattle.address_pairs.specs.AddressPairs.{pairs_length}

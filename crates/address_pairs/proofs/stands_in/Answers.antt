@@ -1,3 +1,4 @@
+-- `address_pairs::stands_in` meets its contract: it stands there if a look-up gives something. Assumes nothing.
 use mathlib.Core.List.{[]}
 use Prim.Native.Nat.{◌-◌}
 use lib.ListN.{get_or}

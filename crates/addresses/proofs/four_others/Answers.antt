@@ -1,3 +1,4 @@
+-- `addresses::four_others` meets its contract: each of the four words was compared. Assumes nothing.
 use mathlib.Core.Bool.{false≢true}
 use native.Mathlib.Omega.{arith}
 use Rattle.addresses.proofs.Skipping.{four_read}

@@ -1,3 +1,4 @@
+-- `addresses::list_on` meets its contract. The loop's invariant is `Written`: the addresses passed are listed, the rest of the buffer is as it was. Assumes nothing.
 use mathlib.Core.Logic.{⊎_elim}
 use Prim.Native.Nat.{◌-◌}
 use native.Mathlib.Omega.{arith}

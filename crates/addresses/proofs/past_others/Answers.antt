@@ -1,3 +1,4 @@
+-- `addresses::past_others` meets its contract: a loop that passes over four others at a time. Assumes nothing.
 use Prim.Native.Nat.{◌-◌}
 use native.Mathlib.Omega.{arith}
 use Rattle.addresses.specs.Table.{places}

@@ -1,3 +1,4 @@
+-- `run` meets its contract: the steps so far are a run once the rest is run behind them. Assumes nothing.
 use mathlib.Core.Path.{◌≡◌}
 use mathlib.Core.Bool.{cond}
 use Prim.Native.Nat.{◌+◌, ◌-◌, ◌*◌, ◌≤◌}

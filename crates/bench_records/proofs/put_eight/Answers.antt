@@ -1,3 +1,4 @@
+-- `put_eight` meets its contract. The invariant: the bytes passed are written. Assumes nothing.
 use mathlib.Core.Path.{◌≡◌}
 use Prim.Native.Nat.{◌+◌, ◌-◌, ◌≤◌}
 use lib.ListN.{length, take}

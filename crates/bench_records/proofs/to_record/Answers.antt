@@ -1,3 +1,4 @@
+-- `to_record` meets its contract: refused, or the record of the frame that the line is. Assumes nothing.
 use mathlib.Core.Path.{◌≡◌, sym, ◌∙◌}
 use native.Mathlib.Omega.{arith}
 use Rattle.bench_records.proofs.Records.{record_no_room, record_refused, record_written, read_good}

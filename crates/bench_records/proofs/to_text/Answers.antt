@@ -1,3 +1,4 @@
+-- `to_text` meets its contract: refused, or the line of the record. Assumes nothing.
 use borrow.Author.Rules.{rules}
 use native.Mathlib.Omega.{arith}
 use mathlib.Core.Path.{◌≡◌, sym, ◌∙◌}

@@ -1,3 +1,4 @@
+-- `word_of` meets its contract: the bytes up to the length, or all eight. Assumes nothing.
 use borrow.Author.Rules.{rules}
 use mathlib.Core.Path.{◌≡◌, sym, ◌∙◌}
 use Rattle.bench_records.proofs.Records.{word_long, word_short}

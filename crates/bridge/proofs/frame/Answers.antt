@@ -1,3 +1,4 @@
+-- `bridge::frame` meets its contract: refused, or passed on as it was handed in. Assumes nothing.
 use mathlib.Core.Path.{refl, sym, ◌∙◌}
 use native.Mathlib.Omega.{arith}
 use lib.ListN.{length}

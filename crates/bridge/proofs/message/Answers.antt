@@ -1,3 +1,4 @@
+-- `bridge::message` meets its contract: refused before the payload is read, or what it asks is done and answered. Assumes nothing.
 use mathlib.Core.Path.{sym, ◌∙◌}
 use native.Mathlib.Omega.{arith}
 use lib.ListN.{length}

@@ -1,3 +1,4 @@
+-- `bridge::quiet` meets its contract, by the way that the code went. Assumes nothing.
 use mathlib.Core.Path.{sym, ◌∙◌}
 use native.Mathlib.Omega.{arith}
 use Rattle.bridge.proofs.Answers.{quiet_short, quiet_wrong, quieted}

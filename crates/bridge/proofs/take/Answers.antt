@@ -1,3 +1,4 @@
+-- `bridge::take` meets its contract, by what the refusal and the take on the queue ensure. Assumes nothing.
 use mathlib.Core.Path.{sym, ◌∙◌}
 use native.Mathlib.Omega.{arith}
 use lib.ListN.{length}

@@ -1,3 +1,4 @@
+-- `bridge::unit` meets its contract, by what reading the unit ensures; its number of ports is the record's. Assumes nothing.
 use mathlib.Core.Path.{sym, ap, ◌∙◌}
 use Rattle.unit.specs.declared.Unit.{Unit}
 use Rattle.unit.specs.Model.{model_of}

@@ -1,3 +1,4 @@
+-- `data_in` meets its contract. The invariant: the bytes behind the place are packed. Assumes nothing.
 use mathlib.Core.Path.{◌≡◌, sym, ◌∙◌}
 use Prim.Native.Nat.{◌+◌, ◌-◌, ◌*◌, ◌≤◌}
 use lib.ListN.{drop, take}

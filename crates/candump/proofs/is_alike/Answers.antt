@@ -1,3 +1,4 @@
+-- `is_alike` meets its contract. The invariant: what is passed fits. Assumes nothing.
 use mathlib.Core.Path.{◌≡◌, refl, sym, ◌∙◌}
 use Prim.Native.Nat.{◌-◌, ◌≤◌}
 use lib.ListN.{length, drop}

@@ -1,3 +1,4 @@
+-- `read_line` meets its contract: by the tests on the way. Assumes nothing.
 use borrow.Author.Rules.{rules}
 use native.Mathlib.Omega.{arith}
 use mathlib.Core.Path.{◌≡◌, sym, ap, ◌∙◌}

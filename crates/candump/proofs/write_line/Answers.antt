@@ -1,3 +1,4 @@
+-- `write_line` meets its contract: refused, or the whole line. Assumes nothing.
 use borrow.Author.Rules.{rules}
 use native.Mathlib.Omega.{arith}
 use mathlib.Core.Path.{◌≡◌, sym, ◌∙◌}

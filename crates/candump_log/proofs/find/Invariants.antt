@@ -1,3 +1,4 @@
+-- `find` meets its contract: the place stays within the text. Assumes nothing.
 use mathlib.Core.Path.{◌≡◌}
 use Prim.Native.Nat.{◌-◌, ◌≤◌}
 use borrow.Author.Rules.{rules}

@@ -1,3 +1,4 @@
+-- `is_same` meets its contract: the measure is what is left of the word. Assumes nothing.
 use mathlib.Core.Path.{◌≡◌}
 use Prim.Native.Nat.{◌-◌, ◌≤◌}
 use borrow.Author.Rules.{rules}

@@ -1,3 +1,4 @@
+-- `port_of` meets its contract: the place moves on with every item. Assumes nothing.
 use mathlib.Core.Path.{◌≡◌}
 use Prim.Native.Nat.{◌+◌, ◌-◌, ◌≤◌}
 use borrow.Author.Rules.{rules}

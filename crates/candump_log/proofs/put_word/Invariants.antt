@@ -1,3 +1,4 @@
+-- `put_word` meets its contract: every place lies in the buffer. Assumes nothing.
 use mathlib.Core.Path.{◌≡◌}
 use Prim.Native.Nat.{◌-◌, ◌≤◌}
 use borrow.Author.Rules.{rules}

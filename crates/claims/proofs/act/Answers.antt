@@ -1,3 +1,4 @@
+-- `claims::act` meets its contract: by what the frame is. Assumes nothing.
 use mathlib.Core.Path.{refl, sym, ◌∙◌}
 use Rattle.claims.proofs.Acts.{claim_acted_lem, request_acted, not_acted}
 use borrow.Author.Rules.{rules}

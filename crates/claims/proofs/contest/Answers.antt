@@ -1,3 +1,4 @@
+-- `claims::contest` meets its contract: defended or displaced. Assumes nothing.
 use native.Mathlib.Omega.{arith}
 use Rattle.unit.proofs.Own.{moved_count}
 use Rattle.claims.proofs.Acts.{defended, displaced}

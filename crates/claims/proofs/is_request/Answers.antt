@@ -1,3 +1,4 @@
+-- `claims::is_request` meets its contract: by the tests on the way. Assumes nothing.
 use mathlib.Core.Path.{sym, ◌∙◌}
 use borrow.Author.Tests.{eq-eqb, ne_eqb}
 use Rattle.storage.specs.Bytes.{packed}

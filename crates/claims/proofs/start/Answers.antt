@@ -1,3 +1,4 @@
+-- `claims::start` meets its contract: the address is held under a lower NAME, or it is claimed. Assumes nothing.
 use Prim.Native.Nat.{◌<◌}
 use native.Mathlib.Omega.{arith}
 use Rattle.unit.proofs.Own.{moved_count}

@@ -1,3 +1,4 @@
+-- `deorasaeng_counts` meets its contract, by what `bridge::counts` ensures. Assumes nothing.
 use native.Mathlib.Omega.{arith}
 use Rattle.deorasaeng.proofs.Calls.{counts_wrong, counts_refused_lem, counts_done}
 use borrow.Author.Rules.{rules}

@@ -1,3 +1,4 @@
+-- `deorasaeng_message` meets its contract, by what `bridge::message` ensures. Assumes nothing.
 use mathlib.Core.List.{[], ◌∷◌}
 use native.Mathlib.Omega.{arith}
 use lib.ListN.{length-set}

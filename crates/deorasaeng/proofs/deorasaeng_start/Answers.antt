@@ -1,3 +1,4 @@
+-- `deorasaeng_start` meets its contract, by what `bridge::start` ensures. Assumes nothing.
 use mathlib.Core.Path.{◌∙◌}
 use mathlib.Core.List.{[], ◌∷◌}
 use native.Mathlib.Omega.{arith}

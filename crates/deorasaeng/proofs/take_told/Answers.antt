@@ -1,3 +1,4 @@
+-- `take_told` meets its contract, by what `Queue::take` ensures. Assumes nothing.
 use Rattle.deorasaeng.proofs.Calls.{queue_wrong, queue_wrong_bytes, queue_told}
 use borrow.Author.Rules.{rules}
 use Rattle.deorasaeng.proofs.take_told.Goals as goal

@@ -1,3 +1,4 @@
+-- `tell_plan` meets its contract: by the way that the code went. Assumes nothing.
 use native.Mathlib.Omega.{arith}
 use Rattle.deorasaeng.proofs.Tells.{tell_wrong, tell_heard, tell_refused}
 use borrow.Author.Rules.{rules}

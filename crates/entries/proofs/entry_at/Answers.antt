@@ -1,3 +1,4 @@
+-- `entries::entry_at` meets its contract: entry i is the number at three times i. Assumes nothing.
 use mathlib.Core.Path.{sym, ◌∙◌}
 use native.Mathlib.Omega.{arith}
 use Rattle.entries.proofs.ThreeBytes.{entries_count, entry_is}

@@ -1,3 +1,4 @@
+-- `entries::names` meets its contract: a loop over the entries that stops at the first one that is x. Assumes nothing.
 use mathlib.Core.Path.{refl, sym, ◌∙◌}
 use Prim.Native.Nat.{◌-◌}
 use native.Mathlib.Omega.{arith}

@@ -1,3 +1,4 @@
+-- `entries::read_entry` meets its contract: each way out by the tests that led there. Assumes nothing.
 use mathlib.Core.Path.{sym, ◌∙◌}
 use mathlib.Core.Bool.{true, false}
 use native.Mathlib.Omega.{arith}

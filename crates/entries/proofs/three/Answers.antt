@@ -1,3 +1,4 @@
+-- `entries::three` meets its contract: three bytes, one after the other, make one number. Assumes nothing.
 use Prim.Native.Nat.{◌+◌, ◌*◌}
 use native.Mathlib.Omega.{arith}
 use borrow.Author.Rules.{rules}

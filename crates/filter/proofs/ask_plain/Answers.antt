@@ -1,3 +1,4 @@
+-- `filter::ask_plain` meets its contract: a permanent PGN and a cleared pair ask no list; else the search answers. Assumes nothing.
 use mathlib.Core.Path.{sym, ◌∙◌}
 use native.Mathlib.Omega.{arith}
 use Rattle.sorted_list.proofs.Ceiling.{mark_found, mark_absent}

@@ -1,3 +1,4 @@
+-- `filter::by_list` meets its contract, by the tests on the way. Assumes nothing.
 use mathlib.Core.Bool.{true, false}
 use mathlib.Core.Path.{sym, ◌∙◌}
 use borrow.Author.Rules.{rules}

@@ -1,3 +1,4 @@
+-- `filter::count` meets its contract: a cleared pair holds none, another the count, cut at the list's size. Assumes nothing.
 use native.Mathlib.Omega.{arith}
 use Rattle.filter.proofs.Meaning.{count_cleared, count_listed}
 use borrow.Author.Rules.{rules}

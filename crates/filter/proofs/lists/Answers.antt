@@ -1,3 +1,4 @@
+-- `filter::lists` meets its contract: the search among those in use. Assumes nothing.
 use mathlib.Core.Path.{◌∙◌}
 use native.Mathlib.Omega.{arith}
 use Rattle.pgn_list.proofs.Search.{found_says}

@@ -1,3 +1,4 @@
+-- `filter::reason_by_list` meets its contract: a permanent PGN is in no list's hands, else the list decides. Assumes nothing.
 use mathlib.Core.Path.{sym, ◌∙◌}
 use Rattle.filter.proofs.Asking.{list_permanent, list_decides}
 use borrow.Author.Rules.{rules}

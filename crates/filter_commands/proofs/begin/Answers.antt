@@ -1,3 +1,4 @@
+-- `filter_commands::begin` meets its contract: by one entry or by several. Assumes nothing.
 use mathlib.Core.Path.{sym, ◌∙◌}
 use Rattle.entries.specs.Entries.{entries_of}
 use Rattle.filter_commands.proofs.Commands.{only_one}

@@ -1,3 +1,4 @@
+-- `filter_commands::begin_names` meets its contract: the entry is the first, and the mode word says that there are some. Assumes nothing.
 use mathlib.Core.Path.{◌∙◌}
 use Rattle.filter_commands.proofs.Names.{names_long, name_begun}
 use borrow.Author.Rules.{rules}

@@ -1,3 +1,4 @@
+-- `filter_commands::copied` meets its contract: the words are copied one after the other. Assumes nothing.
 use mathlib.Core.Path.{◌≡◌}
 use mathlib.Core.List.{List}
 use Prim.Native.Nat.{ℕ, ◌+◌, ◌-◌}

@@ -1,3 +1,4 @@
+-- `filter_commands::first_entry` meets its contract: by whether there is one. Assumes nothing.
 use mathlib.Core.Path.{◌≡◌, sym, ◌∙◌, refl}
 use mathlib.Core.List.{List, [], ◌∷◌}
 use Prim.Native.Nat.{ℕ}

@@ -1,3 +1,4 @@
+-- `filter_commands::lacks` meets its contract: what is listed are the first n. Assumes nothing.
 use mathlib.Core.Path.{ap, ◌∙◌}
 use mathlib.Core.Bool.{not}
 use borrow.Author.Rules.{rules}

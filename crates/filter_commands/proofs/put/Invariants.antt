@@ -1,3 +1,4 @@
+-- `filter_commands::put` meets its contract: the words are copied one after the other. Assumes nothing.
 use mathlib.Core.Path.{◌≡◌}
 use Prim.Native.Nat.{◌+◌, ◌-◌}
 use native.Mathlib.Nat.{zero-add}

@@ -1,3 +1,4 @@
+-- `filter_commands::sort_in` meets its contract: one PGN after the other is put in. Assumes nothing.
 use borrow.Author.Rules.{rules}
 use mathlib.Core.Path.{◌≡◌, refl, ◌∙◌}
 use Prim.Native.Nat.{◌+◌, ◌-◌, ◌≤◌}

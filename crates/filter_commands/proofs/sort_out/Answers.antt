@@ -1,3 +1,4 @@
+-- `filter_commands::sort_out` meets its contract: those that no entry names are kept, as many as the list holds. Assumes nothing.
 use mathlib.Core.Path.{◌∙◌}
 use Rattle.filter.proofs.Meaning.{sorted_long}
 use Rattle.filter_commands.proofs.Sorting.{taken_out, part_long}

@@ -1,3 +1,4 @@
+-- `filter_commands::sort_out_one` meets its contract: the PGN is taken out, and they are as many as the list holds. Assumes nothing.
 use mathlib.Core.Path.{◌∙◌}
 use Rattle.filter.proofs.Meaning.{sorted_long}
 use Rattle.filter_commands.proofs.Sorting.{taken_out, part_long}

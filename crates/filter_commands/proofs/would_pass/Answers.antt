@@ -1,3 +1,4 @@
+-- `filter_commands::would_pass` meets its contract: few entries can't pass, and the others are counted on a copy. Assumes nothing.
 use mathlib.Core.Path.{sym}
 use native.Mathlib.Omega.{arith}
 use Rattle.filter_commands.proofs.Commands.{pass_few, pass_tried}

@@ -1,3 +1,4 @@
+-- `flat_answers::tell_frame` meets its contract: eight words are stored in a place for eight. Assumes nothing.
 use mathlib.Core.Path.{◌∙◌}
 use mathlib.Core.List.{[], ◌∷◌}
 use native.Mathlib.Omega.{arith}

@@ -1,3 +1,4 @@
+-- `flat_answers::tell_taken` meets its contract: by cases of what was taken. Assumes nothing.
 use mathlib.Core.List.{[], ◌∷◌}
 use native.Mathlib.Omega.{arith}
 use Rattle.flat_answers.proofs.Words.{stored, told_nothing, told_frame}

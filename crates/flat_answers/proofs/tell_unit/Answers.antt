@@ -1,3 +1,4 @@
+-- `flat_answers::tell_unit` meets its contract: five words are stored in a place for five. Assumes nothing.
 use mathlib.Core.Path.{refl, ◌∙◌}
 use mathlib.Core.List.{[], ◌∷◌}
 use native.Mathlib.Omega.{arith}

@@ -1,3 +1,4 @@
+-- `flat_answers::write_bytes` meets its contract: the word as it is, or cut after the frame's bytes. Assumes nothing.
 use mathlib.Core.Path.{◌∙◌}
 use Prim.Native.Nat.{◌*◌}
 use native.Mathlib.Omega.{arith}

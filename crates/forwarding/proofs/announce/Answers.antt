@@ -1,3 +1,4 @@
+-- `forwarding::announce` meets its contract: by cases of what is sent. Assumes nothing.
 use Rattle.forwarding.proofs.Loop.{told_nothing}
 use borrow.Author.Rules.{rules}
 use Rattle.forwarding.proofs.announce.Goals as goal

@@ -1,3 +1,4 @@
+-- `forwarding::carry` meets its contract, by the way that the code went. Assumes nothing.
 use mathlib.Core.Bool.{true, false}
 use mathlib.Core.Path.{sym, ◌∙◌}
 use Rattle.forwarding.proofs.Sends.{carried_stopped, carried}

@@ -1,3 +1,4 @@
+-- `forwarding::count_losses` meets its contract: the loop over the set, a bit at a time. Assumes nothing.
 use mathlib.Core.Logic.{⊎_elim}
 use Prim.Native.Nat.{◌-◌}
 use native.Mathlib.Omega.{arith}

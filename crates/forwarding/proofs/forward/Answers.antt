@@ -1,3 +1,4 @@
+-- `forwarding::forward` meets its contract: what was lost on the way is counted, where there is any. Assumes nothing.
 use native.Mathlib.Omega.{arith}
 use Rattle.identifier.specs.Identifier.{sa_of}
 use Rattle.forwarding.proofs.Sends.{verdict_home}

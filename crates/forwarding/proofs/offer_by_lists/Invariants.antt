@@ -1,3 +1,4 @@
+-- `forwarding::offer_by_lists` meets its contract: the loop over the ports, which passes over the port itself and ends at a pair with NAME entries. Assumes nothing.
 use mathlib.Core.Path.{sym, ◌∙◌}
 use borrow.Author.Rules.{rules}
 use native.Mathlib.Omega.{arith}

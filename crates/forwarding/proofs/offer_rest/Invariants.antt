@@ -1,3 +1,4 @@
+-- `forwarding::offer_rest` meets its contract: the loop over the ports that are left, for every record that the way began on. Assumes nothing.
 use mathlib.Core.List.{List}
 use borrow.Author.Rules.{rules}
 use native.Mathlib.Omega.{arith}

@@ -1,3 +1,4 @@
+-- `frame_parts::act` meets its contract, by the way that the code went. Assumes nothing.
 use mathlib.Core.Path.{sym, ◌∙◌}
 use native.Mathlib.Omega.{arith}
 use lib.ListN.{length}

@@ -1,3 +1,4 @@
+-- `frame_parts::arrive` meets its contract: refused, or told as it was handed in. Assumes nothing.
 use mathlib.Core.Path.{refl, sym, ◌∙◌}
 use native.Mathlib.Omega.{arith}
 use lib.ListN.{length}

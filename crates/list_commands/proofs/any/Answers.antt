@@ -1,3 +1,4 @@
+-- `list_commands::any` meets its contract: the loop over the pairs that are named. Assumes nothing.
 use mathlib.Core.Path.{◌≡◌, sym, ◌∙◌}
 use Prim.Native.Nat.{◌≤◌, ◌-◌}
 use native.Mathlib.Omega.{arith}

@@ -1,3 +1,4 @@
+-- `list_commands::clear_each` meets its contract: the loop over the pairs that are named. Assumes nothing.
 use mathlib.Core.Path.{◌≡◌}
 use Prim.Native.Nat.{◌≤◌, ◌-◌}
 use native.Mathlib.Omega.{arith}

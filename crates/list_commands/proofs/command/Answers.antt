@@ -1,3 +1,4 @@
+-- `list_commands::command` meets its contract: refused, or done on every pair that is named. Assumes nothing.
 use mathlib.Core.Path.{◌≡◌, sym, ◌∙◌}
 use native.Mathlib.Omega.{arith}
 use Rattle.list_commands.proofs.PairLoop.{command_refused, command_done}

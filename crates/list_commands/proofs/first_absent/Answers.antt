@@ -1,3 +1,4 @@
+-- `list_commands::first_absent` meets its contract: a loop over the pairs and in it one over the entries, left at the first that is absent. Assumes nothing.
 use mathlib.Core.Path.{◌≡◌, sym, ◌∙◌}
 use Prim.Native.Nat.{◌-◌}
 use native.Mathlib.Omega.{arith}

@@ -1,3 +1,4 @@
+-- `list_commands::first_pair` meets its contract: a port's pairs are among the pairs. Assumes nothing.
 use mathlib.Core.Path.{refl}
 use Prim.Native.Nat.{◌-◌}
 use native.Mathlib.Omega.{arith}

@@ -1,3 +1,4 @@
+-- `list_commands::leads_to` meets its contract: past the port itself the others' numbers are one up. Assumes nothing.
 use native.Mathlib.Omega.{arith}
 use borrow.Author.Rules.{rules}
 use borrow.Author.Tests.{lt-ltb, le-ltb}

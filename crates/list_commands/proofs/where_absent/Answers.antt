@@ -1,3 +1,4 @@
+-- `list_commands::where_absent` meets its contract: the search stopped at the first pair that lacks an entry, and at that entry. Assumes nothing.
 use mathlib.Core.Path.{sym, ◌∙◌}
 use native.Mathlib.Omega.{arith}
 use native.Mathlib.Numerals.{add-one}

@@ -1,3 +1,4 @@
+-- `message_answers::report_addresses` meets its contract, by what was written. Assumes nothing.
 use Rattle.message_answers.proofs.Replies.{reported_of}
 use native.Mathlib.Omega.{arith}
 use borrow.Author.Rules.{rules}

@@ -1,3 +1,4 @@
+-- `message_answers::report_value` meets its contract, by what was written. Assumes nothing.
 use native.Mathlib.Omega.{arith}
 use Rattle.message_answers.proofs.Replies.{held_small, reported_of}
 use borrow.Author.Rules.{rules}

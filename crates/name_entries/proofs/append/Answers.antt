@@ -1,3 +1,4 @@
+-- `name_entries::append` meets its contract: three words and the count are stored. Assumes nothing.
 use native.Mathlib.Omega.{arith}
 use lib.ListN.{length-set}
 use borrow.Author.Rules.{rules}

@@ -1,3 +1,4 @@
+-- `name_entries::holds` meets its contract: the entries are compared one after the other. Assumes nothing.
 use Prim.Native.Nat.{◌-◌}
 use mathlib.Core.Path.{sym, ◌∙◌}
 use native.Mathlib.Omega.{arith}

@@ -1,3 +1,4 @@
+-- `network_message::command_of` meets its contract: by the arm that the function takes. Assumes nothing.
 use borrow.Author.Tests.{ne_eqb}
 use Rattle.network_message.specs.Decoding.{command_of}
 use borrow.Author.Rules.{rules}

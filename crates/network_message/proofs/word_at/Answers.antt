@@ -1,3 +1,4 @@
+-- `network_message::word_at` meets its contract: eight bytes of what is left, and none past the end. Assumes nothing.
 use Prim.Native.Nat.{◌-◌}
 use native.Mathlib.Omega.{arith}
 use lib.ListN.{length, drop, length-drop, drop_of_length-le}

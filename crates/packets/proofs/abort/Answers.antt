@@ -1,3 +1,4 @@
+-- `packets::abort` meets its contract: its eight bytes make that number. Assumes nothing.
 use native.Mathlib.Omega.{arith}
 use Rattle.packets.proofs.Frames.{eight}
 use borrow.Author.Rules.{rules}

@@ -1,3 +1,4 @@
+-- `packets::end` meets its contract: its eight bytes make that sum. Assumes nothing.
 use native.Mathlib.Omega.{arith}
 use Prim.Native.Nat.{◌/◌, ◌%◌}
 use Rattle.packets.proofs.Frames.{eight}

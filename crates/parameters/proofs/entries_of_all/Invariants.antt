@@ -1,3 +1,4 @@
+-- `parameters::entries_of_all` meets its contract: the loop's sum is that of the lists passed. Assumes nothing.
 use mathlib.Core.Path.{◌≡◌, refl}
 use Prim.Native.Nat.{◌*◌, ◌-◌, ◌≤◌}
 use native.Mathlib.Omega.{arith}

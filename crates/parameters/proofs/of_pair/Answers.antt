@@ -1,3 +1,4 @@
+-- `parameters::of_pair` meets its contract: by cases of the parameter. Assumes nothing.
 use mathlib.Core.Path.{refl, sym, ◌∙◌}
 use native.Mathlib.Omega.{arith}
 use Rattle.parameters.proofs.Laws.{chosen_last}

@@ -1,3 +1,4 @@
+-- `parameters::of_unit` meets its contract: by cases of the parameter. Assumes nothing.
 use mathlib.Core.Path.{refl, sym, ◌∙◌}
 use native.Mathlib.Omega.{arith}
 use Rattle.unit.proofs.Count.{pairs_most}

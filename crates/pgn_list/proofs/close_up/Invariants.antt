@@ -1,3 +1,4 @@
+-- `pgn_list::close_up` meets its contract: from the first place of x on, x is passed over and another moves to the end of those kept. Assumes nothing.
 use mathlib.Core.Logic.{⊎_elim}
 use mathlib.Core.Path.{refl}
 use mathlib.Core.List.{[], ◌∷◌}

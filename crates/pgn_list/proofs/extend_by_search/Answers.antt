@@ -1,3 +1,4 @@
+-- `pgn_list::extend_by_search` meets its contract: a walk over the entries, in which a listed one changes nothing, another joins the end, and one too many stops it. Assumes nothing.
 use mathlib.Core.Logic.{⊎_elim}
 use mathlib.Core.Path.{refl, sym, ◌∙◌}
 use Prim.Native.Nat.{◌-◌}

@@ -1,3 +1,4 @@
+-- `pgn_list::find` meets its contract: four at a time are compared, and the rest is searched. Assumes nothing.
 use mathlib.Core.Path.{sym, ◌∙◌}
 use Prim.Native.Nat.{◌-◌, ◌≤◌}
 use native.Mathlib.Omega.{arith}

@@ -1,3 +1,4 @@
+-- `pgn_list::find_from` meets its contract: a loop that stops at the first entry that is x. Assumes nothing.
 use Prim.Native.Nat.{◌+◌, ◌-◌}
 use native.Mathlib.Omega.{arith}
 use lib.ListN.{take, drop}

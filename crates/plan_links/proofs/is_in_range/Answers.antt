@@ -1,3 +1,4 @@
+-- `plan_links::is_in_range` meets its contract: by the tests on the way. Assumes nothing.
 use borrow.Author.Tests.{lt-leb, le-leb}
 use Rattle.plan_links.specs.Links.{link_in_range}
 use borrow.Author.Rules.{rules}

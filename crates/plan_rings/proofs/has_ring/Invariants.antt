@@ -1,3 +1,4 @@
+-- `plan_rings::has_ring` meets its contract: while no link joined what was joined, one path at most leads from a segment to another. Assumes nothing.
 use borrow.Author.Rules.{rules}
 use mathlib.Core.Path.{refl, sym}
 use mathlib.Core.Bool.{true≢false}

@@ -1,3 +1,4 @@
+-- `plan_rings::links_again` meets its contract: by the way that the code went. Assumes nothing.
 use mathlib.Core.Path.{sym, refl}
 use Prim.Native.Nat.{◌/◌}
 use native.Mathlib.Omega.{arith}

@@ -1,3 +1,4 @@
+-- `plan_rings::number` meets its contract: the places below i have their own label. Assumes nothing.
 use Prim.Native.Nat.{◌-◌}
 use native.Mathlib.Omega.{arith}
 use Rattle.plan_rings.specs.Rings.{nodes}

@@ -1,3 +1,4 @@
+-- `plan_rings::relabel` meets its contract: the places below i are turned, the others as they were. Assumes nothing.
 use Prim.Native.Nat.{◌-◌, ◌≤◌}
 use native.Mathlib.Omega.{arith}
 use borrow.Author.Rules.{rules}

@@ -1,3 +1,4 @@
+-- `plan_shape::are_pairs` meets its contract: the loop answers at the first pair that is out of range. Assumes nothing.
 use mathlib.Core.Path.{◌≡◌, sym, ap, ◌∙◌}
 use mathlib.Core.Bool.{true}
 use Prim.Native.Nat.{◌-◌, ◌≤◌}

@@ -1,3 +1,4 @@
+-- `plan_shape::are_ports` meets its contract: the loop answers at the first port that is out of range. Assumes nothing.
 use mathlib.Core.Path.{◌≡◌, sym}
 use mathlib.Core.Bool.{Bool, true}
 use mathlib.Core.List.{List}

@@ -1,3 +1,4 @@
+-- `plan_shape::is_in_range` meets its contract: the numbers, then the ports, then the lists. Assumes nothing.
 use mathlib.Core.Path.{sym, ◌∙◌}
 use native.Mathlib.Omega.{arith}
 use Rattle.plan_shape.specs.Plan.{in_range}

@@ -1,3 +1,4 @@
+-- `plan_shape::lists_pgns` meets its contract: a walk over the list, whose numbers are judged together. Assumes nothing.
 use borrow.Author.Rules.{rules}
 use borrow.Author.Tests.{lt-ltb, le-ltb}
 use mathlib.Core.Path.{refl, sym, ap, ◌∙◌}

@@ -1,3 +1,4 @@
+-- `plan_shape::past_cleared` meets its contract: a loop that passes over four at a time. Assumes nothing.
 use Prim.Native.Nat.{◌-◌}
 use native.Mathlib.Omega.{arith}
 use Rattle.plan_shape.specs.Steps.{Passing}

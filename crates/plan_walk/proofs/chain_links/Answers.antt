@@ -1,3 +1,4 @@
+-- `plan_walk::chain_links` meets its contract: from the last link to the first. Assumes nothing.
 use mathlib.Core.Path.{◌≡◌, refl}
 use Prim.Native.Nat.{◌-◌, ◌≤◌}
 use native.Mathlib.Omega.{arith}

@@ -1,3 +1,4 @@
+-- `plan_walk::hear` meets its contract: from unmarked marks the walk reaches what hears. Assumes nothing.
 use mathlib.Core.Path.{refl}
 use native.Mathlib.Omega.{arith}
 use Rattle.plan_walk.specs.Walk.{marks_length, chain_length}

@@ -1,3 +1,4 @@
+-- `plan_walk::pair_at` meets its contract: by the test on the way. Assumes nothing.
 use native.Mathlib.Omega.{arith}
 use borrow.Author.Tests.{lt-ltb, le-ltb}
 use borrow.Author.Rules.{rules}

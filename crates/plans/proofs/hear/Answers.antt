@@ -1,3 +1,4 @@
+-- `plans::hear` meets its contract: by the way that the code went. Assumes nothing.
 use mathlib.Core.Path.{◌≡◌, sym, ◌∙◌}
 use mathlib.Core.Bool.{true, true≢false}
 use Rattle.plan_shape.specs.Plan.{Plan, plan_of, in_range}

@@ -1,3 +1,4 @@
+-- `queue::close_up` meets its contract. The loop's invariant: up to `place` the frames without frame `at`, from there on the frames as they were. Assumes nothing.
 use Rattle.std.proofs.Common.{◌≡◌, ◌-◌, ◌≤◌, length, refl, ◌∙◌, arith}
 use Rattle.queue.specs.Queue.{block_length, head, frames_of}
 use Rattle.queue.specs.Steps.{blank}

@@ -1,3 +1,4 @@
+-- `queue::count_out` meets its contract: one word goes down by one, one up. Assumes nothing.
 use Rattle.std.proofs.Common.{◌≡◌, ◌+◌, get_or, arith, rules}
 use Rattle.queue.specs.Queue.{one_less}
 use Rattle.queue.proofs.Tallies.{counted_out_lem}

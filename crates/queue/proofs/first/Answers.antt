@@ -1,3 +1,4 @@
+-- `queue::first` meets its contract. The loop's invariant is `Scan`: of the first i frames, a take gives the one at `at`, whose number is `low`. Assumes nothing.
 use Rattle.std.proofs.Common.{◌≡◌, ◌-◌, ◌≤◌, take, ⊎_elim, arith}
 use Rattle.queue.specs.Queue.{frames_of}
 use Rattle.queue.proofs.Words.{frames_length}

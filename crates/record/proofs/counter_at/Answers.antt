@@ -1,3 +1,4 @@
+-- `record::counter_at` meets its contract: there are at most 56 pairs. Assumes nothing.
 use native.Mathlib.Omega.{arith}
 use Rattle.unit.proofs.Count.{pairs_most}
 use borrow.Author.Rules.{rules}

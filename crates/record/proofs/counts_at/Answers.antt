@@ -1,3 +1,4 @@
+-- `record::counts_at` meets its contract: the queue's block is lent to be read. Assumes nothing.
 use mathlib.Core.Path.{◌≡◌, sym, ap, ◌∙◌}
 use Prim.Native.Nat.{◌+◌, ◌*◌}
 use native.Mathlib.Omega.{arith}

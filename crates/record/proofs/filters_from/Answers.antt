@@ -1,3 +1,4 @@
+-- `record::filters_from` meets its contract: the filter of the first pair begins there. Assumes nothing.
 use native.Mathlib.Omega.{arith}
 use Rattle.unit.proofs.Count.{row_below}
 use borrow.Author.Rules.{rules}

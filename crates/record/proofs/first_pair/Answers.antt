@@ -1,3 +1,4 @@
+-- `record::first_pair` meets its contract: there are at most 56 pairs. Assumes nothing.
 use native.Mathlib.Omega.{arith}
 use Rattle.unit.proofs.Count.{pairs_most, row_below}
 use borrow.Author.Rules.{rules}

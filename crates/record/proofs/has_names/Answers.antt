@@ -1,3 +1,4 @@
+-- `record::has_names` meets its contract: the filter's mode word is read. Assumes nothing.
 use native.Mathlib.Omega.{arith}
 use lib.ListN.{get_or}
 use lib.Dec.{leb}

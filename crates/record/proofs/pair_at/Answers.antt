@@ -1,3 +1,4 @@
+-- `record::pair_at` meets its contract: by the test on the way. Assumes nothing.
 use native.Mathlib.Omega.{arith}
 use Prim.Native.Nat.{◌-◌}
 use borrow.Author.Tests.{lt-ltb, le-ltb}

@@ -1,3 +1,4 @@
+-- `refusals::message_refusal` meets its contract: the checks of a take first, then by the tests on the way. Assumes nothing.
 use mathlib.Core.Path.{sym, ◌∙◌}
 use borrow.Author.Tests.{lt-ltb, le-ltb}
 use native.Mathlib.Omega.{arith}

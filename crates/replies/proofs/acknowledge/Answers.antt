@@ -1,3 +1,4 @@
+-- `replies::acknowledge` meets its contract: a run of eight stores from the first byte on. Assumes nothing.
 use native.Mathlib.Omega.{arith}
 use borrow.Author.Rules.{rules}
 use lib.ListN.{length-set}

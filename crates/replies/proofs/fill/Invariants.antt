@@ -1,3 +1,4 @@
+-- `replies::fill` meets its contract. The loop's invariant is `Filling`. Assumes nothing.
 use Prim.Native.Nat.{◌-◌}
 use native.Mathlib.Omega.{arith}
 use Rattle.replies.proofs.Laying.{laid_long}

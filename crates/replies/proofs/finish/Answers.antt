@@ -1,3 +1,4 @@
+-- `replies::finish` meets its contract: two stores, and the filling. Assumes nothing.
 use mathlib.Core.Path.{◌∙◌}
 use native.Mathlib.Omega.{arith}
 use borrow.Author.Rules.{rules}

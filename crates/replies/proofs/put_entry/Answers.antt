@@ -1,3 +1,4 @@
+-- `replies::put_entry` meets its contract: a run of three stores. Assumes nothing.
 use mathlib.Core.Path.{◌≡◌}
 use Prim.Native.Nat.{◌+◌, suc}
 use native.Mathlib.Omega.{arith}

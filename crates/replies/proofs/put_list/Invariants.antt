@@ -1,3 +1,4 @@
+-- `replies::put_list` meets its contract: the mode, then the entries. The loop's invariant is `Entered`. Assumes nothing.
 use mathlib.Core.Path.{◌∙◌}
 use Prim.Native.Nat.{◌-◌}
 use native.Mathlib.Omega.{arith}

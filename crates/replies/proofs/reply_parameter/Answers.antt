@@ -1,3 +1,4 @@
+-- `replies::reply_parameter` meets its contract: a run of three stores from the third byte on, and the two first bytes. Assumes nothing.
 use mathlib.Core.Path.{◌∙◌, refl}
 use mathlib.Core.List.{◌∷◌}
 use native.Mathlib.Omega.{arith}

@@ -1,3 +1,4 @@
+-- `routing::turn` meets its contract: by which address turns, if one does. Assumes nothing.
 use mathlib.Core.Path.{◌≡◌, sym, ◌∙◌}
 use native.Mathlib.Omega.{arith}
 use Rattle.address_pairs.specs.AddressPairs.{tables_of}

@@ -1,3 +1,4 @@
+-- `routing::turned` meets its contract: a claim crosses nowhere. Assumes nothing.
 use mathlib.Core.Path.{sym, ◌∙◌}
 use Rattle.address_pairs.specs.AddressPairs.{tables_of}
 use Rattle.routing.proofs.Turning.{claim_not, no_claim}

@@ -1,3 +1,4 @@
+-- `routing::turns_destination` meets its contract: by the tests on the way. Assumes nothing.
 use mathlib.Core.Path.{◌≡◌, sym, ◌∙◌}
 use mathlib.Core.Bool.{true, false}
 use borrow.Author.Tests.{eq-eqb, ne_eqb}

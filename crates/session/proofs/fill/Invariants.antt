@@ -1,3 +1,4 @@
+-- `session::fill` meets its contract: the words of the packets are stored one after the other, then counted. Assumes nothing.
 use Rattle.session.proofs.Bytes.{fill_start, fill_one, fill_done}
 use Rattle.session.proofs.Paste.{Pasted}
 use Rattle.packets.specs.Words.{cut_words}

@@ -1,3 +1,4 @@
+-- `session::is_due` meets its contract: a difference and a timer, for a sum and the time. Assumes nothing.
 use Rattle.session.proofs.Laws.{due_same}
 use lib.ListN.{get_or}
 use Prim.Native.Nat.{◌+◌}

@@ -1,3 +1,4 @@
+-- `session::open` meets its contract: eight words are stored. Assumes nothing.
 use Rattle.session.proofs.Laws.{opens}
 use lib.ListN.{length-set}
 use native.Mathlib.Omega.{arith}

@@ -1,3 +1,4 @@
+-- `session::store` meets its contract: behind the packets that are there one word is stored, and counted. Assumes nothing.
 use Rattle.session.proofs.Laws.{stores, stays}
 use native.Mathlib.Omega.{arith}
 use borrow.Author.Rules.{rules}

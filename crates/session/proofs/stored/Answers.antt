@@ -1,3 +1,4 @@
+-- `session::stored` meets its contract: as many packets as the block says, 255 where it says more. Assumes nothing.
 use Rattle.session.proofs.Laws.{stored_is}
 use mathlib.Core.Path.{sym, ◌∙◌}
 use borrow.Author.Rules.{rules}

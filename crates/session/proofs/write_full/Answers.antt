@@ -1,3 +1,4 @@
+-- `session::write_full` meets its contract: seven bytes of each packet are stored one after the other. Assumes nothing.
 use Rattle.session.proofs.Bytes.{There, there_none, there_seven, there_written}
 use Rattle.session.specs.Session.{session_of, message}
 use lib.ListN.{length, length-set}

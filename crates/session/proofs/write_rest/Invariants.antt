@@ -1,3 +1,4 @@
+-- `session::write_rest` meets its contract: each byte of the message is stored after the one before it. Assumes nothing.
 use mathlib.Core.List.{List}
 use Prim.Native.Nat.{ℕ}
 use Rattle.session.proofs.Bytes.{There, there_one, there_written, written_there}

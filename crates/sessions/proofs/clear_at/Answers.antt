@@ -1,3 +1,4 @@
+-- `sessions::clear_at` meets its contract: row by row. Assumes nothing.
 use native.Mathlib.Omega.{arith}
 use Rattle.sessions.specs.Sessions.{talk_of}
 use lib.ListN.{length}

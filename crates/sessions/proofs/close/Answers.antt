@@ -1,3 +1,4 @@
+-- `sessions::close` meets its contract: each block behind is copied down, then the count is one less. Assumes nothing.
 use Rattle.sessions.proofs.Lists.{shifted, shift_start, shift_step}
 use Rattle.sessions.proofs.Talk.{closes}
 use Rattle.sessions.proofs.Region.{blocks_long}

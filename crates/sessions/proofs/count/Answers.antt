@@ -1,3 +1,4 @@
+-- `sessions::count` meets its contract: the count word, or four. Assumes nothing.
 use Rattle.sessions.proofs.Talk.{talk_long}
 use native.Mathlib.Omega.{arith}
 use borrow.Author.Rules.{rules}

@@ -1,3 +1,4 @@
+-- `sessions::data_at` meets its contract: row by row. Assumes nothing.
 use Rattle.sessions.proofs.Steps.{hears_none, hears_other, hears_last, hears_asked, hears_kept}
 use Rattle.sessions.specs.Sessions.{talk_of}
 use lib.ListN.{length}

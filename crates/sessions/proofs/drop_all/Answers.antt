@@ -1,3 +1,4 @@
+-- `sessions::drop_all` meets its contract: the count is 0. Assumes nothing.
 use native.Mathlib.Omega.{arith}
 use Rattle.sessions.proofs.Talk.{empties}
 use borrow.Author.Rules.{rules}

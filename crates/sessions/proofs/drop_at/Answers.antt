@@ -1,3 +1,4 @@
+-- `sessions::drop_at` meets its contract: the session ends, or there is none. Assumes nothing.
 use Rattle.sessions.proofs.Steps.{past_none}
 use Rattle.sessions.specs.Sessions.{talk_of}
 use native.Mathlib.Omega.{arith}

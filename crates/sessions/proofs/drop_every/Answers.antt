@@ -1,3 +1,4 @@
+-- `sessions::drop_every` meets its contract: the words of each port are lent and come back without a session. Assumes nothing.
 use mathlib.Core.Path.{◌≡◌, refl, ◌∙◌}
 use Prim.Native.Nat.{◌≤◌, ◌-◌}
 use native.Mathlib.Omega.{arith}

@@ -1,3 +1,4 @@
+-- `sessions::end_due` meets its contract: the session that is found ends, or there is none. Assumes nothing.
 use native.Mathlib.Omega.{arith}
 use Rattle.sessions.proofs.Due.{ends_nothing, ends_one}
 use borrow.Author.Rules.{rules}

@@ -1,3 +1,4 @@
+-- `sessions::find` meets its contract: the first block that passes is found, and those before it did not pass. Assumes nothing.
 use Rattle.sessions.proofs.Search.{Passed, passed_none, passed_found, passed_more, passed_all}
 use Rattle.sessions.proofs.Talk.{talk_at}
 use Rattle.sessions.specs.Sessions.{talk_of, is_with}

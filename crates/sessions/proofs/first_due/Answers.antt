@@ -1,3 +1,4 @@
+-- `sessions::first_due` meets its contract: the first block that is at its limit is found, and those before it are not. Assumes nothing.
 use Rattle.sessions.proofs.Search.{Passed, passed_none, passed_found, passed_more, passed_all}
 use Rattle.sessions.proofs.Talk.{talk_at}
 use Rattle.sessions.specs.Sessions.{talk_of}

@@ -1,3 +1,4 @@
+-- `sessions::is_busy` meets its contract: how many are open, then a search. Assumes nothing.
 use native.Mathlib.Omega.{arith}
 use Rattle.sessions.specs.Sessions.{talk_of}
 use lib.ListN.{length}

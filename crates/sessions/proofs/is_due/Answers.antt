@@ -1,3 +1,4 @@
+-- `sessions::is_due` meets its contract: the block of a session is lent. Assumes nothing.
 use Rattle.sessions.proofs.Region.{block_is}
 use Rattle.sessions.specs.Sessions.{blocks_in, none}
 use Rattle.session.specs.Session.{is_due}

@@ -1,3 +1,4 @@
+-- `sessions::is_right` meets its contract: three comparisons. Assumes nothing.
 use borrow.Author.Tests.{le-leb, lt-leb}
 use native.Mathlib.Omega.{arith}
 use borrow.Author.Rules.{rules}

@@ -1,3 +1,4 @@
+-- `sessions::is_with` meets its contract: two words of a block, compared one after the other. Assumes nothing.
 use Rattle.sessions.proofs.Search.{with_false, with_rest_lem}
 use Rattle.sessions.proofs.Region.{block_is}
 use Rattle.sessions.specs.Sessions.{blocks_in, none}

@@ -1,3 +1,4 @@
+-- `sessions::move_down` meets its contract: the words of the block behind are copied one after the other. Assumes nothing.
 use Rattle.sessions.proofs.Region.{Down, down_start, down_one, down_done}
 use Rattle.sessions.specs.Sessions.{port_length}
 use lib.ListN.{length, length-set}

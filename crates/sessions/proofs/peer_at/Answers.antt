@@ -1,3 +1,4 @@
+-- `sessions::peer_at` meets its contract: the block of a session is lent. Assumes nothing.
 use Rattle.sessions.proofs.Talk.{talk_long, place_is}
 use Rattle.session.specs.Session.{Session}
 use native.Mathlib.Omega.{arith}

@@ -1,3 +1,4 @@
+-- `sessions::stored` meets its contract: the block of a session is lent. Assumes nothing.
 use lib.ListN.{length}
 use Rattle.sessions.proofs.Talk.{talk_long, place_is}
 use Rattle.session.specs.Session.{Session}

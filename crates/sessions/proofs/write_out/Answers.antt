@@ -1,3 +1,4 @@
+-- `sessions::write_out` meets its contract: the block of a session is lent. Assumes nothing.
 use mathlib.Core.List.{◌++◌}
 use lib.ListN.{length, drop}
 use Rattle.sessions.proofs.Talk.{talk_long, place_is}

@@ -1,3 +1,4 @@
+-- `sorted_list::find` meets its contract: a loop over the places left, one probe a turn. Assumes nothing.
 use native.Mathlib.Omega.{arith}
 use borrow.Author.Rules.{rules}
 use Rattle.sorted_list.proofs.Ceiling.{told_found, told_absent}

@@ -1,3 +1,4 @@
+-- `storage::pack` meets its contract, by how many bytes there are. Assumes nothing.
 use mathlib.Core.Path.{◌∙◌}
 use native.Mathlib.Omega.{arith}
 use borrow.Author.Rules.{rules}

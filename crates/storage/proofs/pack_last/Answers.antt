@@ -1,3 +1,4 @@
+-- `storage::pack_last` meets its contract, by how many bytes are left. Assumes nothing.
 use Prim.Native.Nat.{◌+◌}
 use native.Mathlib.Omega.{arith}
 use borrow.Author.Rules.{rules}

@@ -1,3 +1,4 @@
+-- `copy` meets its contract. The invariant: the characters passed are written. Assumes nothing.
 use mathlib.Core.Path.{◌≡◌}
 use Prim.Native.Nat.{◌+◌, ◌-◌, ◌≤◌}
 use native.Mathlib.Omega.{arith}

@@ -1,3 +1,4 @@
+-- `pair` meets its contract: two digits, one after the other. Assumes nothing.
 use mathlib.Core.Path.{◌≡◌, sym}
 use native.Mathlib.Omega.{arith}
 use borrow.Author.Rules.{rules}

@@ -1,3 +1,4 @@
+-- `word` meets its contract. The invariant: the digits of the bytes passed are written. Assumes nothing.
 use mathlib.Core.Path.{◌≡◌}
 use Prim.Native.Nat.{◌+◌, ◌-◌, ◌*◌, ◌≤◌}
 use native.Mathlib.Omega.{arith}

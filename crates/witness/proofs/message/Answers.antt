@@ -1,3 +1,4 @@
+-- `message` meets its contract. Assumes nothing.
 use Rattle.witness.proofs.Steps.{message_step}
 use borrow.Author.Rules.{rules}
 use Rattle.witness.proofs.message.Goals as goal

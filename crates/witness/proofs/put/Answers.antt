@@ -1,3 +1,4 @@
+-- `put` meets its contract: twelve stores. Assumes nothing.
 use native.Mathlib.Omega.{arith}
 use lib.ListN.{length-set}
 use mathlib.Core.List.{[], ◌∷◌}

@@ -1,3 +1,4 @@
+-- `replay` meets its contract: power-on makes the book fresh, and the calls follow it. Assumes nothing.
 use native.Mathlib.Omega.{arith}
 use Rattle.witness.proofs.Runs.{powered_long, not_replayed, replayed}
 use borrow.Author.Rules.{rules}

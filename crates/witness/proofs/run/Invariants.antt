@@ -1,3 +1,4 @@
+-- `run` meets its contract. The invariant: after i calls the record and the first i answers are the book's. Assumes nothing.
 use mathlib.Core.Path.{◌≡◌, refl, ◌∙◌}
 use Prim.Native.Nat.{◌-◌, ◌*◌, ◌≤◌}
 use native.Mathlib.Omega.{arith}

@@ -1,3 +1,4 @@
+-- `step` meets its contract: five words are a call. Assumes nothing.
 use Rattle.witness.specs.Encoding.{call_of}
 use Rattle.witness.proofs.Steps.{part_is}
 use lib.ListN.{get_or}

@@ -1,3 +1,4 @@
+-- `write_counts` meets its contract: twelve stores. Assumes nothing.
 use native.Mathlib.Omega.{arith}
 use lib.ListN.{length-set}
 use Rattle.demand_3.specs.Demand3.{ToCounts}

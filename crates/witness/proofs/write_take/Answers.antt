@@ -1,3 +1,4 @@
+-- `write_take` meets its contract: by cases of the answer. Assumes nothing.
 use Rattle.witness.specs.Encoding.{code}
 use borrow.Author.Rules.{rules}
 use Rattle.witness.proofs.write_take.Goals as goal

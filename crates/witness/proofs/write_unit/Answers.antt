@@ -1,3 +1,4 @@
+-- `write_unit` meets its contract: by cases of the answer. Assumes nothing.
 use Rattle.witness.specs.Encoding.{code}
 use borrow.Author.Rules.{rules}
 use Rattle.witness.proofs.write_unit.Goals as goal

@@ -1,3 +1,4 @@
+-- `forwarding::Way::after` meets its contract, by what became of the frame. Assumes nothing.
 use native.Mathlib.Nat.{add-zero}
 use Rattle.forwarding.specs.Steps.{way_after}
 use borrow.Author.Rules.{rules}

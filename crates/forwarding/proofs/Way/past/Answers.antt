@@ -1,3 +1,4 @@
+-- `forwarding::Way::past` meets its contract. Assumes nothing.
 use mathlib.Core.Path.{refl}
 use Rattle.forwarding.specs.Steps.{way_past}
 use borrow.Author.Rules.{rules}

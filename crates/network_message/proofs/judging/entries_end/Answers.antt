@@ -1,3 +1,4 @@
+-- `network_message::judging::entries_end` meets its contract: by the length, and in 8 bytes by what stands after the first entry. Assumes nothing.
 use mathlib.Core.Path.{sym, ◌∙◌}
 use borrow.Author.Tests.{ne_eqb}
 use borrow.Author.Rules.{rules}

@@ -1,3 +1,4 @@
+-- `network_message::judging::holds_entries` meets its contract: the entries are a part of the payload. Assumes nothing.
 use native.Mathlib.Omega.{arith}
 use borrow.Author.Rules.{rules}
 use Rattle.network_message.specs.Decoding.{holds_entries}

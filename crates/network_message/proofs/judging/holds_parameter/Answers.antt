@@ -1,3 +1,4 @@
+-- `network_message::judging::holds_parameter` meets its contract: by the arm that the function takes. Assumes nothing.
 use mathlib.Core.Path.{sym}
 use mathlib.Core.List.{[], ◌∷◌}
 use borrow.Author.Rules.{rules}

@@ -1,3 +1,4 @@
+-- `network_message::judging::is_filling` meets its contract: the loop stops at the first byte that is no filling; those from i on decide. Assumes nothing.
 use mathlib.Core.Path.{◌≡◌, refl, sym, ◌∙◌}
 use Prim.Native.Nat.{◌-◌, ◌≤◌}
 use native.Mathlib.Omega.{arith}

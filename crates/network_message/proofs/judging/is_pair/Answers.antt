@@ -1,3 +1,4 @@
+-- `network_message::judging::is_pair` meets its contract: by the tests on the way. Assumes nothing.
 use mathlib.Core.Path.{sym, ◌∙◌}
 use borrow.Author.Tests.{ne_eqb, not-true, not-false}
 use borrow.Author.Rules.{rules}

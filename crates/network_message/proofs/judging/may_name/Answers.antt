@@ -1,3 +1,4 @@
+-- `network_message::judging::may_name` meets its contract: by the arm that the function takes. Assumes nothing.
 use mathlib.Core.Path.{sym}
 use mathlib.Core.List.{[], ◌∷◌}
 use mathlib.Core.Bool.{or-false}

@@ -1,3 +1,4 @@
+-- `network_message::judging::names_ports` meets its contract: by the arm that the function takes. Assumes nothing.
 use mathlib.Core.List.{[], ◌∷◌}
 use borrow.Author.Tests.{ne_eqb}
 use borrow.Author.Rules.{rules}

@@ -1,3 +1,4 @@
+-- `network_message::judging::wrong_entry` meets its contract: by the arm that the function takes. Assumes nothing.
 use mathlib.Core.Path.{◌≡◌}
 use mathlib.Core.Bool.{true}
 use mathlib.Core.Logic.{⊎_elim}

@@ -1,3 +1,4 @@
+-- `pgn_list::index::extend` meets its contract: the walk of `extend_by_search`, with an index that notes what joins the end. Assumes nothing.
 use mathlib.Core.Logic.{⊎_elim}
 use mathlib.Core.Path.{refl, sym, ◌∙◌}
 use Prim.Native.Nat.{◌-◌}

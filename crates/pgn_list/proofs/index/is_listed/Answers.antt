@@ -1,3 +1,4 @@
+-- `pgn_list::index::is_listed` meets its contract: by its slot, by the place noted there, or by a search. Assumes nothing.
 use mathlib.Core.Path.{sym, ◌∙◌}
 use native.Mathlib.Omega.{arith}
 use borrow.Author.Rules.{rules}

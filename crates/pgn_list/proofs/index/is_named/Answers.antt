@@ -1,3 +1,4 @@
+-- `pgn_list::index::is_named` meets its contract: by its slot, by the entry noted there, or by a look through the entries. Assumes nothing.
 use mathlib.Core.Path.{sym, ◌∙◌}
 use native.Mathlib.Omega.{arith}
 use borrow.Author.Rules.{rules}

@@ -1,3 +1,4 @@
+-- `pgn_list::index::keep_others` meets its contract: the walk of `keep_others_by_search`, with an index of the entries. Assumes nothing.
 use mathlib.Core.Logic.{⊎_elim}
 use mathlib.Core.Path.{refl}
 use Prim.Native.Nat.{◌-◌, ◌≤◌}

@@ -1,3 +1,4 @@
+-- `pgn_list::index::lists_all` meets its contract: the walk of `lists_all_by_search`, with an index of the list. Assumes nothing.
 use mathlib.Core.Path.{refl, sym, ◌∙◌}
 use Prim.Native.Nat.{◌-◌}
 use native.Mathlib.Omega.{arith}

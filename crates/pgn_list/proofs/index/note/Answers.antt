@@ -1,3 +1,4 @@
+-- `pgn_list::index::note` meets its contract: a slot is inside, and the number stored is a place that a slot holds. Assumes nothing.
 use mathlib.Core.Path.{◌≡◌}
 use Prim.Native.Nat.{min}
 use native.Mathlib.Omega.{arith}

@@ -1,3 +1,4 @@
+-- `pgn_list::index::note_entries` meets its contract: an entry is noted at each turn. Assumes nothing.
 use mathlib.Core.Path.{◌≡◌, refl, sym}
 use Prim.Native.Nat.{◌-◌, ◌≤◌}
 use native.Mathlib.Omega.{arith}

@@ -1,3 +1,4 @@
+-- `pgn_list::index::note_list` meets its contract: a number is noted at each turn. Assumes nothing.
 use mathlib.Core.Path.{◌≡◌, refl}
 use Prim.Native.Nat.{◌-◌, ◌≤◌}
 use native.Mathlib.Omega.{arith}

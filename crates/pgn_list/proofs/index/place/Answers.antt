@@ -1,3 +1,4 @@
+-- `pgn_list::index::place` meets its contract: a slot is inside. Assumes nothing.
 use mathlib.Core.Path.{◌∙◌}
 use native.Mathlib.Omega.{arith}
 use borrow.Author.Rules.{rules}

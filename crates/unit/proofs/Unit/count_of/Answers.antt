@@ -1,3 +1,4 @@
+-- `Unit::count_of` meets its contract: by the tests on the way. Assumes nothing.
 use Rattle.unit.proofs.Count.{too_few, too_many, count_four, count_same, counted}
 use native.Mathlib.Omega.{arith}
 use mathlib.Core.Path.{sym}

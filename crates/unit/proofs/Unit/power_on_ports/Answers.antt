@@ -1,3 +1,4 @@
+-- `Unit::power_on_ports` meets its contract: zeros, and the fresh unit stored. Assumes nothing.
 use Rattle.unit.proofs.Own.{powered, powered_with_four, not_powered}
 use mathlib.Core.Path.{◌≡◌, sym, ◌∙◌}
 use native.Mathlib.Omega.{arith}

@@ -1,3 +1,4 @@
+-- `words::ports_of` meets its contract: the fifth word, or none, which is no count. Assumes nothing.
 use Rattle.unit.proofs.Count.{too_few, count_four, counted}
 use Rattle.unit.specs.Count.{ports_of}
 use native.Mathlib.Omega.{arith}

@@ -1,3 +1,4 @@
+-- `words::store_unit` meets its contract: five stores are the own part that came back. Assumes nothing.
 use Rattle.unit.proofs.Own.{own_stored}
 use lib.ListN.{length-set}
 use native.Mathlib.Omega.{arith}

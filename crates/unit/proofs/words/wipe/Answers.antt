@@ -1,3 +1,4 @@
+-- `words::wipe` meets its contract. The loop's invariant: zeros up to i, and the words as they were from there on. Assumes nothing.
 use mathlib.Core.Path.{◌≡◌, refl, ◌∙◌}
 use mathlib.Core.List.{◌++◌, append-nil}
 use Prim.Native.Nat.{◌≤◌, ◌-◌}
