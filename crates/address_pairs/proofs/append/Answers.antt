@@ -2,7 +2,6 @@
 use native.Mathlib.Omega.{arith}
 use lib.ListN.{length-set}
 use Rattle.address_pairs.proofs.Appending.{appended}
-use borrow.Author.Rules.{rules}
 use Rattle.address_pairs.proofs.append.Goals as goal
 
 pub bounds-table-at-2 : goal.bounds-table-at-2

@@ -3,7 +3,6 @@ use Prim.Native.Nat.{◌*◌}
 use Rattle.storage.proofs.Parts.{range_size}
 use Rattle.address_pairs.specs.AddressPairs.{pairs_length}
 use Rattle.address_pairs.proofs.Tables.{table_at}
-use borrow.Author.Rules.{rules}
 use Rattle.address_pairs.proofs.look_up_in.Goals as goal
 
 pub returns : goal.returns

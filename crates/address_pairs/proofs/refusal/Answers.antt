@@ -2,7 +2,6 @@
 use mathlib.Core.Path.{sym, ◌∙◌}
 use Rattle.address_pairs.specs.AddressPairs.{tables_of}
 use Rattle.address_pairs.proofs.Adding.{outer_wrong, inner_wrong, inner_twice, outer_twice, table_full, none_applies_lem}
-use borrow.Author.Rules.{rules}
 use Rattle.address_pairs.proofs.refusal.Goals as goal
 
 pub returns-then-outer-ge-ADDRESSES : goal.returns-then-outer-ge-ADDRESSES

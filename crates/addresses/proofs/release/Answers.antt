@@ -1,5 +1,4 @@
 -- `addresses::release` meets its contract: a place of two zeros is free. Assumes nothing.
-use borrow.Author.Rules.{rules}
 use Rattle.addresses.specs.Table.{place_from}
 use Rattle.addresses.proofs.release.Goals as goal
 

@@ -1,5 +1,4 @@
 -- `digit_if` meets its contract: by the test. Assumes nothing.
-use borrow.Author.Rules.{rules}
 use native.Mathlib.Omega.{arith}
 use borrow.Author.Tests.{eq-eqb, ne_eqb}
 use Rattle.text.proofs.Writing.{writing_none}

@@ -1,5 +1,4 @@
 -- `put_passed` meets its contract: five texts, one after the other. Assumes nothing.
-use borrow.Author.Rules.{rules}
 use native.Mathlib.Omega.{arith}
 use Rattle.text.proofs.Writing.{writing_join}
 use Rattle.bench_lines.specs.Lines.{passed_text}

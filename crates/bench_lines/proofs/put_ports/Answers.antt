@@ -1,5 +1,4 @@
 -- `put_ports` meets its contract: a digit for each port, or -. Assumes nothing.
-use borrow.Author.Rules.{rules}
 use native.Mathlib.Omega.{arith}
 use Rattle.text.proofs.Writing.{writing_join}
 use Rattle.bench_lines.specs.Lines.{ports_text}

@@ -1,5 +1,4 @@
 -- `put_taken` meets its contract: by what was taken. Assumes nothing.
-use borrow.Author.Rules.{rules}
 use Rattle.bench_lines.proofs.put_taken.Goals as goal
 
 pub returns-in-Given : goal.returns-in-Given

@@ -1,5 +1,4 @@
 -- `cut` meets its contract: by whether anything follows. Assumes nothing.
-use borrow.Author.Rules.{rules}
 use Rattle.bench_log.proofs.Steps.{cut_last, cut_more}
 use Rattle.bench_log.proofs.cut.Goals as goal
 

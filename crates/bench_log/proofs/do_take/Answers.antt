@@ -1,5 +1,4 @@
 -- `do_take` meets its contract: the call, then its line. Assumes nothing.
-use borrow.Author.Rules.{rules}
 use Rattle.bench_log.proofs.Steps.{take_done}
 use Rattle.bench_log.proofs.do_take.Goals as goal
 

@@ -1,5 +1,4 @@
 -- `put_frame` meets its contract: by the refusal. Assumes nothing.
-use borrow.Author.Rules.{rules}
 use borrow.Author.Tests.{eq-eqb, ne_eqb}
 use Rattle.bench_log.proofs.put_frame.Goals as goal
 

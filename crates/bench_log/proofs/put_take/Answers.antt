@@ -1,5 +1,4 @@
 -- `put_take` meets its contract: by the answer. Assumes nothing.
-use borrow.Author.Rules.{rules}
 use Rattle.bench_log.proofs.put_take.Goals as goal
 
 pub returns-in-Refused : goal.returns-in-Refused

@@ -1,6 +1,4 @@
 -- `step` meets its contract: by the room, the log and its kind. Assumes nothing.
-use mathlib.Core.Path.{◌≡◌, sym, ◌∙◌}
-use native.Mathlib.Omega.{arith}
 use Rattle.bench_log.proofs.Steps.{no_room, at_end, at_unknown}
 use Rattle.bench_records.proofs.Numbers.{number_unknown}
 use borrow.Author.Rules.{rules}

@@ -1,5 +1,4 @@
 -- `step_frame` meets its contract: cut, or done. Assumes nothing.
-use mathlib.Core.Path.{◌≡◌, sym, ◌∙◌}
 use native.Mathlib.Omega.{arith}
 use Rattle.bench_log.proofs.Steps.{at_cut, at_frame}
 use Rattle.bench_records.proofs.Numbers.{number_cut_frame}

@@ -1,5 +1,4 @@
 -- `arrival_of` meets its contract: part by part. Assumes nothing.
-use borrow.Author.Rules.{rules}
 use Rattle.bench_records.specs.Records.{arrival_of}
 use Rattle.bench_records.proofs.arrival_of.Goals as goal
 

@@ -1,5 +1,4 @@
 -- `put_four` meets its contract: four bytes, one after the other. Assumes nothing.
-use borrow.Author.Rules.{rules}
 use native.Mathlib.Omega.{arith}
 use Rattle.text.proofs.Writing.{writing_join}
 use Rattle.bench_records.proofs.put_four.Goals as goal

@@ -2,7 +2,6 @@
 use mathlib.Core.Path.{sym, ◌∙◌}
 use native.Mathlib.Omega.{arith}
 use Rattle.bridge.proofs.Answers.{quiet_short, quiet_wrong, quieted}
-use borrow.Author.Rules.{rules}
 use Rattle.bridge.proofs.quiet.Goals as goal
 
 pub returns-then-words-record_length : goal.returns-then-words-record_length

@@ -1,5 +1,4 @@
 -- `arrival_in` meets its contract: part by part. Assumes nothing.
-use borrow.Author.Rules.{rules}
 use Rattle.candump.specs.Line.{arrival_in}
 use Rattle.candump.proofs.arrival_in.Goals as goal
 

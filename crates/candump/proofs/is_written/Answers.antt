@@ -1,5 +1,4 @@
 -- `is_written` meets its contract: the line is written anew and compared. Assumes nothing.
-use borrow.Author.Rules.{rules}
 use native.Mathlib.Omega.{arith}
 use Prim.Native.Nat.{◌-◌}
 use Rattle.candump.proofs.Lines.{written_long, put_start}

@@ -1,5 +1,4 @@
 -- `put` meets its contract: the head and the tail. Assumes nothing.
-use borrow.Author.Rules.{rules}
 use native.Mathlib.Omega.{arith}
 use Rattle.candump.specs.Line.{written}
 use Rattle.text.proofs.Writing.{writing_join}

@@ -1,7 +1,5 @@
 -- `word_end` meets its contract: the place stays within the text. Assumes nothing.
-use mathlib.Core.Path.{◌≡◌}
 use Prim.Native.Nat.{◌-◌, ◌≤◌}
-use borrow.Author.Rules.{rules}
 use lib.ListN.{length}
 use Rattle.candump_log.proofs.word_end.Given as goal
 

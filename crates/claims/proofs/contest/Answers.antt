@@ -2,7 +2,6 @@
 use native.Mathlib.Omega.{arith}
 use Rattle.unit.proofs.Own.{moved_count}
 use Rattle.claims.proofs.Acts.{defended, displaced}
-use borrow.Author.Rules.{rules}
 use Rattle.claims.proofs.contest.Goals as goal
 
 pub returns-then-unit-name : goal.returns-then-unit-name

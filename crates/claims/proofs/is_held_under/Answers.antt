@@ -1,5 +1,4 @@
 -- `claims::is_held_under` meets its contract: by cases of who holds the address. Assumes nothing.
-use borrow.Author.Rules.{rules}
 use Rattle.claims.proofs.is_held_under.Goals as goal
 
 pub returns-in-Free : goal.returns-in-Free

@@ -4,7 +4,6 @@ use borrow.Author.Tests.{eq-eqb, ne_eqb}
 use Rattle.storage.specs.Bytes.{packed}
 use Rattle.identifier.specs.Identifier.{pgn_of}
 use Rattle.claims.specs.Claims.{is_request}
-use borrow.Author.Rules.{rules}
 use Rattle.claims.proofs.is_request.Goals as goal
 
 pub returns-then-pgn-ne-REQUEST : goal.returns-then-pgn-ne-REQUEST

@@ -3,7 +3,6 @@ use Prim.Native.Nat.{◌<◌}
 use native.Mathlib.Omega.{arith}
 use Rattle.unit.proofs.Own.{moved_count}
 use Rattle.claims.proofs.Acts.{start_lost, start_claiming}
-use borrow.Author.Rules.{rules}
 use Rattle.claims.proofs.start.Goals as goal
 
 pub is_held_under-requires : goal.is_held_under-requires

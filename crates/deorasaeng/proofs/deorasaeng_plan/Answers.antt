@@ -1,5 +1,4 @@
 -- `deorasaeng_plan` meets its contract: the plan's answer is handed on. Assumes nothing.
-use borrow.Author.Rules.{rules}
 use Rattle.deorasaeng.proofs.deorasaeng_plan.Goals as goal
 
 pub returns : goal.returns

@@ -2,7 +2,6 @@
 use mathlib.Core.Path.{sym, ◌∙◌}
 use native.Mathlib.Omega.{arith}
 use Rattle.entries.proofs.ThreeBytes.{entries_count, entry_is}
-use borrow.Author.Rules.{rules}
 use Rattle.entries.proofs.entry_at.Goals as goal
 
 pub overflow_mul-i : goal.overflow_mul-i

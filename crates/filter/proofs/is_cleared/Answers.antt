@@ -2,7 +2,6 @@
 use mathlib.Core.Path.{sym}
 use Rattle.filter.specs.Filter.{filter_of}
 use Rattle.filter.proofs.Meaning.{cleared_test}
-use borrow.Author.Rules.{rules}
 use Rattle.filter.proofs.is_cleared.Goals as goal
 
 pub returns : goal.returns

@@ -2,7 +2,6 @@
 use mathlib.Core.Path.{sym, ◌∙◌}
 use Rattle.entries.specs.Entries.{entries_of}
 use Rattle.filter_commands.proofs.Commands.{only_one, add_cleared, add_grown}
-use borrow.Author.Rules.{rules}
 use Rattle.filter_commands.proofs.add.Goals as goal
 
 pub returns-then-is_cleared : goal.returns-then-is_cleared

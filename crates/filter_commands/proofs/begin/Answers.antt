@@ -2,7 +2,6 @@
 use mathlib.Core.Path.{sym, ◌∙◌}
 use Rattle.entries.specs.Entries.{entries_of}
 use Rattle.filter_commands.proofs.Commands.{only_one}
-use borrow.Author.Rules.{rules}
 use Rattle.filter_commands.proofs.begin.Goals as goal
 
 pub returns-then-count-eq1 : goal.returns-then-count-eq1

@@ -2,7 +2,6 @@
 use mathlib.Core.Path.{◌∙◌}
 use Rattle.filter.proofs.Meaning.{sorted_long}
 use Rattle.filter_commands.proofs.Sorting.{taken_out, part_long}
-use borrow.Author.Rules.{rules}
 use Rattle.filter_commands.proofs.sort_out_one.Goals as goal
 
 pub returns : goal.returns

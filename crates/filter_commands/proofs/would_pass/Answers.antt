@@ -2,7 +2,6 @@
 use mathlib.Core.Path.{sym}
 use native.Mathlib.Omega.{arith}
 use Rattle.filter_commands.proofs.Commands.{pass_few, pass_tried}
-use borrow.Author.Rules.{rules}
 use Rattle.filter_commands.proofs.would_pass.Goals as goal
 
 pub returns-then-count-n : goal.returns-then-count-n

@@ -1,7 +1,6 @@
 -- `flat_answers::tell_counts` meets its contract: ten words are stored in a place for ten. Assumes nothing.
 use native.Mathlib.Omega.{arith}
 use lib.ListN.{length-set}
-use borrow.Author.Rules.{rules}
 use Rattle.flat_answers.specs.Answers.{counts_words}
 use Rattle.flat_answers.proofs.Words.{stored}
 use Rattle.flat_answers.proofs.tell_counts.Goals as goal

@@ -4,7 +4,6 @@ use mathlib.Core.List.{[], ◌∷◌}
 use native.Mathlib.Omega.{arith}
 use lib.ListN.{length-set}
 use Rattle.flat_answers.proofs.Words.{stored}
-use borrow.Author.Rules.{rules}
 use Rattle.flat_answers.proofs.tell_frame.Goals as goal
 
 pub bounds-answer-4 : goal.bounds-answer-4

@@ -2,7 +2,6 @@
 use mathlib.Core.List.{[], ◌∷◌}
 use native.Mathlib.Omega.{arith}
 use Rattle.flat_answers.proofs.Words.{stored, told_nothing, told_frame}
-use borrow.Author.Rules.{rules}
 use Rattle.flat_answers.proofs.tell_taken.Goals as goal
 
 pub returns-in-Nothing : goal.returns-in-Nothing

@@ -4,7 +4,6 @@ use mathlib.Core.List.{[], ◌∷◌}
 use native.Mathlib.Omega.{arith}
 use Rattle.flat_answers.proofs.Words.{stored}
 use lib.ListN.{length-set}
-use borrow.Author.Rules.{rules}
 use Rattle.flat_answers.proofs.tell_unit.Goals as goal
 
 pub bounds-answer-4 : goal.bounds-answer-4

@@ -4,7 +4,6 @@ use Prim.Native.Nat.{◌*◌}
 use native.Mathlib.Omega.{arith}
 use lib.Pow.{pow_pos}
 use Rattle.flat_answers.proofs.Words.{shifted, cut_frame, short_frame, whole_frame}
-use borrow.Author.Rules.{rules}
 use Rattle.flat_answers.proofs.write_bytes.Goals as goal
 
 pub returns-then-f-ge8 : goal.returns-then-f-ge8

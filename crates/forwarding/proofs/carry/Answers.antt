@@ -2,7 +2,6 @@
 use mathlib.Core.Bool.{true, false}
 use mathlib.Core.Path.{sym, ◌∙◌}
 use Rattle.forwarding.proofs.Sends.{carried_stopped, carried}
-use borrow.Author.Rules.{rules}
 use Rattle.forwarding.proofs.carry.Goals as goal
 
 pub returns-then-waits : goal.returns-then-waits

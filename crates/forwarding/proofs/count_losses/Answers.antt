@@ -1,7 +1,6 @@
 -- `forwarding::count_losses` meets its contract: the loop over the set, a bit at a time. Assumes nothing.
-use Prim.Native.Nat.{◌-◌}
 use native.Mathlib.Omega.{arith}
-use Rattle.forwarding.proofs.Loop.{Counted, counted_start, counted_away, counted_more, counted_passed, counted_done}
+use Rattle.forwarding.proofs.Loop.{counted_start, counted_away, counted_more, counted_passed, counted_done}
 use Rattle.forwarding.proofs.count_losses.Goals.{then-set-eq1, else-set-eq1}
 use Rattle.forwarding.proofs.count_losses.Goals as goal
 

@@ -4,7 +4,6 @@ use native.Mathlib.Omega.{arith}
 use lib.ListN.{length}
 use Rattle.refusals.proofs.Checks.{frame_goes}
 use Rattle.frame_parts.proofs.Laws.{act_refused, acted}
-use borrow.Author.Rules.{rules}
 use Rattle.frame_parts.proofs.act.Goals as goal
 
 pub returns-then-number-ne0 : goal.returns-then-number-ne0

@@ -2,7 +2,6 @@
 use mathlib.Core.Path.{sym, ◌∙◌}
 use native.Mathlib.Omega.{arith}
 use Rattle.frame_parts.proofs.Laws.{announce_short, announced}
-use borrow.Author.Rules.{rules}
 use Rattle.frame_parts.proofs.announce.Goals as goal
 
 pub returns-then-words-record_length : goal.returns-then-words-record_length

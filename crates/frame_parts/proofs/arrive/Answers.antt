@@ -5,7 +5,6 @@ use lib.ListN.{length}
 use Rattle.claims.proofs.Frames.{frame_is}
 use Rattle.refusals.proofs.Checks.{frame_goes}
 use Rattle.frame_parts.proofs.Laws.{arrive_refused, arrive_goes}
-use borrow.Author.Rules.{rules}
 use Rattle.frame_parts.proofs.arrive.Goals as goal
 
 pub returns-then-number-ne0 : goal.returns-then-number-ne0

@@ -3,7 +3,6 @@ use mathlib.Core.Path.{sym, ◌∙◌}
 use native.Mathlib.Omega.{arith}
 use lib.ListN.{length}
 use Rattle.frame_parts.proofs.Laws.{pair_goes, ask_refused, ask_self, ask_pair}
-use borrow.Author.Rules.{rules}
 use Rattle.frame_parts.proofs.ask.Goals as goal
 
 pub returns-then-number-ne0 : goal.returns-then-number-ne0

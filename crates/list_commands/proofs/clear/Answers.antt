@@ -1,5 +1,4 @@
 -- `list_commands::clear` meets its contract: every pair that is named was cleared. Assumes nothing.
-use borrow.Author.Rules.{rules}
 use Rattle.list_commands.proofs.clear.Goals as goal
 
 pub returns : goal.returns

@@ -1,8 +1,6 @@
 -- `list_commands::command` meets its contract: refused, or done on every pair that is named. Assumes nothing.
-use mathlib.Core.Path.{◌≡◌, sym, ◌∙◌}
-use native.Mathlib.Omega.{arith}
+use mathlib.Core.Path.{sym, ◌∙◌}
 use Rattle.list_commands.proofs.PairLoop.{command_refused, command_done}
-use borrow.Author.Rules.{rules}
 use Rattle.list_commands.proofs.command.Goals.{then-named+else-number-ne0, else-named}
 use Rattle.list_commands.proofs.command.Goals as goal
 

@@ -3,7 +3,6 @@ use mathlib.Core.Path.{refl}
 use Prim.Native.Nat.{◌-◌}
 use native.Mathlib.Omega.{arith}
 use Rattle.unit.proofs.Count.{pairs_most, row_within}
-use borrow.Author.Rules.{rules}
 use Rattle.list_commands.proofs.first_pair.Goals as goal
 
 pub overflow_mul-result : goal.overflow_mul-result

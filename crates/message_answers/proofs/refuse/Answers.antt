@@ -1,5 +1,4 @@
 -- `message_answers::refuse` meets its contract: the acknowledgment, with what is told. Assumes nothing.
-use borrow.Author.Rules.{rules}
 use Rattle.message_answers.proofs.refuse.Goals as goal
 
 pub returns : goal.returns

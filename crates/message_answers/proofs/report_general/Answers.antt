@@ -1,5 +1,4 @@
 -- `message_answers::report_general` meets its contract, by what was written. Assumes nothing.
-use borrow.Author.Rules.{rules}
 use Rattle.message_answers.proofs.report_general.Goals as goal
 
 pub returns : goal.returns

@@ -1,5 +1,4 @@
 -- `message_answers::report_pair` meets its contract, by what was written. Assumes nothing.
-use borrow.Author.Rules.{rules}
 use Rattle.message_answers.proofs.report_pair.Goals as goal
 
 pub returns : goal.returns

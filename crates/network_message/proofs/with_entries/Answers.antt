@@ -1,5 +1,4 @@
 -- `network_message::with_entries` meets its contract, by where the entries begin and end. Assumes nothing.
-use borrow.Author.Rules.{rules}
 use Rattle.network_message.proofs.with_entries.Goals as goal
 
 pub returns : goal.returns

@@ -2,7 +2,6 @@
 use native.Mathlib.Omega.{arith}
 use Prim.Native.Nat.{◌/◌, ◌%◌}
 use Rattle.packets.proofs.Frames.{eight}
-use borrow.Author.Rules.{rules}
 use Rattle.packets.proofs.request_to_send.Goals as goal
 
 pub returns : goal.returns

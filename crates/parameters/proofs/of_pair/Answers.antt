@@ -3,7 +3,6 @@ use mathlib.Core.Path.{refl, sym, ◌∙◌}
 use native.Mathlib.Omega.{arith}
 use Rattle.parameters.proofs.Laws.{chosen_last}
 use Rattle.parameters.specs.Parameters.{pair_parameter}
-use borrow.Author.Rules.{rules}
 use Rattle.parameters.proofs.of_pair.Goals as goal
 
 pub returns-in-1 : goal.returns-in-1

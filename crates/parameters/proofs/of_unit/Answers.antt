@@ -4,7 +4,6 @@ use native.Mathlib.Omega.{arith}
 use Rattle.unit.proofs.Count.{pairs_most}
 use Rattle.parameters.specs.Parameters.{general_parameter}
 use Rattle.parameters.proofs.Laws.{chosen_last}
-use borrow.Author.Rules.{rules}
 use Rattle.parameters.proofs.of_unit.Goals as goal
 
 pub overflow_cast-result-in-2 : goal.overflow_cast-result-in-2

@@ -1,5 +1,4 @@
 -- `pgn_list::is_listed` meets its contract: the search ends inside exactly where x is listed. Assumes nothing.
-use borrow.Author.Rules.{rules}
 use Rattle.pgn_list.proofs.Search.{found_says}
 use Rattle.pgn_list.proofs.is_listed.Goals as goal
 

@@ -1,5 +1,4 @@
 -- `plan_links::hear` meets its contract: the answer of the table that its links make. Assumes nothing.
-use mathlib.Core.Path.{◌≡◌}
 use Rattle.plan_links.proofs.Puts.{links_answer}
 use Rattle.plan_links.proofs.hear.Goals as goal
 

@@ -1,8 +1,6 @@
 -- `plan_rings::number` meets its contract: the places below i have their own label. Assumes nothing.
-use Prim.Native.Nat.{◌-◌}
 use native.Mathlib.Omega.{arith}
-use Rattle.plan_rings.specs.Rings.{nodes}
-use Rattle.plan_rings.proofs.Labels.{NumberedTo, number_start, number_more, number_done}
+use Rattle.plan_rings.proofs.Labels.{number_start, number_more, number_done}
 use Rattle.plan_rings.proofs.number.Goals as goal
 
 pub loop-i-init : goal.loop-i-init

@@ -5,7 +5,6 @@ use Rattle.plan_walk.specs.Walk.{marks_length, chain_length}
 use Rattle.plan_walk.proofs.Chain.{chain_start}
 use Rattle.plan_walk.proofs.Paths.{unmarked_at}
 use Rattle.plan_walk.proofs.Answer.{walk_fresh, answer_is}
-use borrow.Author.Rules.{rules}
 use Rattle.plan_walk.proofs.hear.Goals as goal
 
 pub chain_links-requires : goal.chain_links-requires

@@ -1,5 +1,4 @@
 -- `queue::counts` meets its contract: ten words are read. Assumes nothing.
-use Rattle.std.proofs.Common.{rules}
 use Rattle.queue.proofs.Tallies.{tally_read}
 use Rattle.queue.proofs.counts.Goals as goal
 

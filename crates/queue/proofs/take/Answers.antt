@@ -1,5 +1,5 @@
 -- `queue::take` meets its contract, by the laws of `Block` and what each step ensures. Assumes nothing.
-use Rattle.std.proofs.Common.{◌-◌, arith, length-set, rules}
+use Rattle.std.proofs.Common.{◌-◌, arith, length-set}
 use Rattle.queue.proofs.Block.{took_nothing, took}
 use Rattle.queue.proofs.take.Goals as goal
 

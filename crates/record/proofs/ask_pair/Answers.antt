@@ -1,5 +1,4 @@
 -- `record::ask_pair` meets its contract: the pair's filter is asked. Assumes nothing.
-use borrow.Author.Rules.{rules}
 use Rattle.record.proofs.ask_pair.Goals as goal
 
 pub returns : goal.returns

@@ -2,7 +2,6 @@
 use native.Mathlib.Omega.{arith}
 use Rattle.addresses.specs.Table.{name_in, name_at}
 use Rattle.record.proofs.Regions.{name_past}
-use borrow.Author.Rules.{rules}
 use Rattle.record.proofs.sender.Goals as goal
 
 pub returns-then-address-gt253 : goal.returns-then-address-gt253

@@ -2,7 +2,6 @@
 use mathlib.Core.Path.{◌∙◌, refl}
 use mathlib.Core.List.{◌∷◌}
 use native.Mathlib.Omega.{arith}
-use borrow.Author.Rules.{rules}
 use lib.ListN.{length-set}
 use Rattle.storage.specs.Bytes.{bytes_of}
 use Rattle.replies.specs.Replies.{parameter_reply}

@@ -3,7 +3,6 @@ use mathlib.Core.Path.{sym, ◌∙◌}
 use borrow.Author.Tests.{eq-eqb, ne_eqb}
 use Rattle.identifier.specs.Identifier.{pgn_of, ps_of}
 use Rattle.routing.specs.Routing.{is_claim}
-use borrow.Author.Rules.{rules}
 use Rattle.routing.proofs.is_claim.Goals as goal
 
 pub returns-then-pgn-ne-ADDRESS_CLAIMED : goal.returns-then-pgn-ne-ADDRESS_CLAIMED

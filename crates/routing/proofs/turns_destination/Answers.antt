@@ -4,7 +4,6 @@ use mathlib.Core.Bool.{true, false}
 use borrow.Author.Tests.{eq-eqb, ne_eqb}
 use Rattle.identifier.specs.Identifier.{has_destination}
 use Rattle.routing.specs.Routing.{turns_destination}
-use borrow.Author.Rules.{rules}
 use Rattle.routing.proofs.turns_destination.Goals as goal
 
 pub returns-then-from-ne1 : goal.returns-then-from-ne1

@@ -6,7 +6,6 @@ use borrow.Author.Tests.{lt-leb}
 use Rattle.session.specs.Session.{session_of}
 use native.Mathlib.Omega.{arith}
 use mathlib.Core.Path.{sym}
-use borrow.Author.Rules.{rules}
 use Rattle.session.proofs.is_due.Goals as goal
 
 pub returns-then-time-since : goal.returns-then-time-since

@@ -5,7 +5,6 @@ use lib.ListN.{length}
 use Prim.Native.Nat.{◌<◌}
 use mathlib.Core.Path.{◌∙◌}
 use Rattle.sessions.proofs.Steps.{clears_none, clears_held, clears_zero, clears_past, clears_send}
-use borrow.Author.Rules.{rules}
 use Rattle.sessions.proofs.clear_at.Goals as goal
 
 pub returns-then-n-i : goal.returns-then-n-i

@@ -5,7 +5,6 @@ use lib.ListN.{length}
 use Prim.Native.Nat.{ℕ, ◌+◌, ◌<◌}
 use native.Mathlib.Omega.{arith}
 use mathlib.Core.Path.{sym, ap, ◌∙◌}
-use borrow.Author.Rules.{rules}
 use Rattle.sessions.proofs.data_at.Goals as goal
 
 pub returns-then-n-i : goal.returns-then-n-i

@@ -2,7 +2,6 @@
 use Rattle.sessions.proofs.Steps.{past_none}
 use Rattle.sessions.specs.Sessions.{talk_of}
 use native.Mathlib.Omega.{arith}
-use borrow.Author.Rules.{rules}
 use Rattle.sessions.proofs.drop_at.Goals as goal
 
 pub returns-else-i-count : goal.returns-else-i-count

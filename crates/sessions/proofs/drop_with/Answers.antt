@@ -1,5 +1,4 @@
 -- `sessions::drop_with` meets its contract: the session that is found ends. Assumes nothing.
-use borrow.Author.Rules.{rules}
 use Rattle.sessions.proofs.drop_with.Goals as goal
 
 pub returns : goal.returns

@@ -1,5 +1,4 @@
 -- `sessions::heard_abort` meets its contract: the sessions of both ways end, one after the other. Assumes nothing.
-use borrow.Author.Rules.{rules}
 use Rattle.sessions.proofs.heard_abort.Goals as goal
 
 pub returns : goal.returns

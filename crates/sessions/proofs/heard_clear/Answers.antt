@@ -1,5 +1,4 @@
 -- `sessions::heard_clear` meets its contract: the row of the session that is found. Assumes nothing.
-use borrow.Author.Rules.{rules}
 use Rattle.sessions.proofs.heard_clear.Goals as goal
 
 pub returns : goal.returns

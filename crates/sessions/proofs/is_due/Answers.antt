@@ -4,7 +4,6 @@ use Rattle.sessions.specs.Sessions.{blocks_in, none}
 use Rattle.session.specs.Session.{is_due}
 use lib.ListN.{get_or}
 use mathlib.Core.Path.{ap, ◌∙◌}
-use borrow.Author.Rules.{rules}
 use Rattle.sessions.proofs.is_due.Goals as goal
 
 pub returns : goal.returns

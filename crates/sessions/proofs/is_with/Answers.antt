@@ -5,7 +5,6 @@ use Rattle.sessions.specs.Sessions.{blocks_in, none}
 use Rattle.session.specs.Session.{Session}
 use lib.ListN.{get_or}
 use mathlib.Core.Path.{ap, ◌∙◌}
-use borrow.Author.Rules.{rules}
 use Rattle.sessions.proofs.is_with.Goals as goal
 
 pub returns-then-way : goal.returns-then-way

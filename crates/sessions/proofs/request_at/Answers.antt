@@ -1,5 +1,4 @@
 -- `sessions::request_at` meets its contract: row by row. Assumes nothing.
-use borrow.Author.Tests.{not-true, not-false}
 use Rattle.sessions.proofs.Talk.{talk_long}
 use Rattle.sessions.proofs.Steps.{room, full, wrong, opened_for, right_bounds}
 use Rattle.sessions.specs.Sessions.{talk_of}

@@ -4,7 +4,6 @@ use Rattle.sessions.proofs.Talk.{talk_long, place_is}
 use Rattle.session.specs.Session.{Session}
 use native.Mathlib.Omega.{arith}
 use mathlib.Core.Path.{ap, ◌∙◌}
-use borrow.Author.Rules.{rules}
 use Rattle.sessions.proofs.stored.Goals as goal
 
 pub overflow_mul-a : goal.overflow_mul-a

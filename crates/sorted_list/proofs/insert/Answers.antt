@@ -1,5 +1,4 @@
 -- `sorted_list::insert` meets its contract: behind the last that is not above it there is room, where it is stored. Assumes nothing.
-use borrow.Author.Rules.{rules}
 use Rattle.sorted_list.proofs.Moves.{joins}
 use Rattle.sorted_list.proofs.insert.Goals as goal
 

@@ -1,5 +1,4 @@
 -- `byte` meets its contract: one store. Assumes nothing.
-use borrow.Author.Rules.{rules}
 use Rattle.text.proofs.Writing.{writing_one}
 use Rattle.text.proofs.byte.Goals as goal
 

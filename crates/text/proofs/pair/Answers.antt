@@ -1,7 +1,5 @@
 -- `pair` meets its contract: two digits, one after the other. Assumes nothing.
-use mathlib.Core.Path.{◌≡◌, sym}
 use native.Mathlib.Omega.{arith}
-use borrow.Author.Rules.{rules}
 use Rattle.text.specs.Digits.{hex_of}
 use Rattle.text.proofs.Writing.{writing_join}
 use Rattle.text.proofs.Digits.{high_digit}

@@ -1,5 +1,4 @@
 -- `perform` meets its contract: each kind is its call. Assumes nothing.
-use borrow.Author.Rules.{rules}
 use borrow.Author.Tests.{eq-eqb, ne_eqb}
 use Rattle.witness.specs.Encoding.{call_from}
 use Rattle.witness.proofs.perform.Goals as goal

@@ -2,7 +2,6 @@
 use Rattle.witness.specs.Encoding.{call_of}
 use Rattle.witness.proofs.Steps.{part_is}
 use lib.ListN.{get_or}
-use borrow.Author.Rules.{rules}
 use Rattle.witness.proofs.step.Goals as goal
 
 pub returns : goal.returns

@@ -1,7 +1,6 @@
 -- `forwarding::Way::after` meets its contract, by what became of the frame. Assumes nothing.
 use native.Mathlib.Nat.{add-zero}
 use Rattle.forwarding.specs.Steps.{way_after}
-use borrow.Author.Rules.{rules}
 use Rattle.forwarding.proofs.Way.after.Goals.{in-Stopped, in-Joined, in-Lost}
 use Rattle.forwarding.proofs.Way.after.Goals as goal
 

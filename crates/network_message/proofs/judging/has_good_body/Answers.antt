@@ -7,7 +7,6 @@ use borrow.Author.Tests.{ne_eqb}
 use Rattle.entries.specs.Entries.{listed}
 use Rattle.network_message.specs.Decoding.{has_entries, has_good_body}
 use Rattle.network_message.proofs.Keys.{entries_none, some_entries}
-use borrow.Author.Rules.{rules}
 use Rattle.network_message.proofs.judging.has_good_body.Goals as goal
 
 pub returns-in-7 : goal.returns-in-7

@@ -7,7 +7,6 @@ use borrow.Author.Tests.{ne_eqb}
 use Rattle.entries.specs.Entries.{listed}
 use Rattle.network_message.specs.Decoding.{has_entries, wrong_entry}
 use Rattle.network_message.proofs.Keys.{entries_none, some_entries}
-use borrow.Author.Rules.{rules}
 use Rattle.network_message.proofs.judging.wrong_entry.Goals as goal
 
 pub returns-in-7 : goal.returns-in-7

@@ -2,7 +2,6 @@
 use mathlib.Core.Path.{◌≡◌}
 use Prim.Native.Nat.{min}
 use native.Mathlib.Omega.{arith}
-use borrow.Author.Rules.{rules}
 use Rattle.pgn_list.proofs.Slots.{slot_small}
 use Rattle.pgn_list.proofs.index.note.Goals as goal
 

@@ -1,5 +1,4 @@
 -- `queue::Queue::take` meets its contract: it is the take on the queue's own words. Assumes nothing.
-use Rattle.std.proofs.Common.{rules}
 use Rattle.queue.proofs.Queue.take.Goals as goal
 
 pub returns : goal.returns

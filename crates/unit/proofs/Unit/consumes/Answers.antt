@@ -1,5 +1,4 @@
 -- `Unit::consumes` meets its contract: by what the identifier's functions and `is_own` ensure. Assumes nothing.
-use borrow.Author.Rules.{rules}
 use Rattle.unit.specs.Own.{consumes}
 use Rattle.unit.proofs.Unit.consumes.Goals as goal
 

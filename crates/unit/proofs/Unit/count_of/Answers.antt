@@ -2,7 +2,6 @@
 use Rattle.unit.proofs.Count.{too_few, too_many, count_four, count_same, counted}
 use native.Mathlib.Omega.{arith}
 use mathlib.Core.Path.{sym}
-use borrow.Author.Rules.{rules}
 use Rattle.unit.proofs.Unit.count_of.Goals as goal
 
 pub returns-then-count : goal.returns-then-count

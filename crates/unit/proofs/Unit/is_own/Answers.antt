@@ -1,5 +1,4 @@
 -- `Unit::is_own` meets its contract: by what `holds_address` ensures. Assumes nothing.
-use borrow.Author.Rules.{rules}
 use Rattle.unit.specs.Own.{is_own}
 use Rattle.unit.proofs.Unit.is_own.Goals as goal
 

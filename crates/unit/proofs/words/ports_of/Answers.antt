@@ -4,7 +4,6 @@ use Rattle.unit.specs.Count.{ports_of}
 use native.Mathlib.Omega.{arith}
 use lib.ListN.{get_or-eq_default}
 use mathlib.Core.Path.{sym}
-use borrow.Author.Rules.{rules}
 use Rattle.unit.proofs.words.ports_of.Goals as goal
 
 pub returns-then-words-lt5 : goal.returns-then-words-lt5

@@ -2,7 +2,6 @@
 use Rattle.unit.proofs.Own.{own_stored}
 use lib.ListN.{length-set}
 use native.Mathlib.Omega.{arith}
-use borrow.Author.Rules.{rules}
 use Rattle.unit.proofs.words.store_unit.Goals as goal
 
 pub bounds-words-1 : goal.bounds-words-1
