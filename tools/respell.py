@@ -124,6 +124,10 @@ def main():
                 at = m.end()
             out.append(WORD.sub(word, t[at:]))
             new = "".join(out)
+        # names under which a file brings others in
+        if not p.endswith(".edit"):
+            for a in set(re.findall(r"\bas ([a-z][a-z0-9]*(?:[A-Z]\w*)+)", new)):
+                new = re.sub(rf"(?<![\w'.-]){a}(?![\w'-])", snake(a), new)
         if not dry and new != t:
             with open(p, "w", encoding="utf-8") as f:
                 f.write(new)
