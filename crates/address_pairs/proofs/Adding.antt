@@ -1,16 +1,16 @@
 -- What an entry is refused with, and what it does to the tables. Assumes nothing.
-use mathlib.Core.Path.{◌≡◌, refl, sym, ap, ◌∙◌}
-use mathlib.Core.Bool.{Bool, true, false, cond, not, ◌&&◌, ◌||◌}
-use mathlib.Core.List.{List, [], ◌∷◌, ◌++◌}
-use Prim.Native.Nat.{ℕ, ◌+◌, ◌-◌, ◌*◌, ◌≤◌, ◌<◌}
+use mathlib.Core.Path.{◌≡◌, refl, sym, ◌∙◌}
+use mathlib.Core.Bool.{true, false, ◌&&◌}
+use mathlib.Core.List.{List}
+use Prim.Native.Nat.{ℕ, ◌-◌, ◌*◌, ◌≤◌, ◌<◌}
 use native.Mathlib.Omega.{arith}
 use borrow.Author.Tests.{lt-ltb, le-ltb, ltb-true, leb-false, not-false}
 use lib.Dec.{ltb}
-use lib.ListN.{length, get_or, set, take, drop, length-drop}
+use lib.ListN.{length, take, drop, length-drop}
 use lib.Seq.{length-take-le}
 use Rattle.storage.proofs.Parts.{back, length_back}
 use Rattle.checks.proofs.Tests.{both}
-use Rattle.address_pairs.specs.AddressPairs.{AddressPair, inner_side, stands, any_outer, address_count, most_pairs, pairs_length, pairs_of, tables_of, table_of, full, refusal_of, added}
+use Rattle.address_pairs.specs.AddressPairs.{AddressPair, inner_side, stands, any_outer, address_count, most_pairs, pairs_length, pairs_of, tables_of, table_of, full, refusal_of}
 use Rattle.address_pairs.specs.Calls.{Appending, Adding}
 use Rattle.address_pairs.proofs.Tables.{table_at, table_set}
 use Rattle.address_pairs.proofs.ThereAndBack.{not_refused}

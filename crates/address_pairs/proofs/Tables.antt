@@ -1,13 +1,13 @@
 -- The tables of the ports, one after the other. Assumes nothing.
-use mathlib.Core.Path.{◌≡◌, refl, sym, ap, ◌∙◌}
-use mathlib.Core.Bool.{Bool, true, false, ◌||◌}
-use mathlib.Core.List.{List, [], ◌∷◌}
-use Prim.Native.Nat.{ℕ, zero, suc, ◌+◌, ◌-◌, ◌*◌, ◌/◌, ◌≤◌, ◌<◌}
+use mathlib.Core.Path.{◌≡◌, refl, sym, ◌∙◌}
+use mathlib.Core.Bool.{true, false, ◌||◌}
+use mathlib.Core.List.{List, []}
+use Prim.Native.Nat.{ℕ, ◌+◌, ◌*◌, ◌/◌, ◌≤◌, ◌<◌}
 use native.Mathlib.Numerals.{add-one}
 use native.Mathlib.Omega.{arith}
 use lib.ListN.{length, get_or, set, take, drop, drop_of_length-le}
 use lib.Seq.{drop-cons}
-use Rattle.storage.specs.Blocks.{blocks_of, block_at}
+use Rattle.storage.specs.Blocks.{block_at}
 use Rattle.storage.proofs.Parts.{back, length_back}
 use Rattle.storage.proofs.Blocks.{length_blocks, blocks_at, blocks_set}
 use Rattle.address_pairs.specs.AddressPairs.{AddressPair, outer_side, stands, any_outer, pairs_length, pairs_of, tables_of}

@@ -1,19 +1,19 @@
 -- An address turned there and back is the same, in tables in which none stands twice; and an entry that is not refused keeps them so. Assumes nothing.
 use mathlib.Core.Path.{◌≡◌, refl, sym, ap, ◌∙◌}
 use mathlib.Core.Logic.{◌⊎◌, inl, inr, ⊎_elim}
-use mathlib.Core.Bool.{Bool, true, false, cond, not, ◌&&◌, ◌||◌, true≢false}
+use mathlib.Core.Bool.{Bool, true, false, cond, not, ◌||◌, true≢false}
 use mathlib.Core.List.{List, [], ◌∷◌, ◌++◌}
-use mathlib.Core.Option.{Option, none, some}
-use Prim.Native.Nat.{ℕ, zero, suc, ◌+◌, ◌-◌, ◌*◌, ◌/◌, ◌<◌}
+use mathlib.Core.Option.{Option, some}
+use Prim.Native.Nat.{ℕ, zero, suc, ◌-◌, ◌/◌, ◌<◌}
 use native.Mathlib.Decide.{ℕ_discrete}
 use native.Mathlib.Omega.{arith}
 use borrow.Author.Tests.{eqb-true, eqb-false, eq-eqb, ne_eqb, not-true}
 use lib.Dec.{eqb}
-use lib.ListN.{length, get_or, set, replicate, length-replicate}
+use lib.ListN.{length, get_or, replicate, length-replicate}
 use lib.Seq.{get_or-set_same, get_or-set_other}
 use Rattle.storage.proofs.Blocks.{blocks_filled}
 use Rattle.checks.proofs.Tests.{both, neither}
-use Rattle.address_pairs.specs.AddressPairs.{AddressPair, pair_of, inner_side, outer_side, side, look_up, out_of, in_to, stands, any_outer, once, pairs_length, pairs_in, pairs_of, tables_of, table_of, wrong_address, twice, full, refusal_of, added}
+use Rattle.address_pairs.specs.AddressPairs.{AddressPair, pair_of, inner_side, outer_side, side, look_up, stands, any_outer, once, pairs_length, pairs_in, pairs_of, tables_of, table_of, wrong_address, twice, full, refusal_of, added}
 use Rattle.address_pairs.specs.ThereAndBack.{OnceEach, ThereAndBack}
 
 or_right : (b : Bool) {c : Bool} → c ≡ true → (b || c) ≡ true

@@ -1,38 +1,28 @@
 // The lines of the programs that run the functions which C calls: what is called and the number given back, the words of its answer, the bytes that it wrote.
-use libc::STDOUT_FILENO;
+// A line that can't be written is left out.
+#![tactic(auto)]
 
-pub fn text(word: &[u8]) {
-    io::write_all(STDOUT_FILENO, word);
+pub fn text(out: &impl Print, word: &[u8]) {
+    let _ = out.write_all(word);
 }
 
 // A line's beginning: what is called, and the number given back.
-pub fn head(word: &[u8], number: u32) {
-    text(word);
-    text(b": ");
-    io::print_decimal(STDOUT_FILENO, number as u64);
+pub fn head(out: &impl Print, word: &[u8], number: u32) {
+    text(out, word);
+    let _ = print!(out; ": {number}");
 }
 
 // The words of an answer.
-pub fn words(answer: &[u64]) {
-    let mut i: usize = 0;
-    while i < answer.len() {
-        text(b" ");
-        io::print_decimal(STDOUT_FILENO, answer[i]);
-        i += 1;
+pub fn words(out: &impl Print, answer: &[u64]) {
+    for word in answer {
+        let _ = print!(out; " {word}");
     }
 }
 
-fn wide(byte: u8) -> u64 {
-    byte as u64
-}
-
 // Bytes in hex.
-pub fn bytes(written: &[u8]) {
-    text(b" |");
-    let mut i: usize = 0;
-    while i < written.len() {
-        text(b" ");
-        io::print_hex(STDOUT_FILENO, wide(written[i]), 2);
-        i += 1;
+pub fn bytes(out: &impl Print, written: &[u8]) {
+    text(out, b" |");
+    for byte in written {
+        let _ = print!(out; " {byte:02x}");
     }
 }

@@ -20,7 +20,7 @@ use Rattle.unit.specs.Own.{is_unstarted, is_claiming, holds_address, consumes}
 use Rattle.unit.specs.PowerOn.{not_long, fresh}
 use Rattle.claims.specs.Claims.{is_request_to_unit, frame_acted, claim_acted, started}
 use Rattle.claims.specs.Claims.{frame_of, is_claim as is_claim_frame}
-use Rattle.checks.specs.Ports.{no_port, is_port}
+use Rattle.checks.specs.Ports.{no_port}
 use Rattle.refusals.specs.Refusals.{frame_refusal, take_refusal, start_refusal, quiet_refusal, length_refusal}
 use Rattle.refusals.proofs.Checks.{none, port_in, source_in}
 use Rattle.bridge.specs.Calls.{Call, FrameIn, TakeOut, Message, Start, Quiet, ReadUnit, ReadCounts, refusal, rest_after, performed, next}

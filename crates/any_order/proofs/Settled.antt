@@ -17,7 +17,7 @@ use Rattle.unit.specs.declared.Claim.{Claim}
 use Rattle.unit.specs.declared.Claim.TheVariants.{Lost}
 use Rattle.unit.specs.declared.Unit.{Unit}
 use Rattle.unit.specs.Own.{holds_address}
-use Rattle.any_order.specs.Claimants.{Claimant, the_unit, with_unit, recorded, Lowest, GoesTo, lowest, Stands, unstarted, keeps, loses}
+use Rattle.any_order.specs.Claimants.{Claimant, the_unit, with_unit, recorded, Lowest, GoesTo, Stands, unstarted, keeps, loses}
 use Rattle.any_order.proofs.Lowest.{Grown, grown_with_unit, lowest_stays, elsewhere, lower}
 use Rattle.any_order.proofs.Places.{left_alone, beaten_goes}
 

@@ -1,7 +1,9 @@
 // Standard input by blocks, standard output, and what is told on standard error, for the programs of the bench log.
+#![tactic(auto)]
+
 ghost use Rattle.std.specs.Prelude.{true, ◌≡◌, ◌+◌, ◌≤◌, ◌<◌, length};
 
-use libc::{STDERR_FILENO, STDIN_FILENO, STDOUT_FILENO};
+use std::io::Read;
 
 // What a read left: where the bytes end, whether that was the last, whether it failed.
 #[derive(Clone, Copy)]
@@ -12,24 +14,24 @@ pub struct Filled {
 }
 
 // One read behind what is left at the front of a buffer. A failure is told.
-pub fn refill(buffer: &mut [u8], left: usize) -> Filled
+pub fn refill(rt: &impl Eprint, input: &mut impl Read, buffer: &mut [u8], left: usize) -> Filled
     requires { left ≤ length buffer.old }
     ensures { (left ≤ result.end) × (result.end ≤ length buffer.old) }
 {
-    let got = libc::read(STDIN_FILENO, &mut buffer[left..]);
-    if got < 0 {
-        os::fail(b"cannot read standard input");
-        return Filled {
-            end: left,
-            last: true,
-            failed: true,
-        };
-    }
-    let n = io::count(got, &buffer[left..]);
-    Filled {
-        end: left + n,
-        last: n == 0,
-        failed: false,
+    match input.read(&mut buffer[left..]) {
+        Ok(n) => Filled {
+            end: left + n,
+            last: n == 0,
+            failed: false,
+        },
+        Err(e) => {
+            let _ = eprintln!(rt; "cannot read standard input: {e}");
+            Filled {
+                end: left,
+                last: true,
+                failed: true,
+            }
+        }
     }
 }
 
@@ -48,26 +50,25 @@ pub fn move_front(buffer: &mut [u8], from: usize, end: usize) -> usize
 }
 
 // Writes bytes to standard output. A failure is told.
-pub fn write(bytes: &[u8]) -> bool {
-    let is_written = io::write_all(STDOUT_FILENO, bytes);
-    if is_written {
-        return true;
+pub fn write(rt: &(impl Print + Eprint), bytes: &[u8]) -> bool {
+    match rt.write_all(bytes) {
+        Ok(()) => true,
+        Err(e) => {
+            let _ = eprintln!(rt; "cannot write standard output: {e}");
+            false
+        }
     }
-    os::fail(b"cannot write standard output");
-    false
 }
 
-// A line of standard error that ends with a number.
-pub fn tell(words: &[u8], number: u64) {
-    io::write_all(STDERR_FILENO, words);
-    io::print_decimal(STDERR_FILENO, number);
-    io::write_all(STDERR_FILENO, b"\n");
+// A line that ends with a number, for `err`, which is standard error.
+pub fn tell(err: &impl Print, words: &[u8], number: u64) {
+    let _ = err.write_all(words);
+    let _ = err.println(number);
 }
 
 // What was refused: its place from 1 and its number.
-pub fn tell_refused(place: u64, number: u32) {
-    io::print_decimal(STDERR_FILENO, place);
-    tell(b" ", number as u64);
+pub fn tell_refused(rt: &impl Eprint, place: u64, number: u32) {
+    let _ = eprintln!(rt; "{place} {number}");
 }
 
 // A log is over where it says so, and where its text can't be written.

@@ -2,16 +2,15 @@
 use mathlib.Core.Path.{◌≡◌, refl, sym, ap, ◌∙◌}
 use mathlib.Core.Bool.{Bool, true, false, cond, ◌||◌}
 use mathlib.Core.List.{List, [], ◌∷◌, ◌++◌}
-use Prim.Native.Nat.{ℕ, zero, suc, ◌+◌, ◌-◌, ◌≤◌, ◌<◌}
+use Prim.Native.Nat.{ℕ, zero, suc, ◌-◌, ◌≤◌, ◌<◌}
 use native.Mathlib.Omega.{arith}
-use native.Mathlib.Decide.{dec_lt}
-use borrow.Author.Tests.{lt-ltb, le-ltb, ltb-false, eq-eqb, ne_eqb, eqb-true}
+use borrow.Author.Tests.{le-ltb, ltb-false, eqb-true}
 use lib.Dec.{eqb, ltb}
-use lib.ListN.{length, take, drop, get_or, length-drop, length-append, get_or-append}
+use lib.ListN.{length, drop, get_or, length-drop, length-append, get_or-append}
 use lib.Seq.{take-append-le, drop-append-le}
 use Rattle.bench_records.specs.Records.{kind_of, size_of, log_number, id_of}
 use Rattle.bench_records.proofs.Numbers.{size_least, cut_number, record_whole}
-use Rattle.bridge.specs.Calls.{Call, FrameIn, TakeOut}
+use Rattle.bridge.specs.Calls.{FrameIn, TakeOut}
 use Rattle.bench_log.specs.Log.{bytes_in, call_of, is_record, after, calls_in, rest_in, calls_of, rest_of}
 
 -- an empty log has no record: kind 0

@@ -1,11 +1,11 @@
 -- Steps over a piece of a log, one after the other, are a run once what follows is run behind them. Assumes nothing.
 use mathlib.Core.Path.{◌≡◌, refl, sym, ap, ◌∙◌}
-use mathlib.Core.Bool.{Bool, true, false, cond}
+use mathlib.Core.Bool.{Bool, true, false}
 use mathlib.Core.Logic.{◌⊎◌, inl, inr}
-use mathlib.Core.List.{List, [], ◌∷◌, ◌++◌, append_assoc, append-nil}
-use Prim.Native.Nat.{ℕ, ◌+◌, ◌-◌, ◌*◌, ◌≤◌, ◌<◌}
+use mathlib.Core.List.{List, [], ◌++◌, append_assoc, append-nil}
+use Prim.Native.Nat.{ℕ, ◌+◌, ◌-◌, ◌≤◌, ◌<◌}
 use native.Mathlib.Omega.{arith}
-use borrow.Author.Tests.{eq-eqb, eqb-false, ltb-true, ltb-false, le-ltb}
+use borrow.Author.Tests.{ltb-true, ltb-false, le-ltb}
 use lib.Dec.{eqb, ltb}
 use lib.ListN.{length, take, drop, length-append, length-drop}
 use lib.Seq.{take-append-add, drop-append-add, drop-append-le, drop-drop, drop_at, drop-length, length-take-le}
@@ -14,7 +14,7 @@ use Rattle.unit.specs.Count.{ports_of}
 use Rattle.unit.specs.Model.{model_of}
 use Rattle.bench_records.specs.Records.{kind_of, size_of, log_number}
 use Rattle.bench_lines.specs.Lines.{line_room}
-use Rattle.bench_records.proofs.Turns.{part_long, part_whole}
+use Rattle.bench_records.proofs.Turns.{part_whole}
 use Rattle.bench_log.specs.declared.Stepped.{Stepped}
 use Rattle.bench_log.specs.Log.{is_record}
 use Rattle.bench_log.specs.Step.{outcome, Stepping}

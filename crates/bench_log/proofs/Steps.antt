@@ -1,19 +1,18 @@
 -- A step's contract, case by case. Assumes nothing.
 use mathlib.Core.Path.{◌≡◌, refl, sym, ap, ◌∙◌}
-use mathlib.Core.Bool.{Bool, true, false, cond}
-use mathlib.Core.List.{List, [], ◌∷◌, ◌++◌}
+use mathlib.Core.Bool.{Bool, true, false}
+use mathlib.Core.List.{List, ◌∷◌}
 use Prim.Native.Nat.{ℕ, zero, suc, ◌+◌, ◌-◌, ◌≤◌, ◌<◌}
 use native.Mathlib.Nat.{sub-zero, not-suc-le-zero, le_of_suc-le-suc}
 use native.Mathlib.Omega.{arith}
 use borrow.Author.Tests.{lt-ltb, le-ltb, eq-eqb, ne_eqb}
-use lib.Dec.{eqb, ltb}
-use lib.ListN.{length, take, drop, get_or, replicate, length-append, length-drop}
+use lib.ListN.{length, take, drop, get_or, replicate, length-append}
 use Rattle.text.specs.Writing.{put, Writing}
 use Rattle.unit.specs.Count.{ports_of}
 use Rattle.unit.specs.Model.{model_of}
 use Rattle.bridge.specs.declared.FrameAnswer.{FrameAnswer}
 use Rattle.bridge.specs.declared.TakeAnswer.{TakeAnswer}
-use Rattle.bridge.specs.Calls.{Call, FrameIn, TakeOut, Framing, TakingOut}
+use Rattle.bridge.specs.Calls.{FrameIn, TakeOut, Framing, TakingOut}
 use Rattle.bench_records.specs.Records.{kind_of, size_of, log_number, id_of}
 use Rattle.bench_lines.specs.Lines.{line_room, refused_text}
 use Rattle.bench_log.specs.declared.Stepped.{Stepped}

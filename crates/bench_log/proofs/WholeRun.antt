@@ -1,26 +1,24 @@
 -- A run's text is that of its log, in whatever pieces it is read; and its calls obey demand 3. Assumes nothing.
-use mathlib.Core.Path.{◌≡◌, refl, sym, ap, ◌∙◌}
-use mathlib.Core.Bool.{Bool, true, false, cond, ◌||◌}
+use mathlib.Core.Path.{◌≡◌, refl, sym, ◌∙◌}
+use mathlib.Core.Bool.{Bool, true, false, cond}
 use mathlib.Core.List.{List, [], ◌∷◌, ◌++◌, append_assoc, append-nil}
-use Prim.Native.Nat.{ℕ, ◌+◌, ◌≤◌, ◌<◌}
+use Prim.Native.Nat.{ℕ, ◌+◌, ◌<◌}
 use native.Mathlib.Omega.{arith}
 use borrow.Author.Tests.{eq-eqb, ne_eqb, eqb-true, eqb-false}
 use lib.Dec.{eqb, ltb}
 use lib.ListN.{length, take, drop, length-append}
 use lib.Seq.{take_at}
-use Rattle.text.specs.Writing.{put}
 use Rattle.delivery.specs.Calls.{after_calls, answers_of}
 use Rattle.unit.specs.Count.{ports_of}
 use Rattle.unit.proofs.Count.{count_same}
 use Rattle.unit.specs.Model.{Model, model_of, record_length}
 use Rattle.unit.specs.PowerOn.{PoweringOn, fresh}
-use Rattle.bridge.specs.Calls.{Call, FrameIn, TakeOut}
-use Rattle.demand_3.specs.Demand3.{Answer, ToFrame, ToTake, next, answer, Demand3}
+use Rattle.demand_3.specs.Demand3.{next, answer, Demand3}
 use Rattle.demand_3.proofs.Demand3.{from_book, good_then}
-use Rattle.bench_records.specs.Records.{kind_of, size_of, log_number, id_of}
+use Rattle.bench_records.specs.Records.{kind_of, size_of, log_number}
 use Rattle.bench_lines.specs.Lines.{line_room, refused_text}
 use Rattle.bench_log.specs.declared.Stepped.{Stepped}
-use Rattle.bench_log.specs.Log.{bytes_in, call_of, is_record, after, calls_of, rest_of}
+use Rattle.bench_log.specs.Log.{call_of, is_record, after, calls_of, rest_of}
 use Rattle.bench_log.specs.Step.{call_text, outcome, on_log, Outcome, Stepping}
 use Rattle.bench_log.specs.Run.{line_of, lines_of, end_text, text_of, Run, ends, goes}
 use Rattle.bench_records.proofs.Numbers.{size_least, record_whole}

@@ -1,25 +1,22 @@
 -- A frame's record, turned into a line and back, is the same record. Assumes nothing.
-use mathlib.Core.Path.{◌≡◌, refl, sym, ap, ◌∙◌}
-use mathlib.Core.Bool.{Bool, true, false, cond}
-use mathlib.Core.List.{List, [], ◌∷◌, ◌++◌}
-use Prim.Native.Nat.{ℕ, ◌+◌, ◌^◌, ◌≤◌, ◌<◌}
+use mathlib.Core.Path.{◌≡◌, refl, sym, ◌∙◌}
+use mathlib.Core.Bool.{Bool, true, false}
+use mathlib.Core.List.{List}
+use Prim.Native.Nat.{ℕ, ◌^◌, ◌≤◌}
 use native.Mathlib.Omega.{arith}
 use borrow.Author.Tests.{lt-ltb, le-ltb, le-leb}
-use lib.Dec.{eqb, ltb}
-use lib.ListN.{length, take, drop}
-use lib.Seq.{take_at}
+use lib.ListN.{length, take}
 use Rattle.storage.proofs.Bytes.{bytes_of_length}
 use Rattle.text.specs.Writing.{put}
 use Rattle.candump.specs.declared.Arrival.{Arrival}
 use Rattle.candump.specs.declared.Written.{Written}
-use Rattle.candump.specs.declared.Line.{Line}
-use Rattle.candump.specs.declared.Line.TheVariants.{Frame, Refused}
+use Rattle.candump.specs.declared.Line.TheVariants.{Frame}
 use Rattle.candump.specs.Line.{written, shows, is_line, Good}
 use Rattle.candump.specs.Calls.{line_read, line_refusal}
 use Rattle.candump.proofs.Lines.{put_start}
 use Rattle.candump.proofs.Exact.{again}
-use Rattle.bench_records.specs.Records.{kind_of, record_of, arrival_of}
-use Rattle.bench_records.specs.Turning.{frame_number, text_number, record_number, ToRecord, ToText}
+use Rattle.bench_records.specs.Records.{kind_of, record_of}
+use Rattle.bench_records.specs.Turning.{frame_number, text_number, ToRecord, ToText}
 use Rattle.bench_records.specs.Again.{RecordAgain, ThereAndBack}
 use Rattle.bench_records.proofs.Records.{read_case, frame_of_lem, apart, arrival_again}
 

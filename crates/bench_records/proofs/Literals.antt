@@ -1,6 +1,6 @@
 -- The literals: the examples by computing, with room for what is written. Assumes nothing.
-use mathlib.Core.Path.{◌≡◌, refl, sym, ap, ◌∙◌}
-use mathlib.Core.Bool.{Bool, true, false, cond, ◌&&◌}
+use mathlib.Core.Path.{◌≡◌, refl, ◌∙◌}
+use mathlib.Core.Bool.{true, false, cond, ◌&&◌}
 use mathlib.Core.List.{List, [], ◌∷◌}
 use Prim.Native.Nat.{ℕ, ◌+◌, ◌*◌, ◌≤◌}
 use native.Mathlib.Omega.{arith}
@@ -12,12 +12,12 @@ use Rattle.text.specs.Digits.{hex_digit, hex_value, hex_of, hex_bytes}
 use Rattle.text.specs.Writing.{put}
 use Rattle.candump.specs.declared.Written.{Written}
 use Rattle.candump.specs.Line.{written, alike, is_frame, id_in, data_in, arrival_in, is_line}
-use Rattle.candump.specs.Literals.{line_from, two_bytes, nine_bytes}
+use Rattle.candump.specs.Literals.{line_from, two_bytes}
 use Rattle.candump.proofs.Lines.{put_start}
 use Rattle.candump.proofs.Literals as candump
 use Rattle.bench_records.specs.Records.{word_of, arrival_of, record_of}
 use Rattle.bench_records.specs.Turning.{text_number, record_number, ToRecord, ToText}
-use Rattle.bench_records.specs.Literals.{record_from, eight, NoText, NoRecord, Literals}
+use Rattle.bench_records.specs.Literals.{record_from, NoText, NoRecord, Literals}
 
 -- ---- refused
 not_0 : {n : ℕ} → (n ≡ 0 → ⊥) → eqb n 0 ≡ false

@@ -1,28 +1,26 @@
 -- Records and turnings, case by case; and a record, read back, is the same frame. Assumes nothing.
-use mathlib.Core.Path.{◌≡◌, refl, sym, ap, ◌∙◌}
+use mathlib.Core.Path.{◌≡◌, refl, sym, ◌∙◌}
 use mathlib.Core.Bool.{Bool, true, false, cond}
-use mathlib.Core.List.{List, [], ◌∷◌, ◌++◌}
-use Prim.Native.Nat.{ℕ, ◌+◌, ◌-◌, ◌^◌, ◌≤◌, ◌<◌}
+use mathlib.Core.List.{List}
+use Prim.Native.Nat.{ℕ, ◌+◌, ◌-◌, ◌≤◌, ◌<◌}
 use native.Mathlib.Omega.{arith}
-use borrow.Author.Tests.{lt-ltb, le-ltb, ltb-false, eq-eqb, ne_eqb, eqb-true}
+use borrow.Author.Tests.{lt-ltb, le-ltb, ltb-false, ne_eqb, eqb-true}
 use lib.Dec.{eqb, ltb}
-use lib.ListN.{length, take, drop, get_or, length-take, length-drop}
+use lib.ListN.{length, take, drop, get_or, length-take}
 use lib.Seq.{take_all, take-take}
 use Rattle.storage.specs.Bytes.{packed, bytes_of}
 use Rattle.storage.proofs.Bytes.{bytes_of_length, bytes_back}
-use Rattle.text.specs.Writing.{put, Writing}
+use Rattle.text.specs.Writing.{Writing}
 use Rattle.text.proofs.Digits.{four_back}
 use Rattle.candump.specs.declared.Arrival.{Arrival}
-use Rattle.candump.specs.declared.Line.{Line}
 use Rattle.candump.specs.declared.Line.TheVariants.{Frame, Refused}
 use Rattle.candump.specs.declared.Written.{Written}
 use Rattle.candump.specs.Line.{written, shows, is_line, Good}
 use Rattle.candump.specs.Calls.{line_read, line_refusal, WritingLine}
-use Rattle.candump.specs.Exact.{IsWritten}
 use Rattle.candump.proofs.Lines.{goes, written_long}
 use Rattle.candump.proofs.Exact.{exact, take_bytes}
 use Rattle.bench_records.specs.Records.{kind_of, word_of, arrival_of, record_of}
-use Rattle.bench_records.specs.Turning.{record_number, ToRecord, frame_number, text_number, ToText}
+use Rattle.bench_records.specs.Turning.{ToRecord, frame_number, text_number, ToText}
 
 -- ---- the word of a record
 pub word_long : (log : List ℕ) (len : ℕ) → len ≡ get_or log 6 0 → 8 < len → packed (take 8 (take 8 (drop 7 log))) ≡ word_of log

@@ -1,9 +1,9 @@
 -- One exported call, by its contract: the bridge's call where the lent answer is of its length, and none where it is not. Assumes nothing.
 use mathlib.Core.Path.{◌≡◌, refl, sym, ap, ◌∙◌}
-use mathlib.Core.Bool.{Bool, true, false, cond, ◌&&◌, true≢false}
+use mathlib.Core.Bool.{Bool, true, false, ◌&&◌, true≢false}
 use mathlib.Core.Logic.{◌⊎◌, inl, inr, ⊎_elim}
-use mathlib.Core.List.{List, [], ◌∷◌, ◌++◌}
-use Prim.Native.Nat.{ℕ, ◌+◌, ◌-◌, ◌*◌, ◌≤◌}
+use mathlib.Core.List.{List, []}
+use Prim.Native.Nat.{ℕ, ◌+◌, ◌-◌, ◌*◌}
 use native.Mathlib.Decide.{ℕ_discrete}
 use native.Mathlib.Omega.{arith}
 use borrow.Author.Tests.{eq-eqb, ne_eqb, eqb-true, eqb-false}
@@ -15,9 +15,7 @@ use Rattle.checks.proofs.Tests.{both}
 use Rattle.checks.proofs.Ports.{port_bounds}
 use Rattle.delivery.specs.Row.{pull, given}
 use Rattle.queue.specs.declared.Taken.{Taken}
-use Rattle.queue.specs.Queue.{priority, taken_of, row_of, block_length, Taking}
-use Rattle.bridge.specs.declared.FrameAnswer.{FrameAnswer}
-use Rattle.bridge.specs.declared.StartAnswer.{StartAnswer}
+use Rattle.queue.specs.Queue.{priority, taken_of, block_length}
 use Rattle.bridge.specs.declared.TakeAnswer.{TakeAnswer}
 use Rattle.bridge.specs.declared.TakeAnswer.TheVariants.{Refused, Took}
 use Rattle.bridge.specs.declared.UnitAnswer.{UnitAnswer}
@@ -26,11 +24,10 @@ use Rattle.message_answers.specs.declared.MessageAnswer.{MessageAnswer}
 use Rattle.message_answers.specs.Messages.{Replied, message_answer}
 use Rattle.unit.specs.Count.{ports_of}
 use Rattle.unit.specs.Model.{model_of, row_at, record_length, rows_from}
-use Rattle.refusals.specs.Refusals.{frame_refusal, take_refusal, start_refusal, quiet_refusal, length_refusal}
-use Rattle.bridge.specs.Calls.{Call, FrameIn, TakeOut, Message, Start, Quiet, ReadUnit, refusal, performed, next, queue_at, messaged, frame_answer, take_answer, start_answer, unit_answer, counts_answer, Calling, Framing, TakingOut, Messaging, Starting, Quieting, Reading, Counting}
+use Rattle.refusals.specs.Refusals.{frame_refusal, take_refusal, start_refusal, length_refusal}
+use Rattle.bridge.specs.Calls.{Call, refusal, next, queue_at, messaged, frame_answer, take_answer, start_answer, unit_answer, counts_answer, Calling, Framing, TakingOut, Starting, Reading, Counting}
 use Rattle.flat_answers.specs.Answers.{frame_length, take_length, bytes_length, unit_length, counts_length, take_words, bytes_of_taken}
-use Rattle.deorasaeng.specs.Interface.{lent_refusal, Served, message_length, start_length, over, replied_to, taken_from, FrameCall, TakeCall, MessageCall, StartCall, UnitCall, CountsCall, QueueCall}
-use Rattle.bridge.specs.Calls.{gave as taken_in}
+use Rattle.deorasaeng.specs.Interface.{lent_refusal, Served, message_length, start_length, over, taken_from, FrameCall, TakeCall, MessageCall, StartCall, UnitCall, CountsCall, QueueCall}
 use Rattle.deorasaeng.proofs.Numbers.{not_0, frame_lent, frame_number_lem, take_lent, take_lent_bytes, take_number_lem, silent, replied_as, start_lent, start_number_lem, unit_lent, unit_number_lem, counts_lent, counts_number_lem, queue_lent, queue_lent_bytes, queue_number_lem}
 use Rattle.deorasaeng.proofs.Calls.{frame_refusal_lem, start_refusal_lem, counts_refusal}
 use Rattle.record.specs.Steps.{RowTaking}
@@ -38,11 +35,11 @@ use Rattle.record.proofs.Regions.{row_taken}
 use Rattle.storage.proofs.Parts.{length_back}
 use Rattle.bridge.proofs.Answers.{taken}
 use Rattle.made.specs.Made as made
-use Rattle.demand_3.specs.Demand3.{Answer, ToFrame, ToTake, ToMessage, ToStart, ToQuiet, ToUnit, ToCounts}
+use Rattle.demand_3.specs.Demand3.{ToFrame, ToTake, ToMessage, ToStart, ToQuiet, ToUnit, ToCounts}
 use Rattle.demand_3.specs.Demand3 as demand_3
-use Rattle.c_demands.specs.Exported.{Arrived, arrived, Handed, handed, Started, started, Quieted, quieted, ToldUnit, told_unit, ToldCounts, told_counts, TookQueue, took_queue, block_of, with_block}
-use Rattle.c_demands.specs.Exported.{Took as TookOut, took as took_out}
-use Rattle.c_demands.specs.CDemands.{Exported, CFrame, CTake, CMessage, CStart, CQuiet, CUnit, CCounts, CTakeQueue, Gave, gave, Made, frame_made, take_made, message_made, start_made, quiet_made, unit_made, counts_made, queue_made, lends, call_of, Tells, of_frame, of_take, of_refused_take, of_message, of_start, of_quiet, of_unit_lem, of_refused_unit, of_counts, of_queue, portless, refused_lent, IsCall, IsNone}
+use Rattle.c_demands.specs.Exported.{arrived, handed, started, quieted, told_unit, told_counts, took_queue, block_of, with_block}
+use Rattle.c_demands.specs.Exported.{took as took_out}
+use Rattle.c_demands.specs.CDemands.{Exported, CFrame, CTake, CMessage, CStart, CUnit, CCounts, CTakeQueue, Gave, gave, Made, frame_made, take_made, message_made, start_made, quiet_made, unit_made, counts_made, queue_made, lends, Tells, of_frame, of_take, of_refused_take, of_message, of_start, of_quiet, of_unit_lem, of_refused_unit, of_counts, of_queue, IsCall, IsNone}
 use Rattle.address_claims.specs.declared.Event.{Event}
 use Rattle.address_claims.specs.declared.Event.TheVariants.{Nothing, Withdrew, Defended, Displaced, Recorded, Refreshed, TookOver, Beaten}
 use Rattle.address_claims.specs.Events.{event_number, old_name}

@@ -1,5 +1,5 @@
 -- A list of exported calls is a list of the bridge's calls, with the same record. By induction on the list. Assumes nothing.
-use mathlib.Core.Path.{◌≡◌, refl, ◌∙◌}
+use mathlib.Core.Path.{◌≡◌, refl}
 use mathlib.Core.Bool.{Bool, true, false}
 use mathlib.Core.List.{List, [], ◌∷◌}
 use Prim.Native.Nat.{ℕ}
@@ -11,7 +11,7 @@ use Rattle.unit.specs.Model.{record_length}
 use Rattle.demand_3.specs.Demand3.{Answer}
 use Rattle.demand_3.specs.Demand3 as demand_3
 use Rattle.demand_3.proofs.OneCall.{Good, simulates}
-use Rattle.c_demands.specs.CDemands.{Exported, Gave, Made, lends, call_of, IsCall, IsNone, Same, none, called, passed}
+use Rattle.c_demands.specs.CDemands.{Exported, Gave, Made, lends, IsCall, IsNone, Same, none, called, passed}
 use Rattle.c_demands.proofs.Calls.{is_call, is_none}
 
 pub record Leads (ports : ℕ) (u : List ℕ) (cs : List Exported) (gs : List Gave) (v : List ℕ) : Type 0 where

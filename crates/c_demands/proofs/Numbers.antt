@@ -1,25 +1,24 @@
 -- Each number is the first of its function's checks, and what a refusal leaves is in the contract. Assumes nothing.
-use mathlib.Core.Path.{◌≡◌, refl, sym, ◌∙◌}
-use mathlib.Core.Bool.{Bool, true, false, cond, not, ◌||◌}
-use mathlib.Core.List.{List, [], ◌∷◌}
+use mathlib.Core.Path.{◌≡◌, refl, ◌∙◌}
+use mathlib.Core.Bool.{Bool, true, false, ◌||◌}
+use mathlib.Core.List.{List}
 use Prim.Native.Nat.{ℕ}
 use native.Mathlib.Decide.{ℕ_discrete}
 use borrow.Author.Tests.{eq-eqb, ne_eqb}
-use lib.Dec.{eqb, ltb}
-use lib.ListN.{length, drop}
+use lib.Dec.{ltb}
+use lib.ListN.{length}
 use Rattle.checks.specs.Checks.{first}
-use Rattle.checks.specs.Ports.{no_port}
 use Rattle.network_message.specs.Decoding.{longest}
 use Rattle.unit.specs.Count.{ports_of}
 use Rattle.unit.specs.Model.{model_of}
 use Rattle.unit.specs.PowerOn.{not_long}
 use Rattle.refusals.specs.Refusals.{quiet_refusal}
-use Rattle.bridge.specs.Calls.{messaged, refusal}
-use Rattle.deorasaeng.specs.Interface.{lent_refusal, message_length, frame_number, take_number, start_number, unit_number, counts_number, queue_number, FrameCall, TakeCall, MessageCall, StartCall, UnitCall}
+use Rattle.bridge.specs.Calls.{refusal}
+use Rattle.deorasaeng.specs.Interface.{lent_refusal, message_length, frame_number, take_number, start_number, unit_number, counts_number, queue_number, MessageCall}
 use Rattle.deorasaeng.proofs.Numbers.{silent, replied_as}
-use Rattle.demand_1.specs.Demand1.{Exact, message_numbers, rest_of}
+use Rattle.demand_1.specs.Demand1.{Exact}
 use Rattle.demand_1.proofs.Numbers.{exact, message_number_lem}
-use Rattle.c_demands.specs.Exported.{arrived, handed, started, quieted, told_unit, told_counts, took_queue, block_of, with_block}
+use Rattle.c_demands.specs.Exported.{arrived, handed, started, quieted, told_unit, told_counts, took_queue}
 use Rattle.c_demands.specs.Exported.{took as took_out}
 use Rattle.c_demands.specs.CDemands.{Exported, CFrame, CTake, CMessage, CStart, CQuiet, CUnit, CCounts, CTakeQueue, Gave, Made, frame_made, take_made, message_made, start_made, quiet_made, unit_made, counts_made, queue_made, numbers}
 use Rattle.c_demands.proofs.Calls.{put_back}

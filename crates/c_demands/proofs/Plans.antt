@@ -1,5 +1,5 @@
 -- A plan's answer in literals: from the contract of the plan, and what is in range on the lent words. Assumes nothing.
-use mathlib.Core.Path.{◌≡◌, refl, sym, ap, ◌∙◌}
+use mathlib.Core.Path.{◌≡◌, refl, sym, ◌∙◌}
 use mathlib.Core.Bool.{Bool, true, false, true≢false}
 use mathlib.Core.Logic.{◌↔◌, inl}
 use mathlib.Core.List.{List, [], ◌∷◌}

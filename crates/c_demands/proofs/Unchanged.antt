@@ -1,6 +1,6 @@
 -- The bytes that a take writes: the frame that leaves was accepted, what is accepted was sent, and what is sent was handed in or is the unit's own. Assumes nothing.
 use mathlib.Core.Path.{◌≡◌, refl, sym, ap, ◌∙◌}
-use mathlib.Core.Logic.{◌⊎◌, ⊎_elim}
+use mathlib.Core.Logic.{⊎_elim}
 use mathlib.Core.Bool.{Bool, true, false, cond}
 use mathlib.Core.List.Memᴰ
 use mathlib.Core.List.{List, [], ◌∷◌, ◌++◌, Memᴰ}
@@ -12,7 +12,7 @@ use lib.ListN.{length, get_or, take, replicate}
 use Rattle.storage.specs.Bytes.{bytes_of}
 use Rattle.delivery.specs.Calls.{answers_of}
 use Rattle.delivery.specs.Port.{Event}
-use Rattle.delivery.specs.Product.{Answered, Obeys, Leaves, Came, Gave, frame_that_leaves, nothing_waiting}
+use Rattle.delivery.specs.Product.{Answered, Obeys, Came, Gave, frame_that_leaves, nothing_waiting}
 use Rattle.delivery.proofs.Product.{obeys}
 use Rattle.queue.specs.declared.Frame.{Frame}
 use Rattle.queue.specs.declared.Taken.TheVariants.{Given, Nothing}
@@ -29,7 +29,7 @@ use Rattle.demand_3.specs.Demand3 as demand_3
 use Rattle.demand_3.proofs.AtPort.{Fine, lawful, powered_on}
 use Rattle.demand_3.proofs.Unchanged.{unchanged, named_so}
 use Rattle.flat_answers.proofs.Words.{whole_frame}
-use Rattle.c_demands.specs.CDemands.{Exported, CFrame, CTake, CMessage, CStart, CQuiet, CUnit, CCounts, CTakeQueue, gave, lends, call_of, Tells, of_take, of_refused_take, of_queue, portless, refused_lent, Same, Takes, by_port, by_queue, Bytes, AsHandedIn}
+use Rattle.c_demands.specs.CDemands.{Exported, CFrame, CTake, CMessage, CStart, CQuiet, CUnit, CCounts, CTakeQueue, gave, call_of, Tells, of_take, of_refused_take, of_queue, refused_lent, Same, Takes, by_port, by_queue, Bytes, AsHandedIn}
 use Rattle.c_demands.specs.CDemands.{Gave as Given-back}
 use Rattle.c_demands.specs.CDemands as claim
 

@@ -5,7 +5,7 @@
 use Rattle.std.specs.Prelude.{◌≡◌, ◌⊎◌, Bool, true, false, not, cond, ◌&&◌, ◌||◌, ℕ, ◌+◌, ◌-◌, ◌≤◌, ◌<◌, eqb, ltb, length, get_or, drop, replicate}
 use mathlib.Core.List.{List, [], ◌∷◌, ◌++◌, Memᴰ}
 use contract.Lifetimes.{Lfts}
-use Rattle.std.specs.Borrow.{Bor}
+use Rattle.std.specs.Borrow.{Bor, MutBor}
 use Rattle.storage.specs.Bytes.{bytes_of}
 use Rattle.checks.specs.Checks.{Check, check}
 use Rattle.checks.specs.Ports.{no_port}
@@ -224,15 +224,15 @@ pub record Listed (ports name preferred : ℕ) (cs : List Exported) (gs : List G
 pub record CDemands : Type 0 where
   pub calls : EveryCall
   -- "Any frame, message, port number or buffer gets a defined answer": no function requires anything (Clauses.antt has all thirteen, by the clauses of the code)
-  pub defined : ((κs : Lfts 1) (w : Bor (List ℕ)) (name preferred count : ℕ) → power_on.Pre κs (w, (name, (preferred, (count, tt)))))
-      × ((κs : Lfts 1) (w : Bor (List ℕ)) (name preferred : ℕ) → power_on_four.Pre κs (w, (name, (preferred, tt))))
-      × ((κs : Lfts 3) (w b a : Bor (List ℕ)) (port id : ℕ) → frame.Pre κs (w, (port, (id, (b, (a, tt))))))
-      × ((κs : Lfts 3) (w a b : Bor (List ℕ)) (port : ℕ) → take_out.Pre κs (w, (port, (a, (b, tt)))))
-      × ((κs : Lfts 4) (w p b a : Bor (List ℕ)) (port requester : ℕ) → message.Pre κs (w, (port, (requester, (p, (b, (a, tt)))))))
-      × ((κs : Lfts 2) (w a : Bor (List ℕ)) → start.Pre κs (w, (a, tt)))
-      × ((κs : Lfts 1) (w : Bor (List ℕ)) → quiet.Pre κs (w, tt))
-      × ((κs : Lfts 2) (w a : Bor (List ℕ)) → unit.Pre κs (w, (a, tt)))
-      × ((κs : Lfts 2) (w a : Bor (List ℕ)) (port : ℕ) → counts.Pre κs (w, (port, (a, tt))))
+  pub defined : ((κs : Lfts 1) (w : MutBor (List ℕ)) (name preferred count : ℕ) → power_on.Pre κs (w, (name, (preferred, (count, tt)))))
+      × ((κs : Lfts 1) (w : MutBor (List ℕ)) (name preferred : ℕ) → power_on_four.Pre κs (w, (name, (preferred, tt))))
+      × ((κs : Lfts 3) (w : MutBor (List ℕ)) (b : Bor (List ℕ)) (a : MutBor (List ℕ)) (port id : ℕ) → frame.Pre κs (w, (port, (id, (b, (a, tt))))))
+      × ((κs : Lfts 3) (w a b : MutBor (List ℕ)) (port : ℕ) → take_out.Pre κs (w, (port, (a, (b, tt)))))
+      × ((κs : Lfts 4) (w : MutBor (List ℕ)) (p : Bor (List ℕ)) (b a : MutBor (List ℕ)) (port requester : ℕ) → message.Pre κs (w, (port, (requester, (p, (b, (a, tt)))))))
+      × ((κs : Lfts 2) (w a : MutBor (List ℕ)) → start.Pre κs (w, (a, tt)))
+      × ((κs : Lfts 1) (w : MutBor (List ℕ)) → quiet.Pre κs (w, tt))
+      × ((κs : Lfts 2) (w : Bor (List ℕ)) (a : MutBor (List ℕ)) → unit.Pre κs (w, (a, tt)))
+      × ((κs : Lfts 2) (w : Bor (List ℕ)) (a : MutBor (List ℕ)) (port : ℕ) → counts.Pre κs (w, (port, (a, tt))))
   -- "Bad input is refused by a number" of docs/RULES.md; "a refusal changes no list, queue or table"
   pub exact : {w w' : List ℕ} {c : Exported} {g : Gave} → Made w c g w' → Exact (numbers w c) g.number × ((g.number ≡ 0 → ⊥) → w' ≡ w)
   -- what is said of the bridge's calls, demands 1 and 2 and the claims in any order too, is said of the exported ones: this is what they are

@@ -12,7 +12,7 @@ use prog.Memory.{Memory, field_of, size}
 use prog.Routine.{Routine}
 use types.Logic.{Logic}
 use seplogic.Ra.Ura.{Ura}
-use Rattle.std.specs.Borrow.{Bor}
+use Rattle.std.specs.Borrow.{Bor, MutBor}
 use Rattle.queue.specs.declared.Queue.{Queue}
 use Rattle.unit.specs.Count.{ports_of}
 use Rattle.unit.specs.PowerOn.{PoweringOn}
@@ -46,7 +46,7 @@ module _ {M : Type 1} {𝓤 : Ura M} (𝓛 : Logic 𝓤) (mem : Memory → SProp
   pub version_clause : (κs : Lfts 0) → (version.clauses 𝓛 mem run κs tt).requires tt ≡ nothing
   version_clause κs = refl
 
-  module _ (κs : Lfts 1) (w w' : Bor (List ℕ)) (name preferred count r : ℕ) where
+  module _ (κs : Lfts 1) (w w' : MutBor (List ℕ)) (name preferred count r : ℕ) where
     pub power_on_clause : ((power_on.clauses 𝓛 mem run κs (w, (name, (preferred, (count, tt))))).requires tt ≡ nothing)
         × ((power_on.clauses 𝓛 mem run κs (w, (name, (preferred, (count, tt))))).ensures tt r (w', (name, (preferred, (count, tt)))) ≡ fact (PoweringOn count w.now w'.now name preferred r))
     power_on_clause = (refl, refl)
@@ -59,11 +59,12 @@ module _ {M : Type 1} {𝓤 : Ura M} (𝓛 : Logic 𝓤) (mem : Memory → SProp
         × ((quiet.clauses 𝓛 mem run κs (w, tt)).ensures tt r (w', tt) ≡ fact (Quieting (ports_of w.now) w.now w'.now r))
     quiet_clause = (refl, refl)
 
-  module _ (κs : Lfts 2) (w w' a a' : Bor (List ℕ)) (port r : ℕ) where
+  module _ (κs : Lfts 2) (w w' a a' : MutBor (List ℕ)) (r : ℕ) where
     pub start_clause : ((start.clauses 𝓛 mem run κs (w, (a, tt))).requires tt ≡ nothing)
         × ((start.clauses 𝓛 mem run κs (w, (a, tt))).ensures tt r (w', (a', tt)) ≡ fact (StartCall (ports_of w.now) w.now w'.now a.now a'.now r))
     start_clause = (refl, refl)
 
+  module _ (κs : Lfts 2) (w w' : Bor (List ℕ)) (a a' : MutBor (List ℕ)) (port r : ℕ) where
     pub unit_clause : ((unit.clauses 𝓛 mem run κs (w, (a, tt))).requires tt ≡ nothing)
         × ((unit.clauses 𝓛 mem run κs (w, (a, tt))).ensures tt r (w', (a', tt)) ≡ fact (UnitCall (ports_of w.now) w.now a.now a'.now r))
     unit_clause = (refl, refl)
@@ -72,30 +73,32 @@ module _ {M : Type 1} {𝓤 : Ura M} (𝓛 : Logic 𝓤) (mem : Memory → SProp
         × ((counts.clauses 𝓛 mem run κs (w, (port, (a, tt)))).ensures tt r (w', (port, (a', tt))) ≡ fact (CountsCall (ports_of w.now) w.now port a.now a'.now r))
     counts_clause = (refl, refl)
 
-  module _ (κs : Lfts 3) (w w' a a' b b' : Bor (List ℕ)) (port id r : ℕ) where
-    pub frame_clause : ((frame.clauses 𝓛 mem run κs (w, (port, (id, (b, (a, tt)))))).requires tt ≡ nothing)
+  module _ (κs : Lfts 3) (w w' a a' : MutBor (List ℕ)) (port id r : ℕ) where
+    pub frame_clause : (b b' : Bor (List ℕ))
+        → ((frame.clauses 𝓛 mem run κs (w, (port, (id, (b, (a, tt)))))).requires tt ≡ nothing)
         × ((frame.clauses 𝓛 mem run κs (w, (port, (id, (b, (a, tt)))))).ensures tt r (w', (port, (id, (b', (a', tt)))))
         ≡ fact (FrameCall (ports_of w.now) w.now w'.now port id b.now a.now a'.now r))
-    frame_clause = (refl, refl)
+    frame_clause b b' = (refl, refl)
 
-    pub take_clause : ((take_out.clauses 𝓛 mem run κs (w, (port, (a, (b, tt))))).requires tt ≡ nothing)
+    pub take_clause : (b b' : MutBor (List ℕ))
+        → ((take_out.clauses 𝓛 mem run κs (w, (port, (a, (b, tt))))).requires tt ≡ nothing)
         × ((take_out.clauses 𝓛 mem run κs (w, (port, (a, (b, tt))))).ensures tt r (w', (port, (a', (b', tt))))
         ≡ fact (TakeCall (ports_of w.now) w.now w'.now port a.now a'.now b.now b'.now r))
-    take_clause = (refl, refl)
+    take_clause b b' = (refl, refl)
 
-  pub message_clause : (κs : Lfts 4) (w w' p p' b b' a a' : Bor (List ℕ)) (port requester r : ℕ)
+  pub message_clause : (κs : Lfts 4) (w w' : MutBor (List ℕ)) (p p' : Bor (List ℕ)) (b b' a a' : MutBor (List ℕ)) (port requester r : ℕ)
       → ((message.clauses 𝓛 mem run κs (w, (port, (requester, (p, (b, (a, tt))))))).requires tt ≡ nothing)
       × ((message.clauses 𝓛 mem run κs (w, (port, (requester, (p, (b, (a, tt))))))).ensures tt r (w', (port, (requester, (p', (b', (a', tt))))))
       ≡ fact (MessageCall (ports_of w.now) w.now w'.now port requester p.now b.now b'.now a.now a'.now r))
   message_clause κs w w' p p' b b' a a' port requester r = (refl, refl)
 
-  pub queue_clause : (κs : Lfts 3) (q q' : Bor Queue) (a a' b b' : Bor (List ℕ)) (r : ℕ)
+  pub queue_clause : (κs : Lfts 3) (q q' : MutBor Queue) (a a' b b' : MutBor (List ℕ)) (r : ℕ)
       → ((queue.clauses 𝓛 mem run κs (q, (a, (b, tt)))).requires tt ≡ nothing)
       × ((queue.clauses 𝓛 mem run κs (q, (a, (b, tt)))).ensures tt r (q', (a', (b', tt)))
       ≡ fact (QueueCall q.now.words q'.now.words a.now a'.now b.now b'.now r))
   queue_clause κs q q' a a' b b' r = (refl, refl)
 
-  module _ (κs : Lfts 3) (segments units first pgn r : ℕ) (ls ls' a a' : Bor (List ℕ)) where
+  module _ (κs : Lfts 3) (segments units first pgn r : ℕ) (ls ls' : Bor (List ℕ)) (a a' : MutBor (List ℕ)) where
     pub plan_clause : (ps ps' : Bor (List ℕ))
         → ((plan.clauses 𝓛 mem run κs (ps, (ls, (segments, (units, (first, (pgn, (a, tt)))))))).requires tt ≡ nothing)
         × ((plan.clauses 𝓛 mem run κs (ps, (ls, (segments, (units, (first, (pgn, (a, tt)))))))).ensures tt r (ps', (ls', (segments, (units, (first, (pgn, (a', tt)))))))

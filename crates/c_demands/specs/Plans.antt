@@ -2,14 +2,14 @@
 -- `plan_calls` of proofs/Plans.antt proves it. Assumes nothing.
 use Rattle.std.specs.Prelude.{◌≡◌, true, ◌↔◌, List, [], ◌∷◌, ℕ, ◌-◌, ◌≤◌, ◌<◌, length}
 use contract.Lifetimes.{Lfts}
-use Rattle.std.specs.Borrow.{Bor}
+use Rattle.std.specs.Borrow.{Bor, MutBor}
 use Rattle.unit.specs.Ports.{bit_at}
 use Rattle.plan_shape.specs.Plan.{plan_of, Hears, Ringed}
 use Rattle.plan_shape.specs.Literals.{InPlan}
 use Rattle.deorasaeng.proofs.deorasaeng_plan.Reads as plan
 
 pub data Asked : (ports lists : List ℕ) (segments units first pgn : ℕ) (answer : List ℕ) (r : ℕ) (told : List ℕ) → Type 0 where
-  asked : (κs : Lfts 3) (p p' l l' a a' : Bor (List ℕ)) (segments units first pgn r : ℕ)
+  asked : (κs : Lfts 3) (p p' l l' : Bor (List ℕ)) (a a' : MutBor (List ℕ)) (segments units first pgn r : ℕ)
       → (plan.Pre κs (p, (l, (segments, (units, (first, (pgn, (a, tt)))))))
       → plan.Post κs (p, (l, (segments, (units, (first, (pgn, (a, tt))))))) r (p', (l', (segments, (units, (first, (pgn, (a', tt))))))))
       → Asked p.now l.now segments units first pgn a.now r a'.now

@@ -1,17 +1,17 @@
 -- A line is read exactly if a frame is written so, and what is written is read again. Assumes nothing.
 use mathlib.Core.Path.{◌≡◌, refl, sym, ap, ◌∙◌}
-use mathlib.Core.Bool.{Bool, true, false, ◌&&◌, ◌||◌}
+use mathlib.Core.Bool.{Bool, true, false, ◌||◌}
 use mathlib.Core.List.{List, [], ◌∷◌, ◌++◌}
 use Prim.Native.Nat.{ℕ, zero, suc, ◌+◌, ◌-◌, ◌*◌, ◌/◌, ◌%◌, ◌^◌, ◌≤◌, ◌<◌}
 use native.Mathlib.Nat.{not-suc-le-zero, le_of_suc-le-suc}
 use native.Mathlib.Omega.{arith}
 use borrow.Author.Tests.{eq-eqb, eqb-true}
 use lib.Dec.{eqb, ltb}
-use lib.ListN.{length, get_or, take, drop, length-take, length-drop}
+use lib.ListN.{length, take, drop, length-take}
 use lib.Seq.{take_at}
-use Rattle.storage.specs.Bytes.{packed, bytes_of}
+use Rattle.storage.specs.Bytes.{bytes_of}
 use Rattle.storage.proofs.Bytes.{AllBytes, bytes_back, packed_small}
-use Rattle.text.specs.Digits.{hex_of, hex_bytes, pair_at, four_bytes}
+use Rattle.text.specs.Digits.{hex_of, hex_bytes}
 use Rattle.text.proofs.Digits.{hex_take_long, byte_of_pair, hex_back, hex_bytes_long, hex_bytes_small, four_back}
 use Rattle.candump.specs.declared.Arrival.{Arrival}
 use Rattle.candump.specs.declared.Line.{Line}

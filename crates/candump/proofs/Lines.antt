@@ -1,8 +1,8 @@
 -- The parts of a line: what is written, what is compared, what is read. Assumes nothing.
 use mathlib.Core.Path.{◌≡◌, refl, sym, ap, ◌∙◌}
 use mathlib.Core.Bool.{Bool, true, false, cond, not, ◌&&◌}
-use mathlib.Core.List.{List, [], ◌∷◌, ◌++◌, append_assoc}
-use Prim.Native.Nat.{ℕ, zero, suc, ◌+◌, ◌-◌, ◌*◌, ◌/◌, ◌^◌, ◌≤◌, ◌<◌}
+use mathlib.Core.List.{List, [], ◌∷◌}
+use Prim.Native.Nat.{ℕ, suc, ◌+◌, ◌-◌, ◌*◌, ◌^◌, ◌≤◌, ◌<◌}
 use native.Mathlib.Decide.{dec_lt}
 use native.Mathlib.Numerals.{add-one}
 use native.Mathlib.Omega.{arith}
@@ -11,13 +11,12 @@ use lib.Dec.{eqb, ltb, leb}
 use lib.ListN.{length, get_or, take, drop, length-append, length-drop, drop_of_length-le}
 use lib.Seq.{take_at, take_all, drop-cons, length-take-le, get_or-take, get_or-drop}
 use Rattle.storage.specs.Bytes.{packed, bytes_of}
-use Rattle.storage.proofs.Bytes.{packed_small, packed_step, bytes_of_length}
+use Rattle.storage.proofs.Bytes.{packed_small, packed_step}
 use Rattle.text.specs.Writing.{put, Writing}
 use Rattle.text.specs.Digits.{hex_of, hex_bytes, pair_at}
 use Rattle.text.proofs.Digits.{hex_take_long, hex_bytes_long, hex_bytes_at, hex_bytes_small}
 use Rattle.candump.specs.declared.Arrival.{Arrival}
 use Rattle.candump.specs.Line.{tail, written, fits, alike, is_frame, len_in, arrival_in, shows, is_line}
-use Rattle.candump.specs.declared.Line.{Line}
 use Rattle.candump.specs.declared.Line.TheVariants.{Frame, Refused}
 use Rattle.candump.specs.Calls.{line_read, line_refusal, WritingLine}
 

@@ -1,22 +1,22 @@
 -- The literals: the examples by computing, the rest from what a line is read as exactly. Assumes nothing.
 use mathlib.Core.Path.{◌≡◌, refl, sym, ap, ◌∙◌}
 use mathlib.Core.Bool.{Bool, true, false, not, cond, ◌&&◌}
-use mathlib.Core.List.{List, [], ◌∷◌, ◌++◌}
-use Prim.Native.Nat.{ℕ, zero, suc, ◌+◌, ◌-◌, ◌*◌, ◌^◌, ◌≤◌, ◌<◌}
+use mathlib.Core.List.{List}
+use Prim.Native.Nat.{ℕ, suc, ◌+◌, ◌-◌, ◌^◌, ◌≤◌, ◌<◌}
 use native.Mathlib.Decide.{dec_lt}
 use native.Mathlib.Omega.{arith}
 use borrow.Author.Tests.{lt-ltb, le-ltb, le-leb, lt-leb}
-use lib.Dec.{eqb, ltb, leb}
-use lib.ListN.{length, get_or, drop}
+use lib.Dec.{ltb, leb}
+use lib.ListN.{get_or, drop}
 use lib.Seq.{get_or-drop}
 use Rattle.storage.specs.Bytes.{packed, bytes_of}
 use Rattle.text.specs.Digits.{hex_digit, hex_value, hex_of, hex_bytes}
 use Rattle.candump.specs.declared.Arrival.{Arrival}
-use Rattle.candump.specs.declared.Line.TheVariants.{Frame, Refused}
-use Rattle.candump.specs.Line.{stamp, body, written, alike, is_frame, id_in, data_in, arrival_in, is_line, Good}
+use Rattle.candump.specs.declared.Line.TheVariants.{Frame}
+use Rattle.candump.specs.Line.{stamp, body, written, alike, is_frame, id_in, data_in, arrival_in, is_line}
 use Rattle.candump.specs.Calls.{line_read, line_refusal}
 use Rattle.candump.specs.Exact.{IsWritten}
-use Rattle.candump.specs.Literals.{arrival, line_from, two_bytes, nine_bytes, Literals}
+use Rattle.candump.specs.Literals.{arrival, line_from, two_bytes, Literals}
 use Rattle.candump.proofs.Exact.{alike_rest, exact, again}
 
 -- ---- numbers

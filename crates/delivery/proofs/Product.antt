@@ -7,13 +7,12 @@ use mathlib.Core.Option.{Option, none, some}
 use Prim.Native.Nat.{ℕ, ◌<◌}
 use native.Mathlib.Omega.{arith}
 use lib.ListN.{length}
-use Rattle.delivery.specs.Row.{pull, given}
 use Rattle.delivery.specs.Port.{Event, Join, Take, Ticket, Due, NotYet, ticket_of, waiting, frame_of}
 use Rattle.delivery.specs.Port.{gives as gives_after}
 use Rattle.delivery.specs.Calls.{after_calls, answers_of}
 use Rattle.delivery.specs.Unit.{happens, row_at, Demand3}
 use Rattle.delivery.specs.Unit.{Story as UnitStory, left_at as unit_left, stays_on as unit_stays}
-use Rattle.delivery.specs.Product.{Product, Lawful, Fresh, Answered, book_after, happened, Came, Leaves, Story, left_at, waits_on, Gave, frame_that_leaves, nothing_waiting, Obeys}
+use Rattle.delivery.specs.Product.{Product, Lawful, Fresh, Answered, book_after, happened, Came, Story, left_at, waits_on, Gave, frame_that_leaves, nothing_waiting, Obeys}
 use Rattle.delivery.proofs.Calls.{answers_append, length_answers}
 use Rattle.delivery.proofs.Unit.{model_row, demand3}
 use Rattle.delivery.proofs.Came.{Found, found}

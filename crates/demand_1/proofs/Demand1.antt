@@ -1,13 +1,12 @@
 -- Demand 1 from the contracts: each number is the first of its call's checks (`exact`), and what a refusal leaves is in the contract. Assumes nothing.
 use mathlib.Core.Path.{◌≡◌, refl, sym, ap, ◌∙◌}
-use mathlib.Core.Logic.{◌↔◌}
-use mathlib.Core.Bool.{Bool, true, false, cond, not, ◌&&◌, ◌||◌, true≢false}
-use mathlib.Core.List.{List, [], ◌∷◌, ◌++◌}
-use Prim.Native.Nat.{ℕ, ◌-◌, ◌≤◌}
+use mathlib.Core.Bool.{Bool, true, false, cond, not, true≢false}
+use mathlib.Core.List.{List, [], ◌++◌}
+use Prim.Native.Nat.{ℕ, ◌-◌}
 use native.Mathlib.Omega.{arith}
 use borrow.Author.Tests.{eqb-true, eqb-false, not-true}
 use lib.ListN.{length, drop}
-use lib.Dec.{eqb, ltb, leb}
+use lib.Dec.{eqb}
 use Rattle.network_message.specs.declared.Command.{Command}
 use Rattle.network_message.specs.declared.Command.TheVariants.{Refused, Request, WithEntries, Clear, AddressList, Parameter, Reset, PairParameter, PairReset}
 use Rattle.checks.specs.Checks.{acknowledges}
@@ -24,7 +23,6 @@ use Rattle.unit.specs.declared.Unit.{Unit}
 use Rattle.unit.specs.Count.{is_count, count_of, ports_of, pair_count}
 use Rattle.unit.specs.Model.{Rest, Seen, Model, model_of, record_length}
 use Rattle.unit.specs.PowerOn.{not_long, fresh, power_on_refusal}
-use Rattle.unit.specs.Own.{is_unstarted}
 use Rattle.refusals.specs.Refusals.{frame_refusal, take_refusal, start_refusal, quiet_refusal, length_refusal}
 use Rattle.message_answers.specs.Messages.{Replied, acknowledged, performed_by}
 use Rattle.bridge.specs.Calls.{silent_reply, messaged}
@@ -45,14 +43,10 @@ use Rattle.entries.specs.Entries.{entries_of}
 use Rattle.network_message.specs.Decoding.{between}
 use Rattle.network_message.specs.Commands.{Good}
 use Rattle.network_message.proofs.Decoding.{decoded_good}
-use Rattle.filter_commands.specs.declared.pairs.Question.TheVariants.{IsCleared, IsNotCleared, WouldPass, Lacks}
 use Rattle.filter_commands.specs.declared.pairs.Change.{Change}
 use Rattle.filter_commands.specs.declared.pairs.Change.TheVariants.{Adds, Deletes, Creates, Names}
-use Rattle.checks.specs.Ports.{no_port}
-use Rattle.unit.specs.Own.{is_claimed}
 use Rattle.list_commands.specs.declared.Absent.{Absent}
 use Rattle.list_commands.specs.Commands.{list_checks, list_refusal, commanded}
-use Rattle.filter_commands.specs.Pairs.{holds_of}
 use Rattle.message_answers.specs.Messages.{changed_by, replied, reset_at}
 use Rattle.unit.proofs.Count.{count_four}
 use Rattle.unit.proofs.Own.{own_ports}

@@ -18,7 +18,6 @@ use Rattle.filter_commands.specs.Changes.{passes_names}
 use Rattle.network_message.specs.Decoding.{is_known, is_filling, entries_end, name_of, mask_of, has_good_body, has_wrong_mode}
 use Rattle.replies.specs.Replies.{control_of, acknowledgment, filled, list_reply, address_reply}
 use Rattle.addresses.specs.declared.Place.TheVariants.{Free}
-use Rattle.unit.specs.declared.Claim.{Claim}
 use Rattle.unit.specs.declared.Claim.TheVariants.{Claiming, Lost}
 use Rattle.unit.specs.Count.{is_count, count_of, ports_of, pair_count}
 use Rattle.unit.specs.Model.{Rest}

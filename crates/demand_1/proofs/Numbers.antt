@@ -1,6 +1,5 @@
 -- The number of the first check that applies is given exactly so; and the numbers of a message, which the unit finds in three steps, are one table. Assumes nothing.
 use mathlib.Core.Path.{◌≡◌, refl, sym, ap, ◌∙◌}
-use mathlib.Core.Logic.{◌↔◌}
 use mathlib.Core.Bool.{Bool, true, false, cond, not, ◌&&◌, ◌||◌, or-true, or-false, true≢false}
 use mathlib.Core.List.{List, [], ◌∷◌, ◌++◌}
 use Prim.Native.Nat.{ℕ}
@@ -16,13 +15,13 @@ use Rattle.entries.specs.Entries.{listed}
 use Rattle.filter_commands.specs.Changes.{would_pass, lacks, passes_names}
 use Rattle.network_message.specs.declared.Command.{Command}
 use Rattle.network_message.specs.declared.Command.TheVariants.{Refused}
-use Rattle.network_message.specs.Decoding.{is_known, names_ports, may_name, holds_parameter, has_good_body, wrong_entry, has_wrong_mode, entries_start, refusal_of, judged, command_of, decoded, longest}
+use Rattle.network_message.specs.Decoding.{is_known, names_ports, may_name, holds_parameter, has_good_body, wrong_entry, has_wrong_mode, refusal_of, judged, command_of, decoded, longest}
 use Rattle.network_message.proofs.Passing.{by_function}
 use Rattle.unit.specs.Model.{Rest}
 use Rattle.checks.specs.Ports.{no_port}
 use Rattle.unit.specs.PowerOn.{not_long}
 use Rattle.unit.specs.Own.{is_claimed}
-use Rattle.list_commands.specs.Commands.{any_named, list_refusal, list_checks}
+use Rattle.list_commands.specs.Commands.{list_refusal, list_checks}
 use Rattle.filter_commands.specs.Pairs.{holds_of}
 use Rattle.message_answers.specs.Messages.{Replied, performed_by}
 use Rattle.bridge.specs.Calls.{silent_reply, messaged}

@@ -4,7 +4,6 @@ use mathlib.Core.Path.{◌≡◌, refl, sym, ap, ◌∙◌}
 use mathlib.Core.Bool.{Bool, true, false, cond, not, ◌&&◌, ◌||◌, true≢false}
 use mathlib.Core.List.{List, [], ◌∷◌}
 use Prim.Native.Nat.{ℕ, suc, ◌+◌, ◌-◌, ◌≤◌, ◌<◌}
-use native.Mathlib.Decide.{dec_lt}
 use native.Mathlib.Omega.{arith}
 use borrow.Author.Tests.{eq-eqb, ne_eqb, eqb-true, eqb-false, ltb-true, ltb-false, not-false, not-true}
 use lib.ListN.{length, get_or}
@@ -23,7 +22,7 @@ use Rattle.filter_commands.specs.declared.pairs.Change.{Change}
 use Rattle.filter_commands.specs.declared.pairs.Change.TheVariants.{Adds, Deletes, Creates, Names}
 use Rattle.filter_commands.specs.Pairs.{holds_of}
 use Rattle.network_message.specs.declared.Command.{Command}
-use Rattle.network_message.specs.declared.Command.TheVariants.{Refused, Request, WithEntries, Clear, AddressList}
+use Rattle.network_message.specs.declared.Command.TheVariants.{Refused}
 use Rattle.network_message.specs.Decoding.{is_known, names_ports, may_name, holds_parameter, parameter_of, has_good_body, has_wrong_mode, entries_start, entries_end, between, name_of, mask_of, wrong_in, wrong_entry, payload_checks, refusal_of, judged, command_of, decoded}
 use Rattle.network_message.specs.Commands.{Ports, Good}
 use Rattle.network_message.proofs.Passing.{by_function}
@@ -33,12 +32,12 @@ use Rattle.unit.specs.Model.{Rest, pair_at}
 use Rattle.list_commands.specs.declared.Absent.{Absent}
 use Rattle.list_commands.specs.Commands.{IsPair, target_of, first_pair, names, holds_at, any_named, first_below, held_before, absent_at, list_checks, list_refusal}
 use Rattle.list_commands.proofs.Searching.{first_found, lacking_short, refused_17}
-use Rattle.list_commands.proofs.Ranks.{rank, rank_small, rank_target, target, target_pair, target_at}
-use Rattle.message_answers.specs.Messages.{Replied, nothing_told, wrong_told, absent_told, changed_by, performed_by}
+use Rattle.list_commands.proofs.Ranks.{rank, rank_target, target, target_pair, target_at}
+use Rattle.message_answers.specs.Messages.{nothing_told, wrong_told, absent_told, performed_by}
 use Rattle.bridge.specs.Calls.{silent_reply, messaged}
 use Rattle.refusals.specs.Refusals.{message_checks, message_refusal}
 use Rattle.refusals.proofs.Checks.{message_goes}
-use Rattle.demand_1.specs.Demand1.{function, from, to, entries, rest_of, entry_no, FirstWrong, leads_to, holds, FirstAbsent}
+use Rattle.demand_1.specs.Demand1.{function, from, to, entries, rest_of, FirstWrong, leads_to, FirstAbsent}
 
 -- a number that the test turns down is none that the test holds of
 not_of_lem : (test : ℕ → Bool) {n m : ℕ} → test n ≡ true → test m ≡ false → n ≡ m → ⊥

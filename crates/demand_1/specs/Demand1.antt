@@ -2,7 +2,7 @@
 -- number" of docs/RULES.md; "a refusal changes no list, queue or table, and writes the acknowledgment or nothing." Proved in proofs/Demand1.antt.
 use Rattle.std.specs.Prelude.{◌≡◌, ◌↔◌, Bool, true, false, cond, not, ◌&&◌, ◌||◌, List, [], ◌∷◌, ◌++◌, ℕ, ◌-◌, ◌≤◌, ◌<◌, length, get_or, drop, ltb, leb, eqb}
 use contract.Lifetimes.{Lfts}
-use Rattle.std.specs.Borrow.{Bor}
+use Rattle.std.specs.Borrow.{Bor, MutBor}
 use Rattle.identifier.specs.Identifier.{is_pgn, too_wide, wrong_source}
 use Rattle.filter.specs.Filter.{Filter, clear, is_cleared}
 use Rattle.entries.specs.Entries.{listed, every, entries_of}
@@ -200,12 +200,12 @@ pub record Tells (words payload : List ℕ) (r : MessageAnswer) : Type 0 where
 -- ---- the whole
 pub record Demand1 : Type 0 where
   -- "Any frame, message, port number or buffer gets a defined answer": no call requires anything.
-  pub defined : ((κs : Lfts 1) (w : Bor (List ℕ)) (name preferred count : ℕ) → power_on.Pre κs (w, (name, (preferred, (count, tt)))))
-      × ((κs : Lfts 2) (w b : Bor (List ℕ)) (port id : ℕ) → frame.Pre κs (w, (port, (id, (b, tt)))))
-      × ((κs : Lfts 1) (w : Bor (List ℕ)) (port : ℕ) → take.Pre κs (w, (port, tt)))
-      × ((κs : Lfts 3) (w p b : Bor (List ℕ)) (port requester : ℕ) → message.Pre κs (w, (port, (requester, (p, (b, tt))))))
-      × ((κs : Lfts 1) (w : Bor (List ℕ)) → start.Pre κs (w, tt))
-      × ((κs : Lfts 1) (w : Bor (List ℕ)) → quiet.Pre κs (w, tt))
+  pub defined : ((κs : Lfts 1) (w : MutBor (List ℕ)) (name preferred count : ℕ) → power_on.Pre κs (w, (name, (preferred, (count, tt)))))
+      × ((κs : Lfts 2) (w : MutBor (List ℕ)) (b : Bor (List ℕ)) (port id : ℕ) → frame.Pre κs (w, (port, (id, (b, tt)))))
+      × ((κs : Lfts 1) (w : MutBor (List ℕ)) (port : ℕ) → take.Pre κs (w, (port, tt)))
+      × ((κs : Lfts 3) (w : MutBor (List ℕ)) (p : Bor (List ℕ)) (b : MutBor (List ℕ)) (port requester : ℕ) → message.Pre κs (w, (port, (requester, (p, (b, tt))))))
+      × ((κs : Lfts 1) (w : MutBor (List ℕ)) → start.Pre κs (w, tt))
+      × ((κs : Lfts 1) (w : MutBor (List ℕ)) → quiet.Pre κs (w, tt))
       × ((κs : Lfts 1) (w : Bor (List ℕ)) → unit.Pre κs (w, tt))
       × ((κs : Lfts 1) (w : Bor (List ℕ)) (port : ℕ) → counts.Pre κs (w, (port, tt)))
   pub power_on : {words after : List ℕ} {name preferred count r : ℕ} → made.Powered words name preferred count r after

@@ -11,7 +11,7 @@ use lib.Dec.{eqb}
 use Rattle.filter.specs.Filter.{Filter, clear}
 use Rattle.entries.specs.Entries.{listed}
 use Rattle.network_message.specs.declared.Command.{Command}
-use Rattle.network_message.specs.Decoding.{function_of, pair_of, from_of, to_of, all_ports, is_general, may_be_all, is_pair, names_ports, decoded}
+use Rattle.network_message.specs.Decoding.{function_of, pair_of, from_of, to_of, is_general, may_be_all, is_pair, names_ports, decoded}
 use Rattle.network_message.specs.Commands.{reaches, Ports, Good}
 use Rattle.network_message.proofs.Passing.{answered_by, by_function}
 use Rattle.checks.specs.Checks.{acknowledges}

@@ -31,7 +31,7 @@ use Rattle.refusals.proofs.Checks.{frame_goes}
 use Rattle.unit.proofs.Ports.{total_none}
 use Rattle.bridge.proofs.Laws.{not_offered_back}
 use Rattle.demand_2.specs.Matching.{Compares}
-use Rattle.demand_2.specs.Demand2.{unit_in, pair_on, Reached, sum_to, Counted, Ceiling, Counts}
+use Rattle.demand_2.specs.Demand2.{unit_in, pair_on, Reached, sum_to, Ceiling, Counts}
 use Rattle.demand_2.proofs.Kept.{stands}
 use Rattle.demand_2.proofs.Matching.{pair_few, compares}
 

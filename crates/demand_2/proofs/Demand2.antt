@@ -12,7 +12,7 @@ use lib.Seq.{take_at}
 use lib.Dec.{eqb}
 use Rattle.filter.specs.Filter.{Filter, clear}
 use Rattle.delivery.specs.Unit.{join_all}
-use Rattle.queue.specs.Queue.{size, priority, Queued, queue_next, idle}
+use Rattle.queue.specs.Queue.{size, Queued, queue_next, idle}
 use Rattle.queue.proofs.Rows.{row_sent}
 use Rattle.network_message.specs.Decoding.{function_of, pair_of, from_of, to_of}
 use Rattle.replies.specs.Replies.{list_reply}

@@ -1,8 +1,8 @@
 -- What asking a pair answers is what the data say: an entry matches by its bits and by the words of the table. Assumes nothing.
 use mathlib.Core.Path.{◌≡◌, refl, sym, ap, ◌∙◌}
-use mathlib.Core.Logic.{◌⊎◌, inl, inr, ⊎_elim}
+use mathlib.Core.Logic.{inl, inr, ⊎_elim}
 use mathlib.Core.Bool.{Bool, true, false, cond, ◌&&◌, ◌||◌, false≢true}
-use mathlib.Core.List.{List, [], ◌∷◌}
+use mathlib.Core.List.{List, []}
 use mathlib.Core.Option.{Option, none, some}
 use Prim.Native.Nat.{ℕ, zero, suc, ◌+◌, ◌*◌, ◌/◌, ◌%◌, ◌^◌, ◌≤◌, ◌<◌, zero-le}
 use native.Mathlib.Nat.{pow-succ', div-div-eq-div-mul, div-one, not-suc-le-zero, le_of_suc-le-suc}
@@ -29,7 +29,7 @@ use Rattle.pgn_list.specs.PgnList.{list_size}
 use Rattle.sorted_list.specs.SortedList.{Probed, halving_in, halved, insert_all}
 use Rattle.demand_2.proofs.Searches.{any, listed_any, match_any, place_in_up_to, counted, somewhere, nowhere}
 use Rattle.demand_2.proofs.Probes.{halves_all, in_order}
-use Rattle.demand_2.specs.Matching.{Gives, bit, Matches, InList, InNames, Among, Listed, UpTo, all, Permanent, Unsearched, Halving, Compares, nothing, found, not_found}
+use Rattle.demand_2.specs.Matching.{Gives, bit, InList, InNames, Among, Listed, UpTo, all, Permanent, Unsearched, Halving, Compares, nothing, found, not_found}
 
 -- ---- bit by bit
 -- bit i of a half is bit i + 1

@@ -1,25 +1,24 @@
 -- A command changes the pairs that it names and no other. Assumes nothing.
-use mathlib.Core.Path.{◌≡◌, refl, sym, ap, ◌∙◌}
-use mathlib.Core.Bool.{Bool, true, false, cond, not, ◌&&◌, ◌||◌}
+use mathlib.Core.Path.{◌≡◌, refl, ap, ◌∙◌}
+use mathlib.Core.Bool.{Bool, true, false, cond, ◌&&◌}
 use mathlib.Core.List.{List, ◌++◌}
 use Prim.Native.Nat.{ℕ, suc, ◌+◌, ◌-◌, ◌*◌, ◌≤◌, ◌<◌}
 use native.Mathlib.Decide.{dec_lt}
 use native.Mathlib.Nat.{mul-suc, mul-le-mul_left}
 use native.Mathlib.Omega.{arith}
-use borrow.Author.Tests.{eq-eqb, ne_eqb, lt-ltb, le-ltb, eqb-true, eqb-false, ltb-true, ltb-false, le-leb}
+use borrow.Author.Tests.{eqb-true, eqb-false, le-leb}
 use lib.ListN.{length, get_or, take, drop, length-drop, get_or-append}
 use lib.Seq.{length-take-le, get_or-append-add, get_or-take, get_or-drop}
-use lib.Dec.{eqb, ltb}
+use lib.Dec.{eqb}
 use Rattle.filter.specs.Filter.{Filter, clear}
 use Rattle.checks.proofs.Ports.{port_bounds}
 use Rattle.checks.specs.Ports.{is_port}
-use Rattle.network_message.specs.Decoding.{all_ports}
 use Rattle.network_message.specs.Commands.{reaches, Ports}
 use Rattle.message_answers.proofs.Replies.{one_port_lem}
 use Rattle.unit.specs.Ports.{each}
 use Rattle.unit.specs.Count.{ports_of, pair_count}
 use Rattle.unit.specs.Model.{pair_at, model_of}
-use Rattle.list_commands.specs.Commands.{IsPair, first_pair, names, change_at, change_named}
+use Rattle.list_commands.specs.Commands.{IsPair, first_pair, change_at, change_named}
 use Rattle.list_commands.proofs.Ranks.{rank, rank_small, names_is}
 use Rattle.unit.proofs.Count.{row_below, pair_below}
 use Rattle.unit.proofs.Ports.{each_at, each_later}

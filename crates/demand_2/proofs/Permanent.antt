@@ -1,20 +1,19 @@
 -- A frame of a permanent PGN, at every port but its arrival port: accepted or lost, whatever the lists hold. Assumes nothing.
 use mathlib.Core.Path.{◌≡◌, refl, sym, ap, ◌∙◌}
 use mathlib.Core.Logic.{◌⊎◌, ⊎_elim}
-use mathlib.Core.Bool.{Bool, true, false, cond, not}
+use mathlib.Core.Bool.{Bool, true, false, cond}
 use mathlib.Core.List.{List}
-use Prim.Native.Nat.{ℕ, zero, suc, ◌+◌, ◌-◌, ◌<◌, ◌≤◌}
+use Prim.Native.Nat.{ℕ, zero, suc, ◌+◌, ◌-◌, ◌≤◌}
 use native.Mathlib.Omega.{arith}
 use borrow.Author.Tests.{eqb-true, eqb-false, ne_eqb}
 use lib.Dec.{eqb}
 use lib.ListN.{length}
-use Rattle.checks.specs.Ports.{is_port}
 use Rattle.identifier.specs.Identifier.{pgn_of}
 use Rattle.filter.specs.declared.Reason.{Reason}
 use Rattle.filter.specs.declared.Asked.{Asked}
 use Rattle.filter.specs.Filter.{is_permanent, asked}
 use Rattle.bridge.specs.declared.FrameAnswer.{FrameAnswer}
-use Rattle.unit.specs.Ports.{bit_at, total}
+use Rattle.unit.specs.Ports.{total}
 use Rattle.unit.specs.Count.{ports_of}
 use Rattle.unit.specs.Model.{Model, Rest}
 use Rattle.unit.specs.Own.{consumes}

@@ -1,16 +1,15 @@
 -- What a sound pair searches are its PGNs in rising order, and the probes are those of the halving rule. Assumes nothing.
-use mathlib.Core.Path.{◌≡◌, refl, sym, ap, ◌∙◌}
-use mathlib.Core.Logic.{◌↔◌}
+use mathlib.Core.Path.{◌≡◌, refl, sym, ◌∙◌}
 use mathlib.Core.Bool.{Bool, true, false, cond}
-use mathlib.Core.List.{List, []}
-use Prim.Native.Nat.{ℕ, zero, suc, ◌+◌, ◌-◌, ◌/◌, ◌≤◌, ◌<◌}
+use mathlib.Core.List.{List}
+use Prim.Native.Nat.{ℕ, zero, suc, ◌-◌, ◌≤◌, ◌<◌}
 use native.Mathlib.Numerals.{add-one}
 use native.Mathlib.Omega.{arith}
 use borrow.Author.Tests.{eqb-true, eqb-false, eq-eqb, ltb-true, ltb-false}
 use lib.Dec.{eqb, ltb}
 use lib.ListN.{length, get_or}
 use Rattle.entries.specs.Entries.{listed}
-use Rattle.sorted_list.specs.SortedList.{Probed, probed, more, halving_in, halved, insert_all}
+use Rattle.sorted_list.specs.SortedList.{Probed, probed, more, halving_in, halved}
 use Rattle.sorted_list.proofs.Lookup.{rising_at, here, found_listed}
 use Rattle.sorted_list.proofs.Commands.{sorted_rising, sorted_listed}
 use Rattle.filter.specs.Filter.{Filter}

@@ -1,6 +1,6 @@
 -- The reason that an answer tells for each port is the pair's, by its mode, its list and its NAME entries. Assumes nothing.
 use mathlib.Core.Path.{◌≡◌, refl, sym, ap, ◌∙◌}
-use mathlib.Core.Bool.{Bool, true, false, cond, ◌||◌, true≢false}
+use mathlib.Core.Bool.{Bool, true, false, cond, ◌||◌}
 use mathlib.Core.List.{List}
 use mathlib.Core.Option.{Option}
 use Prim.Native.Nat.{ℕ, ◌+◌, ◌-◌, ◌^◌, ◌<◌, ◌≤◌}
@@ -22,13 +22,13 @@ use Rattle.unit.specs.Ports.{digits, digit_at}
 use Rattle.unit.specs.Count.{ports_of}
 use Rattle.unit.specs.Model.{Model, Rest, pair_at}
 use Rattle.unit.specs.Own.{consumes}
-use Rattle.forwarding.specs.Forwarding.{silent, verdict}
+use Rattle.forwarding.specs.Forwarding.{verdict}
 use Rattle.refusals.specs.Refusals.{frame_refusal}
 use Rattle.bridge.specs.Calls.{frame_of, offered, frame_passed, frame_refused, frame_answer, Framing}
 use Rattle.refusals.proofs.Checks.{frame_goes}
 use Rattle.unit.proofs.Ports.{digit_at_lem, digit_past, digits_none}
 use Rattle.bridge.proofs.Laws.{not_offered_back}
-use Rattle.demand_2.specs.Demand2.{unit_in, pair_on, list_reason, pair_reason, Tells, as_listed, as_not_listed, reason_at, Reasons, Reached}
+use Rattle.demand_2.specs.Demand2.{unit_in, pair_on, list_reason, pair_reason, Tells, as_listed, as_not_listed, Reasons, Reached}
 use Rattle.filter_commands.specs.Changes.{Sound}
 use Rattle.demand_2.proofs.Kept.{stands}
 use Rattle.demand_2.proofs.Probes.{finds}

@@ -1,8 +1,8 @@
 -- Accepted and lost ports follow from the reasons that the book's answers tell, and from room. Assumes nothing.
-use mathlib.Core.Path.{◌≡◌, refl, sym, ap, ◌∙◌}
-use mathlib.Core.Bool.{Bool, true, false, not, ◌&&◌, cond}
+use mathlib.Core.Path.{◌≡◌, refl, ◌∙◌}
+use mathlib.Core.Bool.{Bool, true, false, not, ◌&&◌}
 use mathlib.Core.List.{List}
-use Prim.Native.Nat.{ℕ, ◌-◌, ◌^◌, ◌≤◌, ◌<◌}
+use Prim.Native.Nat.{ℕ, ◌-◌, ◌^◌, ◌<◌}
 use native.Mathlib.Nat.{zero-div}
 use native.Mathlib.Decide.{dec_lt}
 use native.Mathlib.Omega.{arith}
@@ -13,8 +13,8 @@ use Rattle.filter.specs.Filter.{crosses, reason_number}
 use Rattle.filter.proofs.Reasons.{reason_below}
 use Rattle.unit.specs.Ports.{mask, bit_at, digits, digit_at}
 use Rattle.unit.specs.Model.{Model, row_at}
-use Rattle.refusals.specs.Refusals.{frame_refusal, take_refusal, start_refusal, length_refusal}
-use Rattle.bridge.specs.Calls.{frame_of, offered, Call, FrameIn, TakeOut, Message, Start, Quiet, ReadUnit, ReadCounts, frame_passed, frame_answer}
+use Rattle.refusals.specs.Refusals.{frame_refusal}
+use Rattle.bridge.specs.Calls.{offered, Call, FrameIn, TakeOut, Message, Start, Quiet, ReadUnit, ReadCounts, frame_passed, frame_answer}
 use Rattle.unit.proofs.Ports.{mask_small, mask_bit, digit_at_lem, digit_past}
 use Rattle.demand_3.specs.Demand3.{words, answer, Answer, accepted_ports, lost_ports, reasons_in, crossing, ByReason}
 use Rattle.demand_3.proofs.Named.{no_port_lem}

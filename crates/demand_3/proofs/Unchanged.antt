@@ -1,12 +1,12 @@
 -- What a call sends is what was handed in, or the unit's own frame. By the kind of the call, and of what a claim or request does. Assumes nothing.
-use mathlib.Core.Path.{◌≡◌, refl, sym, ap, ◌∙◌}
+use mathlib.Core.Path.{◌≡◌, refl, ◌∙◌}
 use mathlib.Core.Bool.{Bool, true, false, cond}
 use mathlib.Core.Logic.{◌⊎◌, inl, inr}
 use mathlib.Core.List.Memᴰ
 use mathlib.Core.List.{List, [], ◌∷◌, ◌++◌, append-nil, Memᴰ}
-use Prim.Native.Nat.{ℕ, ◌+◌, ◌-◌, ◌<◌}
+use Prim.Native.Nat.{ℕ, ◌-◌, ◌<◌}
 use native.Mathlib.Omega.{arith}
-use lib.ListN.{length, get_or, replicate}
+use lib.ListN.{length, get_or}
 use lib.Dec.{eqb, ltb}
 use Rattle.storage.specs.Bytes.{packed, bytes_of}
 use Rattle.storage.proofs.Bytes.{packed_back}
@@ -24,9 +24,8 @@ use Rattle.unit.specs.declared.Sent.{Sent}
 use Rattle.unit.specs.Model.{Rest, Model}
 use Rattle.unit.specs.Own.{is_own, consumes, request_answer, frames_sent}
 use Rattle.unit.specs.PowerOn.{fresh}
-use Rattle.forwarding.specs.Forwarding.{sent_if}
 use Rattle.claims.specs.Claims.{frame_of, Acted, is_claim, is_request_to_unit, contested, claim_acted, frame_acted, held_under, started}
-use Rattle.bridge.specs.Calls.{Call, FrameIn, TakeOut, Message, Start, Quiet, ReadUnit, ReadCounts, offered, frame_done, rest_after}
+use Rattle.bridge.specs.Calls.{Call, FrameIn, TakeOut, Message, Start, Quiet, ReadUnit, ReadCounts, offered, rest_after}
 use Rattle.demand_3.specs.Demand3.{words, next, goes, rest_next, forwarded, forwards, announced, announces, sends, AsHandedIn, handed, of_unit, bytes_in, model_after}
 use Rattle.demand_3.proofs.Moves.{rest_moves}
 

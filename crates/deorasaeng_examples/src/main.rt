@@ -1,6 +1,8 @@
 // What `replay`, which runs the functions that C calls on scripts, does not show of them: storage of a wrong length, refused with 2, or with 1 where the port is wrong too,
 // and left as it was; power-on of four ports; a queue of the published size; totals beyond 2^16; plans, with words that no plan's text can have, and a path through fifteen units. A line for some calls: their
 // numbers, and the words of the answer, which had 9 in each.
+#![tactic(auto)]
+
 ghost use Rattle.std.specs.Prelude.{◌<◌};
 
 use answer_lines::{text, words};
@@ -11,21 +13,21 @@ const NAME: u64 = 0x20001C000AC00123;
 // A length that no answer has.
 const WRONG: usize = 4;
 
-fn tell_words(word: &[u8], told: &[u64]) {
-    text(word);
-    words(told);
-    text(b"\n");
+fn tell_words(rt: &impl Print, word: &[u8], told: &[u64]) {
+    text(rt, word);
+    words(rt, told);
+    text(rt, b"\n");
 }
 
-fn tell(word: &[u8], given: &[u64], answer: &[u64]) {
-    text(word);
-    words(given);
-    words(answer);
-    text(b"\n");
+fn tell(rt: &impl Print, word: &[u8], given: &[u64], answer: &[u64]) {
+    text(rt, word);
+    words(rt, given);
+    words(rt, answer);
+    text(rt, b"\n");
 }
 
 // A record that is a word short, and answers.
-fn of_the_unit(record: &mut [u64]) {
+fn of_the_unit(rt: &impl Print, record: &mut [u64]) {
     let mut short = [0u64; Unit::RECORD_LENGTH - 1];
     let mut answer = [9u64; WRONG];
     let given = [
@@ -35,6 +37,7 @@ fn of_the_unit(record: &mut [u64]) {
         deorasaeng::deorasaeng_unit(record, &mut answer) as u64,
     ];
     tell(
+        rt,
         b"power-on and Quiet on a word less, Start and unit on 4:",
         &given,
         &answer,
@@ -42,7 +45,7 @@ fn of_the_unit(record: &mut [u64]) {
 }
 
 // Answers to the calls of a port.
-fn of_a_port(record: &mut [u64], word: &[u8], port: u32) {
+fn of_a_port(rt: &impl Print, record: &mut [u64], word: &[u8], port: u32) {
     let mut answer = [9u64; WRONG];
     let mut bytes = [0u8; flat_answers::FRAME_BYTES];
     let given = [
@@ -51,42 +54,43 @@ fn of_a_port(record: &mut [u64], word: &[u8], port: u32) {
         deorasaeng::deorasaeng_message(record, port, 0x21, b"\x01", &mut bytes, &mut answer) as u64,
         deorasaeng::deorasaeng_counts(record, port, &mut answer) as u64,
     ];
-    tell(word, &given, &answer);
+    tell(rt, word, &given, &answer);
 }
 
 // The bytes of a take.
-fn of_a_take(record: &mut [u64], word: &[u8], port: u32) {
+fn of_a_take(rt: &impl Print, record: &mut [u64], word: &[u8], port: u32) {
     let mut answer = [9u64; deorasaeng::TAKE_WORDS];
     let mut bytes = [0u8; flat_answers::FRAME_BYTES - 1];
     let given = [deorasaeng::deorasaeng_take(record, port, &mut answer, &mut bytes) as u64];
-    tell(word, &given, &answer);
+    tell(rt, word, &given, &answer);
 }
 
 // The bytes of a reply. Of a message that writes none 0 is told.
-fn of_a_reply(record: &mut [u64], word: &[u8], port: u32) {
+fn of_a_reply(rt: &impl Print, record: &mut [u64], word: &[u8], port: u32) {
     let mut answer = [9u64; deorasaeng::MESSAGE_WORDS];
     let mut bytes = [0u8; refusals::LONGEST_MESSAGE - 1];
     let given = [
         deorasaeng::deorasaeng_message(record, port, 0x21, b"\x01", &mut bytes, &mut answer) as u64,
     ];
-    tell(word, &given, &answer);
+    tell(rt, word, &given, &answer);
 }
 
-fn wrong_answers(record: &mut [u64]) {
-    of_the_unit(record);
+fn wrong_answers(rt: &impl Print, record: &mut [u64]) {
+    of_the_unit(rt, record);
     of_a_port(
+        rt,
         record,
         b"port 1, frame, take, message and counts on 4 words:",
         1,
     );
-    of_a_port(record, b"port 5, the same:", 5);
+    of_a_port(rt, record, b"port 5, the same:", 5);
 }
 
-fn wrong_bytes(record: &mut [u64]) {
-    of_a_take(record, b"port 1, a take of 7 bytes:", 1);
-    of_a_take(record, b"port 5, the same:", 5);
-    of_a_reply(record, b"port 1, a reply of 1,784 bytes:", 1);
-    of_a_reply(record, b"port 5, the same:", 5);
+fn wrong_bytes(rt: &impl Print, record: &mut [u64]) {
+    of_a_take(rt, record, b"port 1, a take of 7 bytes:", 1);
+    of_a_take(rt, record, b"port 5, the same:", 5);
+    of_a_reply(rt, record, b"port 1, a reply of 1,784 bytes:", 1);
+    of_a_reply(rt, record, b"port 5, the same:", 5);
 }
 
 // A frame from port 2.
@@ -104,11 +108,11 @@ fn fill(lent: &mut [u64], answer: &mut [u64]) {
 }
 
 // One more is lost at each.
-fn full(record: &mut [u64]) {
+fn full(rt: &impl Print, record: &mut [u64]) {
     let mut answer = [9u64; deorasaeng::FRAME_WORDS];
     fill(record, &mut answer);
     let given = [send(record, &mut answer) as u64];
-    tell(b"32 waiting, one more:", &given, &answer);
+    tell(rt, b"32 waiting, one more:", &given, &answer);
 }
 
 // A frame, and a take at a port where it waits, 70,000 times.
@@ -122,7 +126,7 @@ fn pass_on(lent: &mut [u64], answer: &mut [u64], taken: &mut [u64], bytes: &mut 
 }
 
 // The counts of port 1 then, where 32 wait all the while: no total is cut to 16 bits.
-fn many(record: &mut [u64]) {
+fn many(rt: &impl Print, record: &mut [u64]) {
     let mut answer = [9u64; deorasaeng::FRAME_WORDS];
     let mut taken = [9u64; deorasaeng::TAKE_WORDS];
     let mut bytes = [0u8; flat_answers::FRAME_BYTES];
@@ -130,7 +134,7 @@ fn many(record: &mut [u64]) {
     deorasaeng::deorasaeng_take(record, 1, &mut taken, &mut bytes);
     pass_on(record, &mut answer, &mut taken, &mut bytes);
     let given = [deorasaeng::deorasaeng_counts(record, 1, &mut counts) as u64];
-    tell(b"70,000 more taken at 1, its counts:", &given, &counts);
+    tell(rt, b"70,000 more taken at 1, its counts:", &given, &counts);
 }
 
 // What is asked of a plan beside its ports and lists.
@@ -152,7 +156,13 @@ fn about(pgn: u32) -> Question {
     }
 }
 
-fn plan(ports: &[u64; plan_shape::PORTS_LENGTH], lists: &[u64], word: &[u8], q: Question) {
+fn plan(
+    rt: &impl Print,
+    ports: &[u64; plan_shape::PORTS_LENGTH],
+    lists: &[u64],
+    word: &[u8],
+    q: Question,
+) {
     let mut answer = [9u64; deorasaeng::PLAN_WORDS];
     let given = [deorasaeng::deorasaeng_plan(
         ports,
@@ -163,7 +173,7 @@ fn plan(ports: &[u64; plan_shape::PORTS_LENGTH], lists: &[u64], word: &[u8], q: 
         q.pgn,
         &mut answer,
     ) as u64];
-    tell(word, &given, &answer);
+    tell(rt, word, &given, &answer);
 }
 
 // Unit 1 joins segments 1 and 2, unit 2 joins 2 and 3.
@@ -177,62 +187,68 @@ fn joined() -> [u64; plan_shape::PORTS_LENGTH] {
 }
 
 // Unit 1 lets 65097 alone through from segment 1 to 2; then unit 2 joins 1 too.
-fn ask_plan(lists: &[u64]) {
+fn ask_plan(rt: &impl Print, lists: &[u64]) {
     let mut ports = joined();
-    plan(&ports, lists, b"plan, 65097 from 1:", about(65097));
-    plan(&ports, lists, b"plan, 61444 from 1:", about(61444));
-    plan(&ports, lists, b"plan, 61185 from 1:", about(61185));
+    plan(rt, &ports, lists, b"plan, 65097 from 1:", about(65097));
+    plan(rt, &ports, lists, b"plan, 61444 from 1:", about(61444));
+    plan(rt, &ports, lists, b"plan, 61185 from 1:", about(61185));
     let short = [0u64; plan_shape::PORTS_LENGTH];
-    plan(&ports, &short, b"plan, lists of 128 words:", about(65097));
+    plan(
+        rt,
+        &ports,
+        &short,
+        b"plan, lists of 128 words:",
+        about(65097),
+    );
     ports[10] = 1;
-    plan(&ports, lists, b"plan, a ring:", about(65097));
+    plan(rt, &ports, lists, b"plan, a ring:", about(65097));
 }
 
 // Numbers beside the words.
-fn ask_numbers(lists: &[u64]) {
+fn ask_numbers(rt: &impl Print, lists: &[u64]) {
     let ports = joined();
     let mut q = about(65097);
     q.first = 0;
-    plan(&ports, lists, b"plan, from 0:", q);
+    plan(rt, &ports, lists, b"plan, from 0:", q);
     q.first = 4;
-    plan(&ports, lists, b"plan, from 4 of 3:", q);
+    plan(rt, &ports, lists, b"plan, from 4 of 3:", q);
     q.first = 1;
     q.units = 17;
-    plan(&ports, lists, b"plan, 17 units:", q);
+    plan(rt, &ports, lists, b"plan, 17 units:", q);
     q.units = 2;
     q.segments = 17;
-    plan(&ports, lists, b"plan, 17 segments:", q);
+    plan(rt, &ports, lists, b"plan, 17 segments:", q);
 }
 
 // Segments on ports: of unit 2 and of unit 3, which is not in use.
-fn ask_ports(lists: &[u64]) {
+fn ask_ports(rt: &impl Print, lists: &[u64]) {
     let mut ports = joined();
     ports[16] = 99;
-    plan(&ports, lists, b"plan, 99 on unit 3 of 2:", about(65097));
+    plan(rt, &ports, lists, b"plan, 99 on unit 3 of 2:", about(65097));
     ports[10] = 4;
-    plan(&ports, lists, b"plan, segment 4 of 3:", about(65097));
+    plan(rt, &ports, lists, b"plan, segment 4 of 3:", about(65097));
 }
 
 // A pair's first words: of unit 1 from its first port to its second, and of a pair of unit 3, which is not in use.
-fn ask_words(word: &[u8], mode: u64, count: u64, listed: u64) {
+fn ask_words(rt: &impl Print, word: &[u8], mode: u64, count: u64, listed: u64) {
     let ports = joined();
     let mut lists = [0u64; plan_shape::LISTS_LENGTH];
     lists[0] = mode;
     lists[1] = count;
     lists[2] = listed;
     lists[2 * plan_shape::PAIRS * plan_shape::BLOCK_SIZE] = 3;
-    plan(&ports, &lists, word, about(65097));
+    plan(rt, &ports, &lists, word, about(65097));
 }
 
-fn wrong_words() {
-    ask_words(b"plan, mode 1, 65097 listed:", 1, 1, 65097);
-    ask_words(b"plan, mode 3:", 3, 1, 65097);
-    ask_words(b"plan, mode 2^32 + 2:", 4294967298, 1, 65097);
-    ask_words(b"plan, 33 listed:", 2, 33, 65097);
-    ask_words(b"plan, 64 listed:", 2, 64, 65097);
-    ask_words(b"plan, 61185 listed:", 2, 1, 61185);
-    ask_words(b"plan, 2^18 listed:", 1, 1, 262144);
-    ask_words(b"plan, cleared, 33 of 61185 listed:", 0, 33, 61185);
+fn wrong_words(rt: &impl Print) {
+    ask_words(rt, b"plan, mode 1, 65097 listed:", 1, 1, 65097);
+    ask_words(rt, b"plan, mode 3:", 3, 1, 65097);
+    ask_words(rt, b"plan, mode 2^32 + 2:", 4294967298, 1, 65097);
+    ask_words(rt, b"plan, 33 listed:", 2, 33, 65097);
+    ask_words(rt, b"plan, 64 listed:", 2, 64, 65097);
+    ask_words(rt, b"plan, 61185 listed:", 2, 1, 61185);
+    ask_words(rt, b"plan, 2^18 listed:", 1, 1, 262144);
+    ask_words(rt, b"plan, cleared, 33 of 61185 listed:", 0, 33, 61185);
 }
 
 // Sixteen units: the second to the last are a chain from segment 1 to 16, the first is on segment 1 alone.
@@ -279,33 +295,33 @@ fn shut_in_turn(ports: &[u64; plan_shape::PORTS_LENGTH]) -> [u64; plan_shape::UN
     heard
 }
 
-fn chains() {
+fn chains(rt: &impl Print) {
     let ports = chained();
     let heard = shut_in_turn(&ports);
-    tell_words(b"chain from 1, unit 1 to 16 shut:", &heard);
+    tell_words(rt, b"chain from 1, unit 1 to 16 shut:", &heard);
     let back = [heard_past(&ports, 15, 16)];
-    tell_words(b"chain from 16, unit 16 shut the other way:", &back);
+    tell_words(rt, b"chain from 16, unit 16 shut the other way:", &back);
 }
 
-fn plans() {
+fn plans(rt: &impl Print) {
     let mut lists = [0u64; plan_shape::LISTS_LENGTH];
     lists[0] = 2;
     lists[1] = 1;
     lists[2] = 65097;
-    ask_plan(&lists);
-    ask_numbers(&lists);
-    ask_ports(&lists);
+    ask_plan(rt, &lists);
+    ask_numbers(rt, &lists);
+    ask_ports(rt, &lists);
 }
 
-fn main() {
+fn main(rt: HostRuntime) {
     let mut space = [0u64; Unit::RECORD_LENGTH];
     let record: &mut [u64] = &mut space;
     deorasaeng::deorasaeng_power_on(record, NAME, 0x90);
-    wrong_answers(record);
-    wrong_bytes(record);
-    full(record);
-    many(record);
-    plans();
-    wrong_words();
-    chains();
+    wrong_answers(&rt, record);
+    wrong_bytes(&rt, record);
+    full(&rt, record);
+    many(&rt, record);
+    plans(&rt);
+    wrong_words(&rt);
+    chains(&rt);
 }

@@ -7,7 +7,6 @@ use native.Mathlib.Nat.{not-suc-le-zero, le_of_suc-le-suc, zero-add, add-suc, su
 use native.Mathlib.Numerals.{add-one}
 use native.Mathlib.Omega.{arith}
 use borrow.Author.Tests.{le-leb, lt-leb}
-use lib.Dec.{leb}
 use lib.ListN.{length, get_or, drop}
 use Rattle.storage.specs.Bytes.{Packing}
 use Rattle.storage.proofs.Walk.{Left, left_all, left_next, left_one, left_none}

@@ -1,12 +1,11 @@
 -- The NAME entry on a block: where a question says so no word changes, and else the stored words mean the entries with it. Assumes nothing.
 use mathlib.Core.Path.{◌≡◌, refl, sym, ap, ◌∙◌}
-use mathlib.Core.Bool.{Bool, true, false, cond, not, ◌&&◌, and-false, and-true}
+use mathlib.Core.Bool.{Bool, true, false, cond, not, and-false, and-true}
 use mathlib.Core.List.{List, [], ◌∷◌, ◌++◌}
 use Prim.Native.Nat.{ℕ, zero, suc, ◌+◌, ◌≤◌, ◌<◌, min}
 use native.Mathlib.Omega.{arith}
 use borrow.Author.Tests.{ne_eqb, eq-eqb, le-leb, lt-leb}
-use lib.Dec.{eqb, leb}
-use lib.ListN.{length, get_or, set, take, drop, length-set, length-drop}
+use lib.ListN.{length, get_or, set, drop, length-set, length-drop}
 use lib.Seq.{length-take-le}
 use Rattle.storage.proofs.Parts.{back, length_back, part_in, part_before, part_after}
 use Rattle.name_entries.specs.NameEntries.{NameEntry, most_names, names_length, entries_in, names_of, is_there, Appending}

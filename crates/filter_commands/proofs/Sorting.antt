@@ -12,7 +12,7 @@ use Rattle.pgn_list.specs.PgnList.{list_size, delete_all}
 use Rattle.pgn_list.specs.Steps.{Keeping}
 use Rattle.sorted_list.specs.SortedList.{put_one, put_all, fitted}
 use Rattle.sorted_list.proofs.Order.{put_all_snoc}
-use Rattle.filter.specs.Filter.{mode_place, count_place, list_place, list_of, names_place, names_in, sorted_place, sorted_in, front_of, block_size}
+use Rattle.filter.specs.Filter.{mode_place, count_place, list_place, list_of, names_place, names_in, sorted_place, sorted_in, block_size}
 use Rattle.name_entries.specs.NameEntries.{names_length}
 use Rattle.filter.proofs.Meaning.{list_whole, list_at, sorted_long}
 use Rattle.filter_commands.specs.Steps.{Relisted, Resorted}

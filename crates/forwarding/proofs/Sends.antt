@@ -1,7 +1,7 @@
 -- A frame at one port, by the way that the code went. Assumes nothing.
 use mathlib.Core.Path.{◌≡◌, refl, sym, ap, ◌∙◌}
 use mathlib.Core.Bool.{Bool, true, false, not, cond, ◌&&◌}
-use mathlib.Core.List.{List, []}
+use mathlib.Core.List.{List}
 use mathlib.Core.Logic.{inl, inr, ⊎_elim}
 use Prim.Native.Nat.{ℕ, ◌+◌, ◌-◌, ◌*◌, ◌^◌, ◌≤◌, ◌<◌}
 use native.Mathlib.Nat.{le_trans, mul-le-mul_left, mul-le-mul_right}
@@ -9,7 +9,7 @@ use native.Mathlib.Omega.{arith}
 use borrow.Author.Tests.{eq-eqb, ne_eqb, lt-ltb, le-ltb}
 use lib.Seq.{set-get_or}
 use Rattle.filter.specs.declared.Asked.{Asked}
-use Rattle.filter.specs.Filter.{Filter, crosses, reason_number, block_size as filter_length}
+use Rattle.filter.specs.Filter.{crosses, reason_number, block_size as filter_length}
 use Rattle.sorted_list.specs.SortedList.{most_probes}
 use Rattle.name_entries.specs.NameEntries.{most_names}
 use Rattle.queue.specs.declared.Frame.{Frame}
@@ -17,7 +17,7 @@ use Rattle.queue.specs.Queue.{size, idle, joined}
 use Rattle.losses.specs.Losses.{one_more}
 use Rattle.delivery.specs.Row.{room}
 use Rattle.unit.specs.Count.{pair_count}
-use Rattle.unit.specs.Model.{Rest, Model, model_of, queue_on, row_at, with_queue, with_losses, pairs_from, pair_at, general_at}
+use Rattle.unit.specs.Model.{Rest, Model, model_of, queue_on, with_queue, with_losses, pairs_from, pair_at, general_at}
 use Rattle.unit.proofs.Count.{pair_below}
 use Rattle.forwarding.specs.declared.Came.{Came}
 use Rattle.forwarding.specs.declared.Offered.{Offered}

@@ -1,12 +1,18 @@
 // A frame's call put together from its parts, beside the call itself: the frames of a bench log, from standard input, go to two units, to one whole and to the
 // other part by part, and after each the answers and every word of the two records are compared. So with two, four and eight ports. Then what each part refuses.
+#![tactic(auto)]
+
 ghost use Rattle.std.specs.Prelude.{◌≡◌, ◌<◌, ◌≤◌, length};
 
 use bench_records::{FRAME_SIZE, TAKE_SIZE};
 use bridge::{FrameAnswer, Unit};
-use libc::{STDIN_FILENO, STDOUT_FILENO};
 use queue::Frame;
+use std::io;
+use std::io::Read;
 use unit::Sent;
+
+// The most bytes that are read.
+const MOST: u64 = 65536;
 
 const NAME: u64 = 0xA000000000000050;
 
@@ -24,14 +30,13 @@ const WORDS: usize = 8;
 // What is counted: for each word of the answer the frames where it is not 0; then all frames, those that are refused, those whose answers or records differ.
 const COUNTS: usize = WORDS + 3;
 
-fn text(line: &[u8]) {
-    io::write_all(STDOUT_FILENO, line);
+fn text(rt: &impl Print, line: &[u8]) {
+    let _ = rt.write_all(line);
 }
 
 // A number of a line.
-fn number(n: u64) {
-    io::print_decimal(STDOUT_FILENO, n);
-    text(b" ");
+fn number(rt: &impl Print, n: u64) {
+    let _ = print!(rt; "{n} ");
 }
 
 // ---- the call of a frame, from its parts
@@ -265,23 +270,23 @@ fn key_on(words: &mut [u64], ports: u32) {
 }
 
 // A line: the number of ports, and what is counted.
-fn print_counts(counts: &[u64; COUNTS], ports: u32) {
-    number(ports as u64);
+fn print_counts(rt: &impl Print, counts: &[u64; COUNTS], ports: u32) {
+    number(rt, ports as u64);
     let mut i: usize = 0;
     while i < COUNTS {
-        number(counts[i]);
+        number(rt, counts[i]);
         i += 1;
     }
-    text(b"\n");
+    text(rt, b"\n");
 }
 
 // Two units of that many ports.
-fn morning(whole: &mut [u64], parts: &mut [u64], log: &[u8], ports: u32) {
+fn morning(rt: &impl Print, whole: &mut [u64], parts: &mut [u64], log: &[u8], ports: u32) {
     let mut counts = [0u64; COUNTS];
     key_on(whole, ports);
     key_on(parts, ports);
     play_all(whole, parts, log, &mut counts);
-    print_counts(&counts, ports);
+    print_counts(rt, &counts, ports);
 }
 
 // The words of a record.
@@ -296,13 +301,13 @@ fn record_length(ports: u32) -> usize
     length
 }
 
-fn with_ports(log: &[u8], ports: u32)
+fn with_ports(rt: &impl Print, log: &[u8], ports: u32)
     requires { (2 ≤ ports) × (ports ≤ 8) }
 {
     let n = record_length(ports);
     let mut record = [0u64; MOST_WORDS];
     let mut other = [0u64; MOST_WORDS];
-    morning(&mut record[0..n], &mut other[0..n], log, ports);
+    morning(rt, &mut record[0..n], &mut other[0..n], log, ports);
 }
 
 // ---- what is refused
@@ -313,48 +318,48 @@ const ROWS: [u8; 56] =
     *b"\x01\x02\x0C\xF0\x04\x27\x08\x02\x02\x0C\xF0\x04\x27\x08\x00\x02\x20\xF0\x04\xFF\x09\x01\x05\x20\xF0\x04\xFF\x09\x01\x02\x20\xF0\x04\xFF\x09\x01\x02\x0C\xF0\x04\xFF\x09\x01\x02\x0C\xF0\x04\xFF\x08\x01\x02\x0C\xF0\x04\xFE\x08";
 
 // What the parts give that are about a pair.
-fn pair_numbers(words: &mut [u64], from: u32, to: u32, f: Frame) {
+fn pair_numbers(rt: &impl Print, words: &mut [u64], from: u32, to: u32, f: Frame) {
     let asked = frame_parts::ask(words, from, to, f.id);
-    number(asked.refusal as u64);
+    number(rt, asked.refusal as u64);
     let joined = frame_parts::join(words, from, to, f);
-    number(joined.refusal as u64);
+    number(rt, joined.refusal as u64);
 }
 
 // What the others give that change the record.
-fn act_numbers(words: &mut [u64], from: u32, f: Frame) {
+fn act_numbers(rt: &impl Print, words: &mut [u64], from: u32, f: Frame) {
     let acted = frame_parts::act(words, from, false, f);
-    number(acted.refusal as u64);
+    number(rt, acted.refusal as u64);
     let own = frame_parts::announce(words, Sent::Nothing);
-    number(own.refusal as u64);
+    number(rt, own.refusal as u64);
 }
 
 // What the first part gives, and the whole call.
-fn frame_numbers(words: &mut [u64], from: u32, id: u32, bytes: &[u8]) {
+fn frame_numbers(rt: &impl Print, words: &mut [u64], from: u32, id: u32, bytes: &[u8]) {
     let arrived = frame_parts::arrive(words, from, id, bytes);
-    number(arrived.refusal as u64);
+    number(rt, arrived.refusal as u64);
     let whole = bridge::frame(words, from, id, bytes);
-    number(whole.refusal as u64);
+    number(rt, whole.refusal as u64);
 }
 
 // A row's ports, identifier and length.
-fn print_row(from: u32, to: u32, f: Frame) {
-    number(from as u64);
-    number(to as u64);
-    io::print_hex(STDOUT_FILENO, f.id as u64, 8);
-    text(b" ");
-    number(f.len as u64);
+fn print_row(rt: &impl Print, from: u32, to: u32, f: Frame) {
+    number(rt, from as u64);
+    number(rt, to as u64);
+    let id = f.id;
+    let _ = print!(rt; "{id:08x} ");
+    number(rt, f.len as u64);
 }
 
-fn refuse_frame(words: &mut [u64], from: u32, to: u32, f: Frame, bytes: &[u8]) {
-    print_row(from, to, f);
-    pair_numbers(words, from, to, f);
-    act_numbers(words, from, f);
-    frame_numbers(words, from, f.id, bytes);
-    text(b"\n");
+fn refuse_frame(rt: &impl Print, words: &mut [u64], from: u32, to: u32, f: Frame, bytes: &[u8]) {
+    print_row(rt, from, to, f);
+    pair_numbers(rt, words, from, to, f);
+    act_numbers(rt, words, from, f);
+    frame_numbers(rt, words, from, f.id, bytes);
+    text(rt, b"\n");
 }
 
 // A row on a record.
-fn refuse(words: &mut [u64], row: &[u8])
+fn refuse(rt: &impl Print, words: &mut [u64], row: &[u8])
     requires { length row.now ≡ 7 }
 {
     let bytes = [0u8; 9];
@@ -364,42 +369,45 @@ fn refuse(words: &mut [u64], row: &[u8])
     let f = Frame { id, len, bytes: 0 };
     let from = bench_records::wide(row[0]);
     let to = bench_records::wide(row[1]);
-    refuse_frame(words, from, to, f, &bytes[0..n]);
+    refuse_frame(rt, words, from, to, f, &bytes[0..n]);
 }
 
-fn refuse_all(words: &mut [u64]) {
+fn refuse_all(rt: &impl Print, words: &mut [u64]) {
     let mut i: usize = 0;
     while i < 8 {
         let at = ROW * i;
         let end = at + ROW;
-        refuse(words, &ROWS[at..end]);
+        refuse(rt, words, &ROWS[at..end]);
         i += 1;
     }
 }
 
 // On a record, and on one that is a word short.
-fn refusals() {
+fn refusals(rt: &impl Print) {
     let mut record = [0u64; Unit::RECORD_LENGTH];
     let mut short = [0u64; Unit::RECORD_LENGTH - 1];
-    refuse_all(&mut record);
-    refuse_all(&mut short);
+    refuse_all(rt, &mut record);
+    refuse_all(rt, &mut short);
 }
 
-fn mornings(log: &[u8]) {
-    with_ports(log, 2);
-    with_ports(log, 4);
-    with_ports(log, 8);
+fn mornings(rt: &impl Print, log: &[u8]) {
+    with_ports(rt, log, 2);
+    with_ports(rt, log, 4);
+    with_ports(rt, log, 8);
 }
 
-fn main() {
-    let mut space = io::large_buffer();
-    let n = io::read_full(STDIN_FILENO, &mut space);
+fn main(rt: HostRuntime) -> io::Result<()> {
+    let mut log = Vec::new(rt.alloc());
+    rt.stdin().take(MOST).read_to_end(&mut log)?;
     text(
+        &rt,
         b"ports; frames consumed, accepted, lost, with an event, taking over, own lost, compared, with reasons; all, refused, DIFFERENT BY PARTS\n",
     );
-    mornings(&space[..n]);
+    mornings(&rt, &log);
     text(
+        &rt,
         b"from, to, identifier, length; refused by ask, join, act, announce, arrive, the whole call; on a record, then on one that is a word short\n",
     );
-    refusals();
+    refusals(&rt);
+    Ok(())
 }

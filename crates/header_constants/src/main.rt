@@ -1,13 +1,19 @@
 // The C header: its text comes from standard input, with a mark for each number, and is written with the code's number in the place of each. What is written is include/deorasaeng.h, byte for byte. The numbers of
 // refusals are those of calls that are refused so, the words of an answer are told by where the code writes a value.
+#![tactic(auto)]
+
 ghost use Rattle.std.specs.Prelude.{◌≤◌, length};
 
 use address_claims::Event;
 use bridge::FrameAnswer;
 use filter::Reason;
-use libc::{STDIN_FILENO, STDOUT_FILENO};
 use queue::{Frame, Taken, Tally};
+use std::io;
+use std::io::Read;
 use unit::{Claim, Unit};
+
+// The most bytes that are read.
+const MOST: u64 = 65536;
 
 // What stands for a number.
 const MARK: u8 = b'@';
@@ -28,28 +34,28 @@ fn marked(text: &[u8], from: usize) -> usize
 }
 
 // The text up to the next mark, and a number in its place: where the text goes on.
-fn next(text: &[u8], from: usize, number: u64) -> usize
+fn next(rt: &impl Print, text: &[u8], from: usize, number: u64) -> usize
     requires { from ≤ length text.now }
     ensures { result ≤ length text.now }
 {
     let at = marked(text, from);
-    io::write_all(STDOUT_FILENO, &text[from..at]);
+    let _ = rt.write_all(&text[from..at]);
     if at < text.len() {
-        io::print_decimal(STDOUT_FILENO, number);
+        let _ = rt.print(number);
         return at + 1;
     }
     at
 }
 
 // The same with one number after the other.
-fn all(text: &[u8], from: usize, numbers: &[u64]) -> usize
+fn all(rt: &impl Print, text: &[u8], from: usize, numbers: &[u64]) -> usize
     requires { from ≤ length text.now }
     ensures { result ≤ length text.now }
 {
     let mut at = from;
     let mut i: usize = 0;
     while i < numbers.len() {
-        at = next(text, at, numbers[i]);
+        at = next(rt, text, at, numbers[i]);
         i += 1;
     }
     at
@@ -68,14 +74,14 @@ fn place_of(answer: &[u64], value: u64) -> u64 {
 }
 
 // The same with the places of values in an answer.
-fn places(text: &[u8], from: usize, answer: &[u64], values: &[u64]) -> usize
+fn places(rt: &impl Print, text: &[u8], from: usize, answer: &[u64], values: &[u64]) -> usize
     requires { from ≤ length text.now }
     ensures { result ≤ length text.now }
 {
     let mut at = from;
     let mut i: usize = 0;
     while i < values.len() {
-        at = next(text, at, place_of(answer, values[i]));
+        at = next(rt, text, at, place_of(answer, values[i]));
         i += 1;
     }
     at
@@ -226,24 +232,24 @@ fn plan_numbers() -> [u64; 2] {
 }
 
 // VERSION, and the numbers of an Unstarted unit.
-fn early_numbers(text: &[u8], words: &mut [u64]) -> usize
+fn early_numbers(rt: &impl Print, text: &[u8], words: &mut [u64]) -> usize
     ensures { result ≤ length text.now }
 {
-    let mut at = all(text, 0, &version());
-    at = all(text, at, &call_numbers(words));
-    at = all(text, at, &frame_numbers(words));
-    all(text, at, &early_number(words))
+    let mut at = all(rt, text, 0, &version());
+    at = all(rt, text, at, &call_numbers(words));
+    at = all(rt, text, at, &frame_numbers(words));
+    all(rt, text, at, &early_number(words))
 }
 
 // The numbers of a Claimed one.
-fn claimed_numbers(text: &[u8], from: usize, words: &mut [u64]) -> usize
+fn claimed_numbers(rt: &impl Print, text: &[u8], from: usize, words: &mut [u64]) -> usize
     requires { from ≤ length text.now }
     ensures { result ≤ length text.now }
 {
-    let mut at = all(text, from, &message_numbers(words));
-    at = all(text, at, &payload_numbers(words));
-    at = all(text, at, &list_numbers(words));
-    all(text, at, &late_numbers(words))
+    let mut at = all(rt, text, from, &message_numbers(words));
+    at = all(rt, text, at, &payload_numbers(words));
+    at = all(rt, text, at, &list_numbers(words));
+    all(rt, text, at, &late_numbers(words))
 }
 
 // ---- published numbers
@@ -410,56 +416,57 @@ fn counts_answer() -> [u64; deorasaeng::COUNTS_WORDS] {
 const COUNTS_VALUES: [u64; 3] = [1, 9, 10];
 
 // The lengths and numbers that stand in the header before the words of the answers.
-fn published(text: &[u8], from: usize, words: &mut [u64]) -> usize
+fn published(rt: &impl Print, text: &[u8], from: usize, words: &mut [u64]) -> usize
     requires { from ≤ length text.now }
     ensures { result ≤ length text.now }
 {
-    let mut at = all(text, from, &plan_numbers());
-    at = all(text, at, &pgns(words));
-    at = all(text, at, &PORT_COUNTS);
-    at = all(text, at, &record_lengths());
-    at = all(text, at, &other_lengths());
-    all(text, at, &LENGTHS)
+    let mut at = all(rt, text, from, &plan_numbers());
+    at = all(rt, text, at, &pgns(words));
+    at = all(rt, text, at, &PORT_COUNTS);
+    at = all(rt, text, at, &record_lengths());
+    at = all(rt, text, at, &other_lengths());
+    all(rt, text, at, &LENGTHS)
 }
 
 // What a frame, a take and a message are answered with, and the reasons.
-fn answers(text: &[u8], from: usize, words: &mut [u64]) -> usize
+fn answers(rt: &impl Print, text: &[u8], from: usize, words: &mut [u64]) -> usize
     requires { from ≤ length text.now }
     ensures { result ≤ length text.now }
 {
-    let mut at = places(text, from, &frame_answer(), &FRAME_VALUES);
-    at = all(text, at, &reasons());
-    at = places(text, at, &take_answer(), &TAKE_VALUES);
-    places(text, at, &message_answer(words), &MESSAGE_VALUES)
+    let mut at = places(rt, text, from, &frame_answer(), &FRAME_VALUES);
+    at = all(rt, text, at, &reasons());
+    at = places(rt, text, at, &take_answer(), &TAKE_VALUES);
+    places(rt, text, at, &message_answer(words), &MESSAGE_VALUES)
 }
 
 // What Start tells, what is read of the unit and of a port, states and events.
-fn readings(text: &[u8], from: usize, words: &mut [u64]) -> usize
+fn readings(rt: &impl Print, text: &[u8], from: usize, words: &mut [u64]) -> usize
     requires { from ≤ length text.now }
     ensures { result ≤ length text.now }
 {
-    let mut at = places(text, from, &claim(words), &START_VALUES);
-    at = places(text, at, &unit_answer(), &UNIT_VALUES);
-    at = places(text, at, &counts_answer(), &COUNTS_VALUES);
-    at = all(text, at, &states());
-    all(text, at, &events())
+    let mut at = places(rt, text, from, &claim(words), &START_VALUES);
+    at = places(rt, text, at, &unit_answer(), &UNIT_VALUES);
+    at = places(rt, text, at, &counts_answer(), &COUNTS_VALUES);
+    at = all(rt, text, at, &states());
+    all(rt, text, at, &events())
 }
 
 // The header.
-fn write_header(text: &[u8]) {
+fn write_header(rt: &impl Print, text: &[u8]) {
     let mut words = [0u64; Unit::RECORD_LENGTH];
-    let mut at = early_numbers(text, &mut words);
+    let mut at = early_numbers(rt, text, &mut words);
     claim(&mut words);
-    at = claimed_numbers(text, at, &mut words);
+    at = claimed_numbers(rt, text, at, &mut words);
     claim(&mut words);
-    at = published(text, at, &mut words);
-    at = answers(text, at, &mut words);
-    at = readings(text, at, &mut words);
-    io::write_all(STDOUT_FILENO, &text[at..]);
+    at = published(rt, text, at, &mut words);
+    at = answers(rt, text, at, &mut words);
+    at = readings(rt, text, at, &mut words);
+    let _ = rt.write_all(&text[at..]);
 }
 
-fn main() {
-    let mut space = io::large_buffer();
-    let n = io::read_full(STDIN_FILENO, &mut space);
-    write_header(&space[..n]);
+fn main(rt: HostRuntime) -> io::Result<()> {
+    let mut text = Vec::new(rt.alloc());
+    rt.stdin().take(MOST).read_to_end(&mut text)?;
+    write_header(&rt, &text);
+    Ok(())
 }

@@ -7,7 +7,7 @@ use native.Mathlib.Omega.{arith}
 use native.Mathlib.Decide.{ℕ_discrete, dec_lt}
 use lib.ListN.{length, get_or}
 use Rattle.filter.specs.Filter.{Filter, clear, is_cleared}
-use Rattle.filter_commands.specs.Changes.{would_pass, lacks, may_add, may_delete, may_create, may_name}
+use Rattle.filter_commands.specs.Changes.{would_pass, may_add, may_delete, may_create, may_name}
 use Rattle.filter_commands.specs.declared.pairs.Change.{Change}
 use Rattle.filter_commands.specs.declared.pairs.Change.TheVariants.{Adds, Deletes, Creates, Names}
 use Rattle.filter_commands.specs.declared.pairs.Question.TheVariants.{IsCleared, IsNotCleared, WouldPass, Lacks, NamesFull}

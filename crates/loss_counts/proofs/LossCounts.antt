@@ -1,20 +1,18 @@
 -- The counters of losses in every list of calls: one call moves a counter as its answer says, so every list does. Assumes nothing.
-use mathlib.Core.Path.{◌≡◌, refl, subst, ap, ◌∙◌}
+use mathlib.Core.Path.{◌≡◌, refl, ap, ◌∙◌}
 use mathlib.Core.Bool.{Bool, true, false, cond}
 use mathlib.Core.List.{List, [], ◌∷◌}
 use Prim.Native.Nat.{ℕ, zero, suc, ◌+◌}
-use native.Mathlib.Omega.{arith}
 use lib.Dec.{eqb}
 use lib.ListN.{get_or, replicate, length-replicate}
-use Rattle.delivery.specs.Calls.{Run, after_calls, answers_of}
+use Rattle.delivery.specs.Calls.{after_calls, answers_of}
 use Rattle.unit.specs.Count.{count_of, pair_count}
 use Rattle.unit.specs.Model.{Model, pair_at, general_at, with_losses, model_of}
 use Rattle.unit.specs.PowerOn.{fresh}
-use Rattle.unit.specs.Ports.{each}
-use Rattle.bridge.specs.Calls.{Call, FrameIn, TakeOut, Message, Start, refusal, performed, frame_answer, frame_passed, take_answer, start_answer}
+use Rattle.bridge.specs.Calls.{Call, refusal, performed, frame_answer, frame_passed, take_answer, start_answer}
 use Rattle.bridge.specs.Calls.{next as next_of}
 use Rattle.made.specs.Made.{Powered}
-use Rattle.demand_3.specs.Demand3.{Answer, Made, words, next, answer, Demand3}
+use Rattle.demand_3.specs.Demand3.{Answer, words, next, answer, Demand3}
 use Rattle.demand_3.proofs.Demand3.{demand_3}
 use Rattle.loss_counts.specs.LossCounts.{lost_between, lost_anywhere, resets_pair, resets_general, since, stayed, Counted, Unread, EveryLoss}
 use Rattle.loss_counts.proofs.Turns.{up, up_stayed}

@@ -18,7 +18,7 @@ use Rattle.network_message.specs.declared.Command.{Command}
 use Rattle.network_message.specs.declared.Command.TheVariants.{Refused, Request, WithEntries, Clear, AddressList, Parameter, Reset, PairParameter, PairReset}
 use Rattle.network_message.specs.Decoding.{function_of, pair_of, from_of, to_of, decoded}
 use Rattle.network_message.proofs.Passing.{answered_by, by_function}
-use Rattle.network_message.proofs.Decoding.{command_good, decoded_good}
+use Rattle.network_message.proofs.Decoding.{decoded_good}
 use Rattle.unit.specs.Count.{pair_count}
 use Rattle.unit.specs.Ports.{in_turn, mask, bit_at, total}
 use Rattle.unit.specs.Model.{Rest, Model, row_at, pair_at, general_at}
@@ -31,7 +31,7 @@ use Rattle.refusals.specs.Refusals.{frame_refusal, take_refusal, start_refusal, 
 use Rattle.refusals.proofs.Checks.{frame_goes, message_goes}
 use Rattle.bridge.specs.Calls.{Call, FrameIn, TakeOut, Message, Start, Quiet, ReadUnit, ReadCounts, frame_of, offered, refusal, losses_after, performed, lost_at, unsent_at, start_unsent_at, frame_refused, frame_passed, frame_answer, start_refused, start_answer, silent_reply, messaged}
 use Rattle.bridge.specs.Calls.{next as next_of}
-use Rattle.demand_3.specs.Demand3.{Answer, words, next, answer, number_in, lost_ports, own_lost_ports}
+use Rattle.demand_3.specs.Demand3.{words, next, answer}
 use Rattle.loss_counts.specs.LossCounts.{lost_between, named, lost_anywhere, resets_pair, resets_general}
 use Rattle.loss_counts.proofs.Places.{place_below, place_same}
 use Rattle.loss_counts.proofs.Turns.{up, up_up, counted_long, counted_here, counted_other, turns_long, turns_other, turns_once, turns_each}

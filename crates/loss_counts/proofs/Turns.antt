@@ -1,6 +1,6 @@
 -- A counter when something is counted for each port in turn: once, or for every port. Assumes nothing.
 use mathlib.Core.Path.{◌≡◌, refl, sym, ap, ◌∙◌}
-use mathlib.Core.Bool.{Bool, true, false, cond, ◌&&◌}
+use mathlib.Core.Bool.{Bool, true, false, cond}
 use mathlib.Core.List.{List}
 use Prim.Native.Nat.{ℕ, zero, suc, ◌+◌, ◌≤◌, ◌<◌}
 use native.Mathlib.Nat.{not-suc-le-zero, add-zero, add-suc}
@@ -8,9 +8,9 @@ use native.Mathlib.Decide.{ℕ_discrete}
 use native.Mathlib.Omega.{arith}
 use borrow.Author.Tests.{lt-ltb, le-ltb, ltb-true, ltb-false}
 use lib.Dec.{ltb}
-use lib.ListN.{length, get_or, set, length-set}
+use lib.ListN.{length, get_or, length-set}
 use lib.Seq.{get_or-set_same, get_or-set_other}
-use Rattle.losses.specs.Losses.{most, one_more}
+use Rattle.losses.specs.Losses.{one_more}
 use Rattle.losses.proofs.Counters.{more_below, more_stays}
 use Rattle.unit.specs.Ports.{in_turn, total}
 use Rattle.forwarding.specs.Forwarding.{counted_at}

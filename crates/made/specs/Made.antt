@@ -4,7 +4,7 @@
 -- κs are lifetimes, which no contract reads.
 use Rattle.std.specs.Prelude.{List, ℕ}
 use contract.Lifetimes.{Lfts}
-use Rattle.std.specs.Borrow.{Bor}
+use Rattle.std.specs.Borrow.{Bor, MutBor}
 use Rattle.bridge.specs.declared.FrameAnswer.{FrameAnswer}
 use Rattle.bridge.specs.declared.TakeAnswer.{TakeAnswer}
 use Rattle.message_answers.specs.declared.MessageAnswer.{MessageAnswer}
@@ -22,38 +22,38 @@ use Rattle.bridge.proofs.counts.Reads as counts
 
 -- power-on, with a NAME, a preferred address and a count of ports
 pub data Powered : (words : List ℕ) (name preferred count r : ℕ) (after : List ℕ) → Type 0 where
-  powered : (κs : Lfts 1) (w w' : Bor (List ℕ)) (name preferred count r : ℕ)
+  powered : (κs : Lfts 1) (w w' : MutBor (List ℕ)) (name preferred count r : ℕ)
       → (power_on.Pre κs (w, (name, (preferred, (count, tt)))) → power_on.Post κs (w, (name, (preferred, (count, tt)))) r (w', (name, (preferred, (count, tt)))))
       → Powered w.now name preferred count r w'.now
 
 -- a frame arrived at a port
 pub data Arrived : (words : List ℕ) (port id : ℕ) (bytes : List ℕ) (r : FrameAnswer) (after : List ℕ) → Type 0 where
-  arrived : (κs : Lfts 2) (w w' b b' : Bor (List ℕ)) (port id : ℕ) (r : FrameAnswer)
+  arrived : (κs : Lfts 2) (w w' : MutBor (List ℕ)) (b b' : Bor (List ℕ)) (port id : ℕ) (r : FrameAnswer)
       → (frame.Pre κs (w, (port, (id, (b, tt)))) → frame.Post κs (w, (port, (id, (b, tt)))) r (w', (port, (id, (b', tt)))))
       → Arrived w.now port id b.now r w'.now
 
 -- a take was made on a port
 pub data Took : (words : List ℕ) (port : ℕ) (r : TakeAnswer) (after : List ℕ) → Type 0 where
-  took : (κs : Lfts 1) (w w' : Bor (List ℕ)) (port : ℕ) (r : TakeAnswer)
+  took : (κs : Lfts 1) (w w' : MutBor (List ℕ)) (port : ℕ) (r : TakeAnswer)
       → (take.Pre κs (w, (port, tt)) → take.Post κs (w, (port, tt)) r (w', (port, tt)))
       → Took w.now port r w'.now
 
 -- a message was handed in, with a reply buffer `lent` that was left as `back`
 pub data Handed : (words : List ℕ) (port requester : ℕ) (payload lent : List ℕ) (r : MessageAnswer) (after back : List ℕ) → Type 0 where
-  handed : (κs : Lfts 3) (w w' p p' b b' : Bor (List ℕ)) (port requester : ℕ) (r : MessageAnswer)
+  handed : (κs : Lfts 3) (w w' : MutBor (List ℕ)) (p p' : Bor (List ℕ)) (b b' : MutBor (List ℕ)) (port requester : ℕ) (r : MessageAnswer)
       → (message.Pre κs (w, (port, (requester, (p, (b, tt)))))
       → message.Post κs (w, (port, (requester, (p, (b, tt))))) r (w', (port, (requester, (p', (b', tt))))))
       → Handed w.now port requester p.now b.now r w'.now b'.now
 
 -- Start
 pub data Started : (words : List ℕ) (r : StartAnswer) (after : List ℕ) → Type 0 where
-  started : (κs : Lfts 1) (w w' : Bor (List ℕ)) (r : StartAnswer)
+  started : (κs : Lfts 1) (w w' : MutBor (List ℕ)) (r : StartAnswer)
       → (start.Pre κs (w, tt) → start.Post κs (w, tt) r (w', tt))
       → Started w.now r w'.now
 
 -- Quiet
 pub data Quieted : (words : List ℕ) (r : ℕ) (after : List ℕ) → Type 0 where
-  quieted : (κs : Lfts 1) (w w' : Bor (List ℕ)) (r : ℕ)
+  quieted : (κs : Lfts 1) (w w' : MutBor (List ℕ)) (r : ℕ)
       → (quiet.Pre κs (w, tt) → quiet.Post κs (w, tt) r (w', tt))
       → Quieted w.now r w'.now
 

@@ -2,7 +2,7 @@
 -- cited there as `Post` is the contract that the code states: by computation. Assumes nothing.
 use Rattle.std.specs.Prelude.{◌≡◌, refl, ℕ, List}
 use contract.Lifetimes.{Lfts}
-use Rattle.std.specs.Borrow.{Bor}
+use Rattle.std.specs.Borrow.{Bor, MutBor}
 use contract.Notation as N
 use contract.Monad.{Fun}
 use base.Logic.{SProp}
@@ -76,7 +76,7 @@ meets M = record {
 }
 
 -- ---- what is cited is the contract
-module _ (w u : Bor (List ℕ)) where
+module _ (w u : MutBor (List ℕ)) where
   pub power_on_is : (κs : Lfts 1) (name preferred count r : ℕ)
       → ◌≡◌ {A = Type 0} (power_on_reads.Post κs (w, (name, (preferred, (count, tt)))) r (u, (name, (preferred, (count, tt))))) (PoweringOn count w.now u.now name preferred r)
   power_on_is κs name preferred count r = refl
@@ -89,7 +89,7 @@ module _ (w u : Bor (List ℕ)) where
       → ◌≡◌ {A = Type 0} (take_reads.Post κs (w, (port, tt)) r (u, (port, tt))) (TakingOut (ports_of w.now) w.now u.now port r)
   take_is κs port r = refl
 
-  pub message_is : (κs : Lfts 3) (payload payload' reply reply' : Bor (List ℕ)) (port requester : ℕ) (r : MessageAnswer)
+  pub message_is : (κs : Lfts 3) (payload payload' : Bor (List ℕ)) (reply reply' : MutBor (List ℕ)) (port requester : ℕ) (r : MessageAnswer)
       → ◌≡◌ {A = Type 0}
       (message_reads.Post κs (w, (port, (requester, (payload, (reply, tt))))) r (u, (port, (requester, (payload', (reply', tt))))))
       (Messaging (ports_of w.now) w.now u.now port requester payload.now reply.now reply'.now r)
@@ -101,6 +101,7 @@ module _ (w u : Bor (List ℕ)) where
   pub quiet_is : (κs : Lfts 1) (r : ℕ) → ◌≡◌ {A = Type 0} (quiet_reads.Post κs (w, tt) r (u, tt)) (Quieting (ports_of w.now) w.now u.now r)
   quiet_is κs r = refl
 
+module _ (w u : Bor (List ℕ)) where
   pub unit_is : (κs : Lfts 1) (r : UnitAnswer) → ◌≡◌ {A = Type 0} (unit_reads.Post κs (w, tt) r (u, tt)) (Reading (ports_of w.now) w.now r)
   unit_is κs r = refl
 
@@ -108,7 +109,7 @@ module _ (w u : Bor (List ℕ)) where
   counts_is κs port r = refl
 
 -- and so is the clause inside each theorem of `Meets`
-module _ {M : Type 1} {𝓤 : Ura M} (𝓛 : Logic 𝓤) (mem : Memory → SProp 𝓤) (run : Routine → Fun 𝓤) (w u : Bor (List ℕ)) where
+module _ {M : Type 1} {𝓤 : Ura M} (𝓛 : Logic 𝓤) (mem : Memory → SProp 𝓤) (run : Routine → Fun 𝓤) (w u : MutBor (List ℕ)) where
   pub power_on_clause : (κs : Lfts 1) (name preferred count r : ℕ)
       → power_on_contract.ensures-1 𝓛 κs mem run w name preferred count (record { entry = w; exit = u }) (record { entry = name; exit = name }) (record { entry = preferred; exit = preferred }) (record { entry = count; exit = count }) r
       ≡ (N.connectives 𝓤).⌜◌⌝ (PoweringOn count w.now u.now name preferred r)
@@ -123,7 +124,7 @@ module _ {M : Type 1} {𝓤 : Ura M} (𝓛 : Logic 𝓤) (mem : Memory → SProp
       → take_contract.ensures-1 𝓛 κs mem run w port (record { entry = w; exit = u }) (record { entry = port; exit = port }) r ≡ (N.connectives 𝓤).⌜◌⌝ (TakingOut (ports_of w.now) w.now u.now port r)
   take_clause κs port r = refl
 
-  pub message_clause : (κs : Lfts 3) (payload payload' reply reply' : Bor (List ℕ)) (port requester : ℕ) (r : MessageAnswer)
+  pub message_clause : (κs : Lfts 3) (payload payload' : Bor (List ℕ)) (reply reply' : MutBor (List ℕ)) (port requester : ℕ) (r : MessageAnswer)
       → message_contract.ensures-1 𝓛 κs mem run w port requester payload reply (record { entry = w; exit = u }) (record { entry = port; exit = port }) (record { entry = requester; exit = requester }) (record { entry = payload; exit = payload' }) (record { entry = reply; exit = reply' }) r
       ≡ (N.connectives 𝓤).⌜◌⌝ (Messaging (ports_of w.now) w.now u.now port requester payload.now reply.now reply'.now r)
   message_clause κs payload payload' reply reply' port requester r = refl
@@ -136,6 +137,7 @@ module _ {M : Type 1} {𝓤 : Ura M} (𝓛 : Logic 𝓤) (mem : Memory → SProp
       → quiet_contract.ensures-1 𝓛 κs mem run w (record { entry = w; exit = u }) r ≡ (N.connectives 𝓤).⌜◌⌝ (Quieting (ports_of w.now) w.now u.now r)
   quiet_clause κs r = refl
 
+module _ {M : Type 1} {𝓤 : Ura M} (𝓛 : Logic 𝓤) (mem : Memory → SProp 𝓤) (run : Routine → Fun 𝓤) (w u : Bor (List ℕ)) where
   pub unit_clause : (κs : Lfts 1) (r : UnitAnswer)
       → unit_contract.ensures-1 𝓛 κs mem run w (record { entry = w; exit = u }) r ≡ (N.connectives 𝓤).⌜◌⌝ (Reading (ports_of w.now) w.now r)
   unit_clause κs r = refl

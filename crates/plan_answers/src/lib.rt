@@ -1,9 +1,10 @@
 // The answer to a question: which segments hear a PGN, and for each that does not, at which unit and why it stopped.
+#![tactic(auto)]
+
 pub mod rings;
 
 ghost use Rattle.std.specs.Prelude.{◌≤◌, length};
 
-use libc::STDOUT_FILENO;
 use line_parts::print;
 use plan_draft::{counts, lists, names, ports};
 use plan_shape::{PORTS, PORTS_LENGTH};
@@ -36,15 +37,15 @@ struct Stop {
 }
 
 // The line's end; the line is written. The first write that fails is told on standard error, and none is made after it.
-pub fn finish(numbers: &mut [u32], out: &mut [u8], at: usize)
+pub fn finish(rt: &(impl Print + Eprint), numbers: &mut [u32], out: &mut [u8], at: usize)
     requires { at ≤ length out.old }
 {
     if 0 < counts::get(numbers, counts::FAILED) {
         return;
     }
     let end = print::byte(out, at, b'\n');
-    if !io::write_all(STDOUT_FILENO, &out[0..end]) {
-        os::fail(b"plan: cannot write");
+    if let Err(e) = rt.write_all(&out[0..end]) {
+        let _ = eprintln!(rt; "plan: cannot write: {e}");
         counts::add(numbers, counts::FAILED);
     }
 }
@@ -207,24 +208,38 @@ fn told(
 }
 
 // A segment's line.
-fn tell(numbers: &mut [u32], on: &[u64], listed: &[u64], named: &[u8], q: Question, segment: u32) {
+fn tell(
+    rt: &(impl Print + Eprint),
+    numbers: &mut [u32],
+    on: &[u64],
+    listed: &[u64],
+    named: &[u8],
+    q: Question,
+    segment: u32,
+) {
     let mut space = [0u8; 256];
     let out: &mut [u8] = &mut space;
     let at = print::text(out, 0, b"  ");
     let at = names::put(out, at, named, names::SEGMENTS, segment);
     let at = print::text(out, at, b": ");
     let at = told(out, at, on, listed, named, q, segment);
-    finish(numbers, out, at);
+    finish(rt, numbers, out, at);
 }
 
 // The question's line.
-fn tell_question(numbers: &mut [u32], named: &[u8], pgn: u32, first: u32) {
+fn tell_question(
+    rt: &(impl Print + Eprint),
+    numbers: &mut [u32],
+    named: &[u8],
+    pgn: u32,
+    first: u32,
+) {
     let mut space = [0u8; 256];
     let out: &mut [u8] = &mut space;
     let at = print::count(out, 0, b"PGN ", pgn as u64);
     let at = print::text(out, at, b" sent on segment ");
     let at = names::put(out, at, named, names::SEGMENTS, first);
-    finish(numbers, out, at);
+    finish(rt, numbers, out, at);
 }
 
 fn asked(numbers: &[u32], on: &[u64], listed: &[u64], pgn: u32, first: u32) -> Question {
@@ -241,24 +256,32 @@ fn asked(numbers: &[u32], on: &[u64], listed: &[u64], pgn: u32, first: u32) -> Q
 }
 
 // A question, which is right, and what each segment is told.
-pub fn answer(numbers: &mut [u32], on: &[u64], listed: &[u64], named: &[u8], pgn: u32, first: u32) {
-    tell_question(numbers, named, pgn, first);
+pub fn answer(
+    rt: &(impl Print + Eprint),
+    numbers: &mut [u32],
+    on: &[u64],
+    listed: &[u64],
+    named: &[u8],
+    pgn: u32,
+    first: u32,
+) {
+    tell_question(rt, numbers, named, pgn, first);
     let q = asked(numbers, on, listed, pgn, first);
     let mut segment = 0;
     while segment < q.segments {
         segment += 1;
-        tell(numbers, on, listed, named, q, segment);
+        tell(rt, numbers, on, listed, named, q, segment);
     }
 }
 
 // How much there was, or how many lines were wrong.
-pub fn tell_end(numbers: &mut [u32]) {
+pub fn tell_end(rt: &(impl Print + Eprint), numbers: &mut [u32]) {
     let mut space = [0u8; 256];
     let out: &mut [u8] = &mut space;
     let wrong = counts::get(numbers, counts::WRONG);
     if 0 < wrong {
         let at = print::count(out, 0, b"wrong lines ", wrong as u64);
-        finish(numbers, out, at);
+        finish(rt, numbers, out, at);
         return;
     }
     let segments = counts::get(numbers, counts::SEGMENTS);
@@ -267,5 +290,5 @@ pub fn tell_end(numbers: &mut [u32]) {
     let at = print::count(out, 0, b"segments ", segments as u64);
     let at = print::count(out, at, b", units ", units as u64);
     let at = print::count(out, at, b", answers ", answers as u64);
-    finish(numbers, out, at);
+    finish(rt, numbers, out, at);
 }

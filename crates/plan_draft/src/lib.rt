@@ -1,4 +1,6 @@
 // A plan as far as its text is read, in storage that the caller lends: the segment on each port, the lists, the names, and how much there is of each.
+#![tactic(auto)]
+
 pub mod counts;
 pub mod lists;
 pub mod names;

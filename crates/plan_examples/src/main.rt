@@ -1,12 +1,18 @@
 // Plans as text, each ended by a form feed, from standard input: what `plan` prints for each, one after the other. Every kind of wrong line is among them.
+#![tactic(auto)]
+
 ghost use Rattle.std.specs.Prelude.{◌≤◌, ◌<◌, length};
 
-use libc::STDIN_FILENO;
 use plan_draft::{counts, names};
 use plan_shape::{LISTS_LENGTH, PORTS_LENGTH};
+use std::io;
+use std::io::Read;
+
+// The most bytes that are read.
+const MOST: u64 = 65536;
 
 // One text.
-fn run(text: &[u8]) {
+fn run(rt: &(impl Print + Eprint), text: &[u8]) {
     let mut counted = [0u32; counts::LENGTH];
     let mut segments = [0u64; PORTS_LENGTH];
     let mut pairs = [0u64; LISTS_LENGTH];
@@ -17,9 +23,9 @@ fn run(text: &[u8]) {
     let listed: &mut [u64] = &mut pairs;
     let named: &mut [u8] = &mut called;
     let line: &mut [u8] = &mut space;
-    let len = plan_reading::feed(numbers, on, listed, named, line, 0, text);
+    let len = plan_reading::feed(rt, numbers, on, listed, named, line, 0, text);
     let begun = &line[..];
-    plan_reading::end(numbers, on, listed, named, &begun[0..len]);
+    plan_reading::end(rt, numbers, on, listed, named, &begun[0..len]);
 }
 
 // The place past the form feed that ends a text, which begins at a place.
@@ -38,18 +44,19 @@ fn past_text(texts: &[u8], start: usize) -> usize
 }
 
 // Each text.
-fn run_all(texts: &[u8]) {
+fn run_all(rt: &(impl Print + Eprint), texts: &[u8]) {
     let mut start = 0;
     while start < texts.len() {
         let next = past_text(texts, start);
         let end = next - 1;
-        run(&texts[start..end]);
+        run(rt, &texts[start..end]);
         start = next;
     }
 }
 
-fn main() {
-    let mut buffer = io::large_buffer();
-    let n = io::read_full(STDIN_FILENO, &mut buffer);
-    run_all(&buffer[..n]);
+fn main(rt: HostRuntime) -> io::Result<()> {
+    let mut texts = Vec::new(rt.alloc());
+    rt.stdin().take(MOST).read_to_end(&mut texts)?;
+    run_all(&rt, &texts);
+    Ok(())
 }

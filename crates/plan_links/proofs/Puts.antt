@@ -1,9 +1,8 @@
 -- Links put to a table one after the other: it stays good exactly while they are, and has their segments on its ports. Assumes nothing.
 use mathlib.Core.Path.{◌≡◌, refl, sym, ap, ◌∙◌}
 use mathlib.Core.Bool.{Bool, true, false, cond, not, ◌&&◌, ◌||◌, true≢false}
-use mathlib.Core.Logic.{◌↔◌}
 use mathlib.Core.List.{List, [], ◌∷◌, ◌++◌}
-use Prim.Native.Nat.{ℕ, zero, suc, ◌+◌, ◌-◌, ◌*◌, ◌≤◌, ◌<◌}
+use Prim.Native.Nat.{ℕ, zero, suc, ◌+◌, ◌≤◌, ◌<◌}
 use native.Mathlib.Decide.{ℕ_discrete}
 use native.Mathlib.Omega.{arith}
 use borrow.Author.Tests.{leb-true, eqb-true, eq-eqb, ne_eqb, not-true}
@@ -15,10 +14,10 @@ use Rattle.checks.proofs.Tests.{both, neither}
 use Rattle.plan_shape.specs.Plan.{plan_of, most_units, port_count, ports_length, lists_length}
 use Rattle.plans.specs.declared.Planned.{Planned}
 use Rattle.plans.specs.declared.Planned.TheVariants.{Heard, Refused}
-use Rattle.plans.specs.Plans.{Planning, number_of, Lent}
+use Rattle.plans.specs.Plans.{Planning, number_of}
 use Rattle.plan_links.specs.declared.Link.{Link}
 use Rattle.plan_links.specs.declared.Table.{Table}
-use Rattle.plan_links.specs.Links.{place_of, link_in_range, named, good_after, good_links, linked, ports_of, put, put_all, fresh, LinkPlanning, TablePlanning}
+use Rattle.plan_links.specs.Links.{place_of, link_in_range, named, good_after, good_links, linked, put, put_all, fresh, LinkPlanning, TablePlanning}
 
 -- ---- a link in range
 pub record Ranged (segments : ℕ) (link : Link) : Type 0 where

@@ -1,4 +1,6 @@
 // A plan's text in pieces: each line is taken into the plan or answered, or told to be wrong. Below a wrong line nothing is answered.
+#![tactic(auto)]
+
 ghost use Rattle.std.specs.Prelude.{◌≤◌, length};
 
 use line_parts::{print, words};
@@ -42,6 +44,7 @@ fn reason(
 
 // Why the line that was read last is wrong.
 fn tell_wrong(
+    rt: &(impl Print + Eprint),
     numbers: &mut [u32],
     on: &[u64],
     listed: &[u64],
@@ -57,41 +60,63 @@ fn tell_wrong(
     let at = print::text(out, at, b": ");
     let at = told::subject(out, at, line, wrong, found.place);
     let at = reason(out, at, numbers, on, listed, named, wrong);
-    plan_answers::finish(numbers, out, at);
+    plan_answers::finish(rt, numbers, out, at);
     counts::add(numbers, counts::WRONG);
     plan_draft::count_wrong(numbers, line);
 }
 
 // A question that is right counts, and is answered unless a line above is wrong.
-fn answer(numbers: &mut [u32], on: &[u64], listed: &[u64], named: &[u8], line: &[u8], said: Line) {
+fn answer(
+    rt: &(impl Print + Eprint),
+    numbers: &mut [u32],
+    on: &[u64],
+    listed: &[u64],
+    named: &[u8],
+    line: &[u8],
+    said: Line,
+) {
     if let Line::Ask { pgn } = said {
         counts::add(numbers, counts::ANSWERS);
         if counts::get(numbers, counts::WRONG) == 0 {
             let first = plan_draft::segment_of(numbers, named, line);
-            plan_answers::answer(numbers, on, listed, named, pgn, first);
+            plan_answers::answer(rt, numbers, on, listed, named, pgn, first);
         }
     }
 }
 
 // A line that is right by its form.
-fn take(numbers: &mut [u32], on: &mut [u64], listed: &mut [u64], named: &mut [u8], line: &[u8]) {
+fn take(
+    rt: &(impl Print + Eprint),
+    numbers: &mut [u32],
+    on: &mut [u64],
+    listed: &mut [u64],
+    named: &mut [u8],
+    line: &[u8],
+) {
     let said = plan_text::read(line);
     let wrong = plan_draft::take(numbers, on, listed, named, line, said);
     if plan_text::is_right(wrong) {
-        answer(numbers, on, listed, named, line, said);
+        answer(rt, numbers, on, listed, named, line, said);
         return;
     }
-    tell_wrong(numbers, on, listed, named, line, wrong);
+    tell_wrong(rt, numbers, on, listed, named, line, wrong);
 }
 
 // A line that is not passed over, without blanks at its ends.
-fn judge(numbers: &mut [u32], on: &mut [u64], listed: &mut [u64], named: &mut [u8], line: &[u8]) {
+fn judge(
+    rt: &(impl Print + Eprint),
+    numbers: &mut [u32],
+    on: &mut [u64],
+    listed: &mut [u64],
+    named: &mut [u8],
+    line: &[u8],
+) {
     let wrong = plan_text::what_is_wrong(line);
     if plan_text::is_right(wrong) {
-        take(numbers, on, listed, named, line);
+        take(rt, numbers, on, listed, named, line);
         return;
     }
-    tell_wrong(numbers, on, listed, named, line, wrong);
+    tell_wrong(rt, numbers, on, listed, named, line, wrong);
 }
 
 // Whether a line without blanks at its ends is empty or a comment.
@@ -103,14 +128,21 @@ fn is_passed_over(line: &[u8]) -> bool {
 }
 
 // A whole line; it begins with no blank.
-fn pass(numbers: &mut [u32], on: &mut [u64], listed: &mut [u64], named: &mut [u8], line: &[u8]) {
+fn pass(
+    rt: &(impl Print + Eprint),
+    numbers: &mut [u32],
+    on: &mut [u64],
+    listed: &mut [u64],
+    named: &mut [u8],
+    line: &[u8],
+) {
     if is_over(numbers) {
         return;
     }
     counts::add(numbers, counts::LINES);
     let end = words::end_of(line);
     if !is_passed_over(&line[0..end]) {
-        judge(numbers, on, listed, named, &line[0..end]);
+        judge(rt, numbers, on, listed, named, &line[0..end]);
     }
 }
 
@@ -138,6 +170,7 @@ fn past_mark(numbers: &[u32], line: &[u8]) -> usize
 
 // One byte of the text: the line goes on, or is whole. Blanks at its beginning are passed over.
 fn feed_byte(
+    rt: &(impl Print + Eprint),
     numbers: &mut [u32],
     on: &mut [u64],
     listed: &mut [u64],
@@ -150,7 +183,7 @@ fn feed_byte(
     ensures { result ≤ length line.old }
 {
     if byte == b'\n' {
-        pass(numbers, on, listed, named, &line[0..len]);
+        pass(rt, numbers, on, listed, named, &line[0..len]);
         return 0;
     }
     if len == 0 && words::is_blank(byte) {
@@ -166,6 +199,7 @@ fn feed_byte(
 
 // Bytes of the text, after a line that has begun.
 pub fn feed(
+    rt: &(impl Print + Eprint),
     numbers: &mut [u32],
     on: &mut [u64],
     listed: &mut [u64],
@@ -180,7 +214,7 @@ pub fn feed(
     let mut next = len;
     let mut i = 0;
     while i < bytes.len() {
-        next = feed_byte(numbers, on, listed, named, line, next, bytes[i]);
+        next = feed_byte(rt, numbers, on, listed, named, line, next, bytes[i]);
         i += 1;
     }
     next
@@ -188,6 +222,7 @@ pub fn feed(
 
 // A last line that is not ended.
 fn last_line(
+    rt: &(impl Print + Eprint),
     numbers: &mut [u32],
     on: &mut [u64],
     listed: &mut [u64],
@@ -195,18 +230,25 @@ fn last_line(
     line: &[u8],
 ) {
     if 0 < line.len() {
-        pass(numbers, on, listed, named, line);
+        pass(rt, numbers, on, listed, named, line);
     }
 }
 
-fn tell_end(numbers: &mut [u32]) {
+fn tell_end(rt: &(impl Print + Eprint), numbers: &mut [u32]) {
     if !is_over(numbers) {
-        plan_answers::tell_end(numbers);
+        plan_answers::tell_end(rt, numbers);
     }
 }
 
 // The text's end: a last line that is not ended, and how much there was.
-pub fn end(numbers: &mut [u32], on: &mut [u64], listed: &mut [u64], named: &mut [u8], line: &[u8]) {
-    last_line(numbers, on, listed, named, line);
-    tell_end(numbers);
+pub fn end(
+    rt: &(impl Print + Eprint),
+    numbers: &mut [u32],
+    on: &mut [u64],
+    listed: &mut [u64],
+    named: &mut [u8],
+    line: &[u8],
+) {
+    last_line(rt, numbers, on, listed, named, line);
+    tell_end(rt, numbers);
 }

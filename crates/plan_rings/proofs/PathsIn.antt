@@ -1,12 +1,12 @@
 -- Paths by the first k links, a link being a port of a unit, and by them alone: they lead back, and one after the other makes one. Assumes nothing.
-use mathlib.Core.Path.{◌≡◌, refl, sym, ap, ◌∙◌}
+use mathlib.Core.Path.{◌≡◌, refl, sym, ◌∙◌}
 use mathlib.Core.Logic.{◌⊎◌, inl, inr, ⊎_elim}
-use mathlib.Core.List.{List, [], ◌∷◌, ◌++◌}
-use Prim.Native.Nat.{ℕ, ◌+◌, ◌*◌, ◌/◌, ◌%◌, ◌≤◌, ◌<◌}
+use mathlib.Core.List.{List, [], ◌∷◌}
+use Prim.Native.Nat.{ℕ, ◌+◌, ◌*◌, ◌/◌, ◌%◌, ◌<◌}
 use native.Mathlib.Decide.{ℕ_discrete}
 use native.Mathlib.Omega.{arith}
 use lib.ListN.{get_or}
-use Rattle.plan_shape.specs.Plan.{Plan, Crossing, Joins, Leads, Unused, NoUnitTwice, Path, onward, segment_at, port_count}
+use Rattle.plan_shape.specs.Plan.{Plan, Crossing, Joins, Leads, Unused, NoUnitTwice, onward, segment_at, port_count}
 
 -- ---- links
 abbrev pub segment_of : Plan → ℕ → ℕ

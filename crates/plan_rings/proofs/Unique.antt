@@ -3,14 +3,14 @@ use mathlib.Core.Path.{◌≡◌, refl, sym, ap, ◌∙◌}
 use mathlib.Core.Bool.{Bool, true, false}
 use mathlib.Core.Logic.{◌⊎◌, inl, inr, ⊎_elim}
 use mathlib.Core.List.{List, [], ◌∷◌, ◌++◌}
-use Prim.Native.Nat.{ℕ, ◌+◌, ◌*◌, ◌/◌, ◌%◌, ◌≤◌, ◌<◌}
+use Prim.Native.Nat.{ℕ, ◌+◌, ◌*◌, ◌≤◌, ◌<◌}
 use native.Mathlib.Decide.{ℕ_discrete}
 use native.Mathlib.Omega.{arith}
-use lib.ListN.{length, get_or}
-use Rattle.plan_shape.specs.Plan.{Plan, Crossing, Joins, Leads, NoUnitTwice, Unused, Path, TwoPaths, TwoPorts, Ringed, onward, segment_at, most_segments, most_units, port_count}
-use Rattle.plan_rings.specs.Rings.{unit_node, nodes, label, Numbered, Linking}
-use Rattle.plan_rings.proofs.PathsIn.{segment_of, unit_of, enter_link, leave_link, between, Within, JoinsIn, PathIn, Conn, UpTo, path_none, path_cons, path_end, path_head, path_tail, path_unused, path_more, unused_one, unused_none, unused_head, unused_tail, up_to}
-use Rattle.plan_rings.proofs.Joined.{Linked, On, itself, linked, crossed, Joint, Tied, Labeled, labeled_start, labeled_past, labeled_more, label_path}
+use lib.ListN.{length}
+use Rattle.plan_shape.specs.Plan.{Plan, Crossing, Joins, Leads, NoUnitTwice, Unused, Path, TwoPaths, TwoPorts, Ringed, onward, segment_at, port_count}
+use Rattle.plan_rings.specs.Rings.{unit_node, label, Numbered, Linking}
+use Rattle.plan_rings.proofs.PathsIn.{segment_of, unit_of, enter_link, leave_link, between, Within, JoinsIn, PathIn, Conn, path_none, path_cons, path_end, path_head, path_tail, path_unused, unused_one, unused_none, unused_head, unused_tail, up_to}
+use Rattle.plan_rings.proofs.Joined.{Linked, On, itself, linked, crossed, Joint, Labeled, labeled_start, labeled_past, labeled_more, label_path}
 
 -- ---- lists of crossings
 unused_front : (unit : ℕ) (xs ys : List Crossing) → Unused unit (xs ++ ys) → Unused unit xs

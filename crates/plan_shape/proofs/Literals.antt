@@ -1,13 +1,12 @@
 -- The literals of a plan: a test of all below n taken apart and put together, a pair's words at their places in the lists, a path cut where a unit stands. Assumes nothing.
 use mathlib.Core.Path.{◌≡◌, refl, sym, ap, ◌∙◌}
-use mathlib.Core.Bool.{Bool, true, false, ◌&&◌, ◌||◌}
-use mathlib.Core.Logic.{◌↔◌}
+use mathlib.Core.Bool.{Bool, true, ◌&&◌}
 use mathlib.Core.List.{List, [], ◌∷◌, ◌++◌}
-use Prim.Native.Nat.{ℕ, zero, suc, ◌+◌, ◌-◌, ◌*◌, ◌/◌, ◌%◌, ◌≤◌, ◌<◌}
+use Prim.Native.Nat.{ℕ, zero, suc, ◌+◌, ◌*◌, ◌≤◌, ◌<◌}
 use native.Mathlib.Decide.{ℕ_discrete}
 use native.Mathlib.Omega.{arith}
-use borrow.Author.Tests.{leb-true, le-leb, eq-eqb, ne_eqb, eqb-true}
-use lib.Dec.{leb, ltb, eqb}
+use borrow.Author.Tests.{leb-true, le-leb, eq-eqb, ne_eqb}
+use lib.Dec.{leb}
 use lib.ListN.{length, get_or, take, drop, length-take}
 use lib.Seq.{get_or-take, get_or-drop}
 use Rattle.storage.specs.Blocks.{block_at}
@@ -17,7 +16,7 @@ use Rattle.entries.specs.Entries.{every}
 use Rattle.name_entries.specs.NameEntries.{NameEntry}
 use Rattle.filter.specs.Filter.{meant, filter_of}
 use Rattle.plan_shape.specs.Plan.{Plan, plan_of, below, pair_in_range, numbers_in_range, in_range, block_of, plan_block_size, Crossing, Unused, NoUnitTwice, Permits, EachPermits}
-use Rattle.plan_shape.specs.Literals.{IsPgn, InPlan, Literals}
+use Rattle.plan_shape.specs.Literals.{InPlan, Literals}
 use Rattle.plan_shape.proofs.Ranges.{below_at}
 
 -- ---- all of them

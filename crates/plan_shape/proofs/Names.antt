@@ -3,7 +3,7 @@ use mathlib.Core.Path.{◌≡◌, refl}
 use mathlib.Core.List.{List, []}
 use Prim.Native.Nat.{ℕ, zero, suc, ◌+◌, ◌*◌}
 use native.Mathlib.Omega.{arith}
-use lib.ListN.{get_or, take, drop, length-take, drop_of_length-le}
+use lib.ListN.{get_or, drop, length-take, drop_of_length-le}
 use Rattle.storage.specs.Blocks.{block_at}
 use Rattle.name_entries.specs.NameEntries.{names_of, entries_in}
 use Rattle.filter.specs.Filter.{mode_place, list_of, names_place, sorted_in, front_of, meant, filter_of}

@@ -1,4 +1,6 @@
 // A line of a plan as a dealer writes it (docs/PLANS.md): what it says, or why it is wrong by its form.
+#![tactic(auto)]
+
 pub mod pgns;
 pub mod quoting;
 pub mod told;

@@ -1,13 +1,13 @@
 -- What a walk from unmarked marks reaches is what hears: no unit twice is what the marks say, and a path that comes to a segment twice has a shorter one. Assumes nothing.
-use mathlib.Core.Path.{◌≡◌, refl, sym, ap, ◌∙◌, subst}
+use mathlib.Core.Path.{◌≡◌, refl, sym, ◌∙◌, subst}
 use mathlib.Core.Logic.{◌⊎◌, inl, inr, ⊎_elim, ◌↔◌}
 use mathlib.Core.List.{List, [], ◌∷◌}
 use Prim.Native.Nat.{ℕ, zero, suc, ◌+◌, ◌*◌, ◌≤◌, ◌<◌}
 use native.Mathlib.Decide.{ℕ_discrete}
 use native.Mathlib.Omega.{arith}
-use lib.ListN.{length, get_or, set, replicate, length-set, length-replicate}
+use lib.ListN.{length, get_or, replicate, length-set, length-replicate}
 use lib.Seq.{get_or-set_same, get_or-set_other}
-use Rattle.plan_shape.specs.Plan.{Plan, Crossing, Joins, Leads, Unused, NoUnitTwice, Permits, EachPermits, Path, Hears, onward, segment_at, most_segments, most_units, port_count}
+use Rattle.plan_shape.specs.Plan.{Plan, Crossing, Joins, Leads, Unused, NoUnitTwice, EachPermits, Hears, onward, most_segments, most_units, port_count}
 use Rattle.plan_walk.specs.Walk.{Unvisited, unit_place, marked, marks_length, Way, Reached}
 use Rattle.plan_walk.proofs.Marks.{stays}
 

@@ -1,13 +1,12 @@
 -- Each way that a plan is answered makes the contract. Assumes nothing.
 use mathlib.Core.Path.{◌≡◌, refl, sym, ◌∙◌}
 use mathlib.Core.Bool.{true, false, true≢false}
-use Prim.Native.Nat.{ℕ, ◌+◌, ◌*◌, ◌≤◌, ◌<◌}
+use Prim.Native.Nat.{ℕ, ◌*◌, ◌≤◌, ◌<◌}
 use native.Mathlib.Omega.{arith}
-use lib.ListN.{length, get_or}
+use lib.ListN.{get_or}
 use Rattle.plan_shape.specs.Plan.{Plan, Hearing, in_range, Ringed, most_segments, port_count}
 use Rattle.plan_shape.proofs.Ranges.{Ranged}
 use Rattle.plan_walk.specs.Walk.{Bounded}
-use Rattle.plans.specs.declared.Planned.{Planned}
 use Rattle.plans.specs.declared.Planned.TheVariants.{Heard, Refused}
 use Rattle.plans.specs.Plans.{Lent, Planning}
 

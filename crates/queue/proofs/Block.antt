@@ -1,5 +1,5 @@
 -- The contracts of join and take, from what their steps did to the frames of the block. Assumes nothing.
-use Rattle.std.proofs.Common.{◌≡◌, ℕ, ◌+◌, ◌-◌, ◌<◌, ◌≤◌, min, true, false, List, [], ◌∷◌, length, get_or, take, set, refl, ◌∙◌, true≢false, not-suc-le-zero, add-one, arith, length-set, length-take, get_or-take, take-suc-set, le-ltb, lt-ltb}
+use Rattle.std.proofs.Common.{◌≡◌, ℕ, ◌+◌, ◌-◌, ◌<◌, ◌≤◌, min, true, false, List, [], ◌∷◌, length, get_or, take, set, refl, ◌∙◌, true≢false, not-suc-le-zero, add-one, arith, length-take, get_or-take, take-suc-set, le-ltb, lt-ltb}
 use Rattle.queue.specs.declared.Frame.{Frame}
 use Rattle.queue.specs.declared.Taken.TheVariants.{Given, Nothing}
 use Rattle.queue.specs.Queue.{size, block_length, head, frames_of, row_of, tally_of, counted_in, counted_out, priority, Queued, queue_of, Joining, Taking}

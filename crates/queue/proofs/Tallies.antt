@@ -1,8 +1,7 @@
 -- What is counted, in the words before the frames: a store elsewhere leaves it, and two stores count a frame in or out. Assumes nothing.
-use Rattle.std.proofs.Common.{◌≡◌, ℕ, zero, suc, ◌+◌, ◌-◌, ◌%◌, ◌^◌, ◌<◌, ◌≤◌, List, [], ◌∷◌, length, get_or, take, drop, set, sym, refl, ap, ◌∙◌, arith, length-drop, length-set, length-take-le, get_or-drop, get_or-set_other, get_or-take, get_or-set_same, take-take, drop-set-lt, ext_get_or}
+use Rattle.std.proofs.Common.{◌≡◌, ℕ, zero, suc, ◌+◌, ◌<◌, ◌≤◌, List, [], ◌∷◌, length, get_or, take, drop, set, sym, refl, ◌∙◌, arith, length-drop, length-set, length-take-le, get_or-drop, get_or-set_other, get_or-take, get_or-set_same, drop-set-lt, ext_get_or}
 use lib.Seq.{take-set-le, take-set-lt}
-use Rattle.queue.specs.declared.Tally.{Tally}
-use Rattle.queue.specs.Queue.{block_length, head, frames_in, frames_of, row_of, tally_in, tally_of, one_more, one_less, counted_in, counted_out}
+use Rattle.queue.specs.Queue.{block_length, head, frames_of, row_of, tally_in, tally_of, one_more, one_less, counted_in, counted_out}
 use Rattle.queue.specs.Steps.{Counting}
 
 -- it lies in the words before the frames

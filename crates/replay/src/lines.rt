@@ -43,24 +43,24 @@ fn refused(counts: &[u64], out: &mut [u8], at: usize) -> usize
 }
 
 // A call, its answer, and the words of a refusal.
-fn answer(state: &mut [u64], line: &[u8]) {
+fn answer(rt: &(impl Print + Eprint), state: &mut [u64], line: &[u8]) {
     let mut space = [0u8; 8192];
     let out: &mut [u8] = &mut space;
     let at = call(state, line, out);
     let at = calls::answer(state, line, out, at);
     let at = refused(state, out, at);
-    output::finish(state, out, at);
+    output::finish(rt, state, out, at);
 }
 
 // A line that is passed over, as it is; nothing where answers stand alone.
-fn show(counts: &mut [u64], line: &[u8]) {
+fn show(rt: &(impl Print + Eprint), counts: &mut [u64], line: &[u8]) {
     if tally::is_plain(counts) {
         return;
     }
     let mut space = [0u8; 8192];
     let out: &mut [u8] = &mut space;
     let at = shown(line, out);
-    output::finish(counts, out, at);
+    output::finish(rt, counts, out, at);
 }
 
 // Whether a line without blanks at its ends is empty or a comment.
@@ -72,20 +72,20 @@ fn is_passed_over(line: &[u8]) -> bool {
 }
 
 // A line without blanks at its ends.
-fn pass_trimmed(state: &mut [u64], line: &[u8]) {
+fn pass_trimmed(rt: &(impl Print + Eprint), state: &mut [u64], line: &[u8]) {
     if is_passed_over(line) {
-        show(state, line);
+        show(rt, state, line);
     } else {
-        answer(state, line);
+        answer(rt, state, line);
     }
 }
 
 // A whole line of the script; it begins with no blank.
-pub fn pass(state: &mut [u64], line: &[u8]) {
+pub fn pass(rt: &(impl Print + Eprint), state: &mut [u64], line: &[u8]) {
     if tally::has_failed(state) {
         return;
     }
     tally::count(state, tally::LINES);
     let end = line_parts::words::end_of(line);
-    pass_trimmed(state, &line[0..end]);
+    pass_trimmed(rt, state, &line[0..end]);
 }

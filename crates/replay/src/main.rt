@@ -1,13 +1,19 @@
 // A script of calls from standard input on the proved unit: each call beside its answer, or with --plain the answers alone, then a summary. What fails is told on
 // standard error, and at the end how many lines are no call: a program has no status of its own, and the script `./replay` makes one of that.
+#![tactic(auto)]
+
 mod calls;
 mod lines;
 
 ghost use Rattle.std.specs.Prelude.{◌≤◌, length};
 
-use libc::{STDERR_FILENO, STDIN_FILENO};
-use line_parts::{print, words};
+use line_parts::{arguments, print, words};
 use script_output::{summary, tally};
+use std::env::Env;
+use std::io::Read;
+
+// The bytes of a read.
+const BLOCK: usize = 65536;
 
 // What a read left: whether there may be more, and the length of the line that has begun.
 #[derive(Drop)]
@@ -47,12 +53,18 @@ fn past_mark(counts: &[u64], line: &[u8]) -> usize
 }
 
 // One byte of the input: the line goes on, or is whole. Blanks at its beginning are passed over.
-fn feed(state: &mut [u64], line: &mut [u8], len: usize, byte: u8) -> usize
+fn feed(
+    rt: &(impl Print + Eprint),
+    state: &mut [u64],
+    line: &mut [u8],
+    len: usize,
+    byte: u8,
+) -> usize
     requires { len ≤ length line.old }
     ensures { result ≤ length line.old }
 {
     if byte == b'\n' {
-        lines::pass(state, &line[0..len]);
+        lines::pass(rt, state, &line[0..len]);
         return 0;
     }
     if len == 0 && words::is_blank(byte) {
@@ -67,24 +79,41 @@ fn feed(state: &mut [u64], line: &mut [u8], len: usize, byte: u8) -> usize
 }
 
 // Bytes of the input.
-fn feed_all(state: &mut [u64], line: &mut [u8], len: usize, bytes: &[u8]) -> usize
+fn feed_all(
+    rt: &(impl Print + Eprint),
+    state: &mut [u64],
+    line: &mut [u8],
+    len: usize,
+    bytes: &[u8],
+) -> usize
     requires { len ≤ length line.old }
     ensures { result ≤ length line.old }
 {
     let mut next = len;
     let mut i = 0;
     while i < bytes.len() {
-        next = feed(state, line, next, bytes[i]);
+        next = feed(rt, state, line, next, bytes[i]);
         i += 1;
     }
     next
 }
 
-// What a read answered, where it failed.
-fn note_failure(counts: &mut [u64], got: isize) {
-    if got < 0 {
-        os::fail(b"replay: cannot read the script");
-        tally::count(counts, tally::FAILED);
+// How many bytes a read gave: 0 at the input's end, and where it failed, which is told.
+fn read_block(
+    rt: &(impl Print + Eprint),
+    input: &mut impl Read,
+    counts: &mut [u64],
+    buffer: &mut [u8],
+) -> usize
+    ensures { result ≤ length buffer.old }
+{
+    match input.read(buffer) {
+        Ok(n) => n,
+        Err(e) => {
+            let _ = eprintln!(rt; "replay: cannot read the script: {e}");
+            tally::count(counts, tally::FAILED);
+            0
+        }
     }
 }
 
@@ -99,27 +128,36 @@ fn left(counts: &[u64], n: usize, len: usize) -> Turn
 }
 
 // One read of the input.
-fn read_some(state: &mut [u64], line: &mut [u8], len: usize) -> Turn
+fn read_some(
+    rt: &(impl Print + Eprint),
+    input: &mut impl Read,
+    state: &mut [u64],
+    line: &mut [u8],
+    len: usize,
+) -> Turn
     requires { len ≤ length line.old }
     ensures { result.len ≤ length line.old }
 {
-    let mut buffer = io::large_buffer();
-    let got = libc::read(STDIN_FILENO, &mut buffer);
-    note_failure(state, got);
-    let n = io::count(got, &buffer);
-    let next = feed_all(state, line, len, &buffer[..n]);
+    let mut buffer = [0u8; BLOCK];
+    let n = read_block(rt, input, state, &mut buffer);
+    let next = feed_all(rt, state, line, len, &buffer[..n]);
     left(state, n, next)
 }
 
 // The whole input. A proved loop has to end, and nothing says that the input does: so the turns are counted, from a number that no run uses up.
-fn read_all(state: &mut [u64], line: &mut [u8]) -> usize
+fn read_all(
+    rt: &(impl Print + Eprint),
+    input: &mut impl Read,
+    state: &mut [u64],
+    line: &mut [u8],
+) -> usize
     ensures { result ≤ length line.old }
 {
     let mut len = 0;
     let mut more = true;
     let mut turns = u64::MAX;
     while 0 < turns && more {
-        let turn = read_some(state, line, len);
+        let turn = read_some(rt, input, state, line, len);
         len = turn.len;
         more = turn.more;
         turns -= 1;
@@ -128,54 +166,49 @@ fn read_all(state: &mut [u64], line: &mut [u8]) -> usize
 }
 
 // What the script `./replay` looks for: that all was read and written, and how many lines are no call.
-fn tell(counts: &[u64]) {
+fn tell(rt: &impl Eprint, counts: &[u64]) {
     if tally::has_failed(counts) {
         return;
     }
-    let mut space = [0u8; 64];
-    let out: &mut [u8] = &mut space;
     let n = tally::get(counts, tally::NO_CALL);
-    let at = print::count(out, 0, b"replay: lines that are no call: ", n);
-    let end = print::byte(out, at, b'\n');
-    let written = &out[..];
-    io::write_all(STDERR_FILENO, &written[0..end]);
+    let _ = eprintln!(rt; "replay: lines that are no call: {n}");
 }
 
 // A script, whether its last line is ended or not, and the summary. A line has room for one byte more than it may have, by which a longer line is known.
-fn run(is_plain: bool) {
+fn run(rt: &(impl Print + Eprint), input: &mut impl Read, is_plain: bool) {
     let mut words = [0u64; calls::STATE_WORDS];
     let mut space = [0u8; script::LONGEST_LINE + 1];
     let state: &mut [u64] = &mut words;
     let line: &mut [u8] = &mut space;
     tally::keep_plain(state, is_plain);
-    let len = read_all(state, line);
+    let len = read_all(rt, input, state, line);
     if 0 < len {
-        lines::pass(state, &line[0..len]);
+        lines::pass(rt, state, &line[0..len]);
     }
-    summary::write(state, line);
-    tell(state);
+    summary::write(rt, state, line);
+    tell(rt, state);
 }
 
 // The one argument that there may be.
-fn output_asked() -> Output {
-    let n = os::arg_count();
-    if n < 2 {
+fn output_asked(rt: &impl Env) -> Output {
+    if !arguments::is_given(rt, 1) {
         return Output::Beside;
     }
-    let mut buffer = io::buffer();
-    let k = os::arg(1, &mut buffer);
-    if 2 < n || !words::is_same(&buffer[..k], b"--plain") {
+    let mut space = [0u8; 16];
+    let buffer: &mut [u8] = &mut space;
+    let k = arguments::put(rt, 1, buffer);
+    if arguments::is_given(rt, 2) || !words::is_same(&buffer[..k], b"--plain") {
         return Output::Unknown;
     }
     Output::Plain
 }
 
-fn main() {
-    match output_asked() {
-        Output::Beside => run(false),
-        Output::Plain => run(true),
+fn main(rt: HostRuntime) {
+    match output_asked(&rt) {
+        Output::Beside => run(&rt, &mut rt.stdin(), false),
+        Output::Plain => run(&rt, &mut rt.stdin(), true),
         Output::Unknown => {
-            io::write_all(STDERR_FILENO, b"replay: the one argument is --plain\n");
+            let _ = rt.eprintln("replay: the one argument is --plain");
         }
     }
 }

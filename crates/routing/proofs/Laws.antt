@@ -1,14 +1,12 @@
 -- Nothing but the address turns; and what is answered comes back. Assumes nothing.
 use mathlib.Core.Path.{◌≡◌, refl, sym, ap, ◌∙◌}
-use mathlib.Core.Bool.{Bool, true, false, not, ◌&&◌, ◌||◌, true≢false}
-use mathlib.Core.List.{List, []}
+use mathlib.Core.Bool.{Bool, true, false, true≢false}
+use mathlib.Core.List.{List}
 use mathlib.Core.Option.{Option, none, some}
 use Prim.Native.Nat.{ℕ, ◌-◌, ◌^◌, ◌≤◌, ◌<◌}
 use native.Mathlib.Omega.{arith}
 use borrow.Author.Tests.{ne_eqb}
-use lib.Dec.{eqb}
-use lib.ListN.{get_or}
-use Rattle.identifier.specs.Identifier.{pf_of, ps_of, sa_of, pgn_of, has_destination, sent_without_address, wrong_source}
+use Rattle.identifier.specs.Identifier.{ps_of, sa_of, has_destination, sent_without_address, wrong_source}
 use Rattle.identifier.specs.Picture.{Fields, fields_of}
 use Rattle.identifier.specs.Turning.{with_source, with_destination, sa_set, ps_set}
 use Rattle.identifier.proofs.Turning.{turning}
@@ -17,7 +15,7 @@ use Rattle.address_pairs.specs.ThereAndBack.{OnceEach}
 use Rattle.address_pairs.proofs.Looking.{given}
 use Rattle.address_pairs.proofs.Bounds.{gives_small}
 use Rattle.address_pairs.proofs.ThereAndBack.{there_and_back}
-use Rattle.routing.specs.Routing.{is_claim, turns_source, turns_destination, by_entry, turn, turned}
+use Rattle.routing.specs.Routing.{turns_source, turns_destination, turn}
 use Rattle.routing.specs.Laws.{FieldByField, Laws}
 use Rattle.routing.proofs.Turning.{source_ports, destination_ports, Was, was_some, by_source, by_destination, as_it_came, claim_not, no_claim}
 

@@ -1,4 +1,6 @@
 // The script format: whether a line is a call and what is wrong with it if not, the numbers that its words stand for, and the bytes of its last word.
+#![tactic(auto)]
+
 ghost use Rattle.std.specs.Prelude.{◌≤◌, length};
 
 use line_parts::words;

@@ -84,12 +84,12 @@ fn counted(counts: &[u64], out: &mut [u8], first: usize, index: usize) -> usize
 }
 
 // The same as a line; none where none was met.
-pub fn write(counts: &mut [u64], out: &mut [u8], index: usize)
+pub fn write(rt: &(impl Print + Eprint), counts: &mut [u64], out: &mut [u8], index: usize)
     requires { index < 8 }
 {
     let first = print::text(out, 0, b"    ");
     let end = counted(counts, out, first, index);
     if first < end {
-        output::finish(counts, out, end);
+        output::finish(rt, counts, out, end);
     }
 }

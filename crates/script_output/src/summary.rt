@@ -5,28 +5,28 @@ use crate::{form, output, reasons, tally};
 use std::num::{wrapping_add_u64, wrapping_sub_u64};
 
 // A line by a form.
-fn line(counts: &mut [u64], out: &mut [u8], form: &[u8], told: &[u64]) {
+fn line(rt: &(impl Print + Eprint), counts: &mut [u64], out: &mut [u8], form: &[u8], told: &[u64]) {
     let at = form::fill(out, 0, form, told);
-    output::finish(counts, out, at);
+    output::finish(rt, counts, out, at);
 }
 
 // A number, its words and how many calls it refused; nothing where it refused none.
-fn refusal(counts: &mut [u64], out: &mut [u8], number: usize, n: u64) {
+fn refusal(rt: &(impl Print + Eprint), counts: &mut [u64], out: &mut [u8], number: usize, n: u64) {
     if n == 0 {
         return;
     }
     let told = [number as u64, n];
-    line(counts, out, b"    %d0 %n0: %d1", &told);
+    line(rt, counts, out, b"    %d0 %n0: %d1", &told);
 }
 
 // A line for each number that refused calls of a kind, rising.
-fn by_number(counts: &mut [u64], out: &mut [u8], kind: usize)
+fn by_number(rt: &(impl Print + Eprint), counts: &mut [u64], out: &mut [u8], kind: usize)
     requires { kind < 1000 }
 {
     let mut number = 1;
     while number < tally::NUMBERS {
         let n = tally::get(counts, kind + number);
-        refusal(counts, out, number, n);
+        refusal(rt, counts, out, number, n);
         number += 1;
     }
 }
@@ -50,12 +50,12 @@ fn told_of(counts: &[u64], kind: usize) -> [u64; 7]
 }
 
 // The calls of a kind: a line by a form, and one for each number that refused some.
-fn calls(counts: &mut [u64], out: &mut [u8], form: &[u8], kind: usize)
+fn calls(rt: &(impl Print + Eprint), counts: &mut [u64], out: &mut [u8], form: &[u8], kind: usize)
     requires { kind < 1000 }
 {
     let told = told_of(counts, kind);
-    line(counts, out, form, &told);
-    by_number(counts, out, kind);
+    line(rt, counts, out, form, &told);
+    by_number(rt, counts, out, kind);
 }
 
 // Frames that a pair stopped on the way to a port: as listed, 5, and as not listed, 6.
@@ -66,7 +66,7 @@ fn stopped(counts: &[u64], index: usize) -> u64
 }
 
 // What became of frames at a port, by its index from 0, and by which reasons.
-fn port(counts: &mut [u64], out: &mut [u8], index: usize)
+fn port(rt: &(impl Print + Eprint), counts: &mut [u64], out: &mut [u8], index: usize)
     requires { index < 8 }
 {
     let told = [
@@ -77,58 +77,70 @@ fn port(counts: &mut [u64], out: &mut [u8], index: usize)
         tally::get(counts, tally::OWN_LOST + index),
     ];
     line(
+        rt,
         counts,
         out,
         b"  port %d0: accepted %d1, stopped %d2, lost %d3, own lost %d4",
         &told,
     );
-    reasons::write(counts, out, index);
+    reasons::write(rt, counts, out, index);
 }
 
 // As many ports as the largest unit had.
-fn ports(counts: &mut [u64], out: &mut [u8]) {
+fn ports(rt: &(impl Print + Eprint), counts: &mut [u64], out: &mut [u8]) {
     let n = tally::most_ports(counts);
     let mut index = 0;
     while index < n {
-        port(counts, out, index);
+        port(rt, counts, out, index);
         index += 1;
     }
 }
 
 // Power-ons, Start, Quiet and the unit, after an empty line.
-fn beginnings(counts: &mut [u64], out: &mut [u8]) {
-    output::finish(counts, out, 0);
+fn beginnings(rt: &(impl Print + Eprint), counts: &mut [u64], out: &mut [u8]) {
+    output::finish(rt, counts, out, 0);
     calls(
+        rt,
         counts,
         out,
         b"power-on %d0, lines that are no call %d3",
         tally::POWER_ON,
     );
     calls(
+        rt,
         counts,
         out,
         b"Start %d0: done %d1, refused %d2",
         tally::START,
     );
     calls(
+        rt,
         counts,
         out,
         b"Quiet %d0: done %d1, refused %d2",
         tally::QUIET,
     );
-    calls(counts, out, b"unit %d0: told %d1, refused %d2", tally::UNIT);
+    calls(
+        rt,
+        counts,
+        out,
+        b"unit %d0: told %d1, refused %d2",
+        tally::UNIT,
+    );
 }
 
 // Frames, what became of them at each port, and takes.
-fn traffic(counts: &mut [u64], out: &mut [u8]) {
+fn traffic(rt: &(impl Print + Eprint), counts: &mut [u64], out: &mut [u8]) {
     calls(
+        rt,
         counts,
         out,
         b"frames %d0: consumed %d4, refused %d2",
         tally::FRAME,
     );
-    ports(counts, out);
+    ports(rt, counts, out);
     calls(
+        rt,
         counts,
         out,
         b"takes %d0: given %d5, nothing waiting %d6, refused %d2",
@@ -137,16 +149,18 @@ fn traffic(counts: &mut [u64], out: &mut [u8]) {
 }
 
 // The summary.
-pub fn write(counts: &mut [u64], out: &mut [u8]) {
-    beginnings(counts, out);
-    traffic(counts, out);
+pub fn write(rt: &(impl Print + Eprint), counts: &mut [u64], out: &mut [u8]) {
+    beginnings(rt, counts, out);
+    traffic(rt, counts, out);
     calls(
+        rt,
         counts,
         out,
         b"counts %d0: told %d1, refused %d2",
         tally::COUNTS,
     );
     calls(
+        rt,
         counts,
         out,
         b"messages %d0: answered %d1, refused %d2",

@@ -50,7 +50,7 @@ pub fn wrong(out: &mut [u8], at: usize, why: u64) -> usize
           longer than 4,096 bytes|\
           the first word is none of P S Q F T M U C|\
           more words than the call has|\
-          no unit yet: a power_on, P, comes first|\
+          no unit yet: a power-on, P, comes first|\
           NAME missing|\
           preferred address missing|\
           number of ports missing|\

@@ -1,23 +1,22 @@
 -- The sorted list of a pair's PGNs is `insert_all []` of them: one list for every order of addition, and what Add and Delete make of the PGNs is what they
 -- make of the sorted list. Assumes nothing.
 use mathlib.Core.Path.{◌≡◌, refl, sym, ap, ◌∙◌}
-use mathlib.Core.Bool.{Bool, true, false, cond, not, ◌||◌, true≢false}
+use mathlib.Core.Bool.{Bool, true, false, not, true≢false}
 use mathlib.Core.List.{List, [], ◌∷◌, ◌++◌}
-use Prim.Native.Nat.{ℕ, ◌+◌, ◌≤◌}
+use Prim.Native.Nat.{ℕ, ◌≤◌}
 use native.Mathlib.Omega.{arith}
-use borrow.Author.Tests.{eqb-true, ne_eqb, not-true}
-use lib.Dec.{eqb, ltb}
-use lib.ListN.{length, take, drop, length-append, take-append-drop}
+use borrow.Author.Tests.{ne_eqb, not-true}
+use lib.ListN.{length, take, length-append, take-append-drop}
 use lib.Seq.{take-length, take-take, take-append_seam}
 use Rattle.checks.proofs.Tests.{both, neither}
-use Rattle.entries.specs.Entries.{listed, every}
-use Rattle.entries.proofs.Listed.{same_test, listed_append}
+use Rattle.entries.specs.Entries.{listed}
+use Rattle.entries.proofs.Listed.{listed_append}
 use Rattle.pgn_list.specs.PgnList.{add_one, add_all, delete_all, once}
 use Rattle.pgn_list.proofs.Changes.{one_listed, one_new}
-use Rattle.pgn_list.proofs.Lists.{added_listed, deleted_listed, delete_none, delete_next, add_once, delete_once}
+use Rattle.pgn_list.proofs.Lists.{added_listed, deleted_listed, add_once, delete_once}
 use Rattle.sorted_list.specs.SortedList.{rising, Rising, put_all, insert_all, appended, fitted}
 use Rattle.sorted_list.proofs.Fitting.{fitted_same}
-use Rattle.sorted_list.proofs.Order.{put_inserts, insert_all_listed, insert_all_rising, insert_append, insert_all_longer, above_absent, same_list, delete_rising}
+use Rattle.sorted_list.proofs.Order.{put_inserts, insert_all_listed, insert_all_rising, insert_append, insert_all_longer, same_list, delete_rising}
 
 -- ---- the sorted list
 pub sorted_rising : (es : List ℕ) → Rising (insert_all [] es)

@@ -1,15 +1,14 @@
 -- A PGN put in: those above it moved up by one, and what the list is then. Assumes nothing.
 use mathlib.Core.Path.{◌≡◌, refl, sym, ap, ◌∙◌}
-use mathlib.Core.Bool.{Bool, true, false, cond}
+use mathlib.Core.Bool.{Bool, true, false}
 use mathlib.Core.List.{List, [], ◌∷◌, ◌++◌, append_assoc}
 use Prim.Native.Nat.{ℕ, zero, suc, ◌+◌, ◌-◌, ◌≤◌, ◌<◌}
 use native.Mathlib.Nat.{not-suc-le-zero, le_of_suc-le-suc, le_refl}
-use native.Mathlib.Numerals.{add-one}
 use native.Mathlib.Omega.{arith}
 use borrow.Author.Tests.{lt-ltb, le-ltb, ltb-true}
-use lib.Dec.{eqb, ltb}
-use lib.ListN.{length, get_or, set, take, drop, length-append, length-set, length-drop, take-append-drop, drop_of_length-le, get_or-append}
-use lib.Seq.{take-take, take_at, get_or-take, get_or-drop, length-take-le, take-suc, drop-cons, split_at, append_snoc, set_at, drop_at, drop-append-le}
+use lib.Dec.{ltb}
+use lib.ListN.{length, get_or, set, take, drop, length-append, length-set, length-drop, drop_of_length-le, get_or-append}
+use lib.Seq.{take-take, take_at, get_or-take, length-take-le, take-suc, drop-cons, split_at, append_snoc, set_at}
 use Rattle.checks.proofs.Tests.{both}
 use Rattle.entries.specs.Entries.{every}
 use Rattle.entries.proofs.Leading.{every_at}

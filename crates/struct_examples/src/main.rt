@@ -1,5 +1,7 @@
 // The functions that C calls with a pointer to a struct or to structs: the take on one queue by itself, and a plan by its links. A line for each call: its number, the words of its answer, and
 // of a take the bytes and what the queue counts then.
+#![tactic(auto)]
+
 ghost use Rattle.std.specs.Prelude.{◌≡◌, length};
 ghost use Rattle.queue.specs.Queue.{block_length};
 ghost use Rattle.deorasaeng.specs.Interface.{QueueCall};
@@ -16,12 +18,12 @@ const QUEUE_AT: usize = Unit::QUEUES_AT + 2 * queue::BLOCK_LENGTH;
 const QUEUE_END: usize = QUEUE_AT + queue::BLOCK_LENGTH;
 
 // What the words of a queue count: the frames that wait, those of each priority, those accepted and taken.
-fn counted(block: &[u64])
+fn counted(rt: &impl Print, block: &[u64])
     requires { length block.now ≡ block_length }
 {
-    text(b" |");
-    words(&block[0..11]);
-    text(b"\n");
+    text(rt, b" |");
+    words(rt, &block[0..11]);
+    text(rt, b"\n");
 }
 
 // A queue after a take, and the number that the take gave.
@@ -47,36 +49,43 @@ fn hear_lent(links: [Link; 5], lists: &[u64], first: u32, pgn: u32, answer: &mut
 }
 
 // A take's line. What a take does not write stays: 9 in every word and byte.
-fn told(queue: Queue, word: &[u8], answer: &mut [u64], written: &mut [u8]) -> Queue {
+fn told(
+    rt: &impl Print,
+    queue: Queue,
+    word: &[u8],
+    answer: &mut [u64],
+    written: &mut [u8],
+) -> Queue {
     let after = take_lent(queue, answer, written);
-    head(word, after.number);
-    words(answer);
-    bytes(written);
+    head(rt, word, after.number);
+    words(rt, answer);
+    bytes(rt, written);
     let rest = after.queue;
     let block = rest.words;
-    counted(&block);
+    counted(rt, &block);
     rest
 }
 
-fn take(queue: Queue, word: &[u8]) -> Queue {
+fn take(rt: &impl Print, queue: Queue, word: &[u8]) -> Queue {
     let mut answer = [9u64; deorasaeng::TAKE_WORDS];
     let mut written = [9u8; flat_answers::FRAME_BYTES];
-    told(queue, word, &mut answer, &mut written)
+    told(rt, queue, word, &mut answer, &mut written)
 }
 
 // An answer that is a word short, and bytes that are one short: the queue is as it was.
-fn short_takes(queue: Queue) -> Queue {
+fn short_takes(rt: &impl Print, queue: Queue) -> Queue {
     let mut short_answer = [9u64; deorasaeng::TAKE_WORDS - 1];
     let mut answer = [9u64; deorasaeng::TAKE_WORDS];
     let mut short_bytes = [9u8; flat_answers::FRAME_BYTES - 1];
     let mut written = [9u8; flat_answers::FRAME_BYTES];
     let same = told(
+        rt,
         queue,
         b"take, answer of 2 words",
         &mut short_answer,
         &mut written,
     );
-    told(same, b"take, 7 bytes", &mut answer, &mut short_bytes)
+    told(rt, same, b"take, 7 bytes", &mut answer, &mut short_bytes)
 }
 
 // The words of a queue in a record, copied.
@@ -93,55 +102,57 @@ fn copied(block: &[u64]) -> Queue
 }
 
 // A frame from port 2, which joins the queues of the other ports.
-fn frame(record: &mut [u64], id: u32, data: &[u8]) {
+fn frame(rt: &impl Print, record: &mut [u64], id: u32, data: &[u8]) {
     let mut answer = [9u64; deorasaeng::FRAME_WORDS];
     head(
+        rt,
         b"frame",
         deorasaeng::deorasaeng_frame(record, 2, id, data, &mut answer),
     );
-    words(&answer);
-    text(b"\n");
+    words(rt, &answer);
+    text(rt, b"\n");
 }
 
 // Priorities 6, 6 and 3, as in P11, and 7.
-fn joined(record: &mut [u64]) {
+fn joined(rt: &impl Print, record: &mut [u64]) {
     deorasaeng::deorasaeng_power_on(record, 0x20001C000AC00123, 0x90);
-    frame(record, 0x18FEF126, b"\x01");
-    frame(record, 0x18FEF226, b"\x02\x02");
-    frame(record, 0x0CFEF326, b"\x03\x03\x03");
-    frame(record, 0x1CFEF426, b"\x11\x22\x33\x44\x55\x66\x77\x88");
+    frame(rt, record, 0x18FEF126, b"\x01");
+    frame(rt, record, 0x18FEF226, b"\x02\x02");
+    frame(rt, record, 0x0CFEF326, b"\x03\x03\x03");
+    frame(rt, record, 0x1CFEF426, b"\x11\x22\x33\x44\x55\x66\x77\x88");
 }
 
 // Taken until nothing waits.
-fn emptied(queue: Queue) {
+fn emptied(rt: &impl Print, queue: Queue) {
     let block = queue.words;
-    text(b"queue of 3");
-    counted(&block);
-    let q3 = take(queue, b"take");
-    let q2 = take(q3, b"take");
-    let same = short_takes(q2);
-    let q1 = take(same, b"take");
-    let q0 = take(q1, b"take");
-    take(q0, b"take, nothing waits");
+    text(rt, b"queue of 3");
+    counted(rt, &block);
+    let q3 = take(rt, queue, b"take");
+    let q2 = take(rt, q3, b"take");
+    let same = short_takes(rt, q2);
+    let q1 = take(rt, same, b"take");
+    let q0 = take(rt, q1, b"take");
+    take(rt, q0, b"take, nothing waits");
 }
 
 // The record's own queue was not lent.
-fn unchanged(record: &[u64]) {
+fn unchanged(rt: &impl Print, record: &[u64]) {
     let mut answer = [9u64; deorasaeng::COUNTS_WORDS];
     head(
+        rt,
         b"counts of 3",
         deorasaeng::deorasaeng_counts(record, 3, &mut answer),
     );
-    words(&answer);
-    text(b"\n");
+    words(rt, &answer);
+    text(rt, b"\n");
 }
 
-fn queues() {
+fn queues(rt: &impl Print) {
     let mut record = [0u64; Unit::RECORD_LENGTH];
-    joined(&mut record);
+    joined(rt, &mut record);
     let queue = copied(&record[QUEUE_AT..QUEUE_END]);
-    emptied(queue);
-    unchanged(&record);
+    emptied(rt, queue);
+    unchanged(rt, &record);
 }
 
 fn link(unit: u32, port: u32, segment: u32) -> Link {
@@ -153,7 +164,7 @@ fn link(unit: u32, port: u32, segment: u32) -> Link {
 }
 
 // A plan's line: unit 1 joins segments 1 and 2, unit 2 joins 2 and 3, and then comes the last link. A refusal leaves the answer, which had 9.
-fn ask(lists: &[u64], word: &[u8], last: Link, first: u32, pgn: u32) {
+fn ask(rt: &impl Print, lists: &[u64], word: &[u8], last: Link, first: u32, pgn: u32) {
     let links = [
         link(1, 1, 1),
         link(1, 2, 2),
@@ -162,43 +173,43 @@ fn ask(lists: &[u64], word: &[u8], last: Link, first: u32, pgn: u32) {
         last,
     ];
     let mut answer = [9u64; deorasaeng::PLAN_WORDS];
-    head(word, hear_lent(links, lists, first, pgn, &mut answer));
-    words(&answer);
-    text(b"\n");
+    head(rt, word, hear_lent(links, lists, first, pgn, &mut answer));
+    words(rt, &answer);
+    text(rt, b"\n");
 }
 
 // Unit 2 joins segment 4 too.
-fn heard(lists: &[u64]) {
+fn heard(rt: &impl Print, lists: &[u64]) {
     let last = link(2, 3, 4);
-    ask(lists, b"65097 from 1", last, 1, 65097);
-    ask(lists, b"61444 from 1", last, 1, 61444);
-    ask(lists, b"61444 from 4", last, 4, 61444);
-    ask(lists, b"60928 from 1", last, 1, 60928);
+    ask(rt, lists, b"65097 from 1", last, 1, 65097);
+    ask(rt, lists, b"61444 from 1", last, 1, 61444);
+    ask(rt, lists, b"61444 from 4", last, 4, 61444);
+    ask(rt, lists, b"60928 from 1", last, 1, 60928);
 }
 
-fn refused(lists: &[u64]) {
-    ask(lists, b"unit 3", link(3, 1, 4), 1, 65097);
-    ask(lists, b"port 9", link(2, 9, 4), 1, 65097);
-    ask(lists, b"segment 5", link(2, 3, 5), 1, 65097);
-    ask(lists, b"port 2 twice", link(2, 2, 4), 1, 65097);
-    ask(lists, b"ring", link(2, 3, 1), 1, 65097);
-    ask(lists, b"two ports on 3", link(2, 3, 3), 1, 65097);
-    ask(lists, b"ring, 61185 asked", link(2, 3, 1), 1, 61185);
+fn refused(rt: &impl Print, lists: &[u64]) {
+    ask(rt, lists, b"unit 3", link(3, 1, 4), 1, 65097);
+    ask(rt, lists, b"port 9", link(2, 9, 4), 1, 65097);
+    ask(rt, lists, b"segment 5", link(2, 3, 5), 1, 65097);
+    ask(rt, lists, b"port 2 twice", link(2, 2, 4), 1, 65097);
+    ask(rt, lists, b"ring", link(2, 3, 1), 1, 65097);
+    ask(rt, lists, b"two ports on 3", link(2, 3, 3), 1, 65097);
+    ask(rt, lists, b"ring, 61185 asked", link(2, 3, 1), 1, 61185);
     let short = [0u64; plan_shape::BLOCK_SIZE];
-    ask(&short, b"lists of 34 words", link(2, 3, 4), 1, 65097);
+    ask(rt, &short, b"lists of 34 words", link(2, 3, 4), 1, 65097);
 }
 
 // From port 1 to port 2 unit 1 lets 65097 alone through.
-fn plans() {
+fn plans(rt: &impl Print) {
     let mut lists = [0u64; plan_shape::LISTS_LENGTH];
     lists[0] = 2;
     lists[1] = 1;
     lists[2] = 65097;
-    heard(&lists);
-    refused(&lists);
+    heard(rt, &lists);
+    refused(rt, &lists);
 }
 
-fn main() {
-    queues();
-    plans();
+fn main(rt: HostRuntime) {
+    queues(&rt);
+    plans(&rt);
 }

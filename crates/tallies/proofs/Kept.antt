@@ -1,24 +1,23 @@
 -- What is counted at a port equals a recount, and stays so when a frame is sent there and when a take is made. Assumes nothing.
-use mathlib.Core.Path.{◌≡◌, refl, sym, ap, subst, ◌∙◌}
+use mathlib.Core.Path.{◌≡◌, refl, sym, ap, ◌∙◌}
 use mathlib.Core.Bool.{Bool, true, false, cond}
 use mathlib.Core.List.{List, [], ◌∷◌, ◌++◌, map, append_assoc, append-nil}
 use mathlib.Core.Option.{Option, none, some}
-use Prim.Native.Nat.{ℕ, zero, suc, ◌+◌, ◌-◌, ◌%◌, ◌^◌, ◌≤◌, ◌<◌}
+use Prim.Native.Nat.{ℕ, zero, suc, ◌+◌, ◌%◌, ◌^◌, ◌≤◌, ◌<◌}
 use native.Mathlib.Decide.{ℕ_discrete}
 use native.Mathlib.Omega.{arith}
 use borrow.Author.Tests.{eq-eqb, ne_eqb, ltb-true}
 use lib.Dec.{eqb}
 use lib.ListN.{length, get_or, set, length-set, length-append, replicate}
 use lib.Seq.{get_or-set_same, get_or-set_other}
-use Rattle.delivery.specs.Row.{room, join, pull, given, kept, Pulls, nothing, first}
+use Rattle.delivery.specs.Row.{room, pull, Pulls, nothing, first}
 use Rattle.delivery.specs.Port.{Event, Join, Take, joined, count, row_after}
 use Rattle.delivery.specs.Unit.{accepted, happens}
 use Rattle.delivery.proofs.Take.{pulls}
 use Rattle.queue.specs.declared.Frame.{Frame}
-use Rattle.queue.specs.declared.Tally.{Tally}
-use Rattle.queue.specs.Queue.{size, priority, one_more, one_less, counted_in, counted_out, Queued, tally_after, taking, sent_all, queue_next, idle}
+use Rattle.queue.specs.Queue.{size, priority, one_more, one_less, counted_in, counted_out, Queued, taking, sent_all, queue_next, idle}
 use Rattle.queue.specs.Queue.{joined as joined_to}
-use Rattle.tallies.specs.Tallies.{frames, gone}
+use Rattle.tallies.specs.Tallies.{gone}
 use Rattle.tallies.proofs.Histories.{joined_append, row_append, gone_append, count_append, count_few}
 
 -- the frames of a rank

@@ -1,25 +1,21 @@
 -- What is counted at a port equals a recount in every list of calls: one call keeps it, so every list does. Assumes nothing.
 use mathlib.Core.Path.{◌≡◌, subst, ◌∙◌}
-use mathlib.Core.Bool.{cond}
 use mathlib.Core.List.{List, [], ◌∷◌, ◌++◌, append_assoc, append-nil}
 use Prim.Native.Nat.{ℕ, suc, ◌-◌, ◌<◌}
 use native.Mathlib.Omega.{arith}
-use lib.Dec.{eqb}
 use lib.ListN.{length, length-replicate}
-use Rattle.delivery.specs.Calls.{Run, after_calls}
+use Rattle.delivery.specs.Calls.{after_calls}
 use Rattle.delivery.specs.Port.{Event}
-use Rattle.delivery.specs.Product.{Answered}
 use Rattle.delivery.specs.Unit.{history}
 use Rattle.delivery.proofs.Product.{answered}
 use Rattle.queue.specs.declared.Frame.{Frame}
-use Rattle.queue.specs.declared.Tally.{Tally}
 use Rattle.queue.specs.Queue.{size, priority, Queued, idle}
 use Rattle.unit.specs.Count.{count_of}
-use Rattle.unit.specs.Model.{Rest, Model, queue_on, row_at, model_of}
+use Rattle.unit.specs.Model.{Model, queue_on, row_at}
 use Rattle.unit.specs.PowerOn.{fresh}
 use Rattle.bridge.specs.Calls.{Call, ReadCounts, counts_answer}
 use Rattle.made.specs.Made.{Powered}
-use Rattle.demand_3.specs.Demand3.{Answer, ToCounts, Made, next, answer, rest_next, asks, sends, model_after, Demand3}
+use Rattle.demand_3.specs.Demand3.{Answer, ToCounts, next, answer, rest_next, asks, sends, model_after, Demand3}
 use Rattle.demand_3.proofs.Moves.{rest_moves, queues_stay, queue_moves, row_moves}
 use Rattle.demand_3.proofs.AtPort.{take_goes_at, idle_at}
 use Rattle.demand_3.proofs.Demand3.{demand_3}

@@ -1,6 +1,5 @@
 -- Digits, written and read back, are the same bytes. Assumes nothing.
 use mathlib.Core.Path.{◌≡◌, refl, sym, ap, ◌∙◌}
-use mathlib.Core.Bool.{Bool, true, false, cond}
 use mathlib.Core.List.{List, [], ◌∷◌, ◌++◌}
 use Prim.Native.Nat.{ℕ, zero, suc, ◌+◌, ◌-◌, ◌*◌, ◌/◌, ◌%◌, ◌^◌, ◌≤◌, ◌<◌}
 use native.Mathlib.Decide.{dec_lt}
@@ -8,14 +7,13 @@ use native.Mathlib.Nat.{pow-suc, div-div-eq-div-mul}
 use native.Mathlib.Omega.{arith}
 use borrow.Author.Tests.{lt-ltb, le-ltb, le-leb, lt-leb}
 use lib.ListN.{length, get_or, take, length-append}
-use lib.Dec.{ltb}
 use lib.Seq.{take-suc, length-take-le}
 use native.Mathlib.Numerals.{add-one}
 use Rattle.storage.specs.Bytes.{packed, bytes_of}
 use Rattle.storage.proofs.Bytes.{AllBytes, bytes_of_length, bytes_back}
 use Rattle.text.specs.Writing.{Writing}
 use Rattle.text.proofs.Writing.{writing_join}
-use Rattle.text.specs.Digits.{hex_digit, hex_value, Reading, hex_of, hex_bytes, pair_at, four_bytes, from_four, decimal_in, decimal_of}
+use Rattle.text.specs.Digits.{hex_digit, hex_value, Reading, hex_of, hex_bytes, pair_at, from_four, decimal_in, decimal_of}
 
 -- ---- hex
 pub value_of_digit : (d : ℕ) → d < 16 → hex_value (hex_digit d) ≡ d

@@ -1,8 +1,14 @@
 // A log from standard input as candump's text on standard output. A refused record writes no line and is told on standard error, as its place from 1 and its
 // number; an unknown kind and a cut end it.
+#![tactic(auto)]
+
 ghost use Rattle.std.specs.Prelude.{◌≡◌, ◌<◌, ◌≤◌, length};
 
+use std::io::Read;
 use std::num::wrapping_add_u64;
+
+// The bytes of the log, and of its text, that are kept at a time.
+const BLOCK: usize = 65536;
 
 // What a record came to: the bytes of the log that it has, those of its line, whether it ends the log.
 #[derive(Drop)]
@@ -41,25 +47,25 @@ fn stopped(over: bool) -> Turned
 }
 
 // A record as a line; the answer is the line's length. A refusal is told.
-fn turn_line(log: &[u8], place: u64, out: &mut [u8]) -> usize
+fn turn_line(rt: &impl Eprint, log: &[u8], place: u64, out: &mut [u8]) -> usize
     ensures { result ≤ length out.old }
 {
     let w = bench_records::to_text(log, out);
     if w.number != 0 {
-        bench_io::tell_refused(place, w.number);
+        bench_io::tell_refused(rt, place, w.number);
     }
     w.length
 }
 
 // The record at the front of a log that is not empty; `last` says that nothing follows.
-fn turn_record(log: &[u8], place: u64, last: bool, out: &mut [u8]) -> Turned
+fn turn_record(rt: &impl Eprint, log: &[u8], place: u64, last: bool, out: &mut [u8]) -> Turned
     ensures { (result.used ≤ length log.now) × (result.written ≤ length out.old) }
 {
     let front = bench_records::front(log);
     if front.number == 25 && !last {
         return stopped(false);
     }
-    let written = turn_line(log, place, out);
+    let written = turn_line(rt, log, place, out);
     Turned {
         used: front.size,
         written,
@@ -68,13 +74,13 @@ fn turn_record(log: &[u8], place: u64, last: bool, out: &mut [u8]) -> Turned
 }
 
 // The record at the front of a log, where there is one and room for its line.
-fn turn_next(log: &[u8], place: u64, last: bool, out: &mut [u8]) -> Turned
+fn turn_next(rt: &impl Eprint, log: &[u8], place: u64, last: bool, out: &mut [u8]) -> Turned
     ensures { (result.used ≤ length log.now) × (result.written ≤ length out.old) }
 {
     if log.len() == 0 || out.len() < candump::LONGEST {
         return stopped(false);
     }
-    turn_record(log, place, last, out)
+    turn_record(rt, log, place, last, out)
 }
 
 // The records passed, if one more was used.
@@ -86,7 +92,7 @@ fn passed_by(place: u64, used: usize) -> u64 {
 }
 
 // Records until the log has no whole one, or the text has no room.
-fn turn_some(log: &[u8], passed: u64, last: bool, out: &mut [u8]) -> Ran
+fn turn_some(rt: &impl Eprint, log: &[u8], passed: u64, last: bool, out: &mut [u8]) -> Ran
     ensures { (result.used ≤ length log.now) × (result.written ≤ length out.old) }
 {
     let mut used = 0;
@@ -96,7 +102,7 @@ fn turn_some(log: &[u8], passed: u64, last: bool, out: &mut [u8]) -> Ran
     let mut going = true;
     while going {
         let next = wrapping_add_u64(place, 1);
-        let t = turn_next(&log[used..], next, last, &mut out[written..]);
+        let t = turn_next(rt, &log[used..], next, last, &mut out[written..]);
         place = passed_by(place, t.used);
         over = t.over;
         going = 0 < t.used;
@@ -112,7 +118,7 @@ fn turn_some(log: &[u8], passed: u64, last: bool, out: &mut [u8]) -> Ran
 }
 
 // All that a piece has, a buffer of text at a time; a turn that used nothing has run out of it.
-fn turn_all(log: &[u8], passed: u64, last: bool, out: &mut [u8]) -> Ran
+fn turn_all(rt: &(impl Print + Eprint), log: &[u8], passed: u64, last: bool, out: &mut [u8]) -> Ran
     ensures { result.used ≤ length log.now }
 {
     let mut used = 0;
@@ -120,9 +126,9 @@ fn turn_all(log: &[u8], passed: u64, last: bool, out: &mut [u8]) -> Ran
     let mut over = false;
     let mut going = true;
     while going {
-        let ran = turn_some(&log[used..], place, last, out);
+        let ran = turn_some(rt, &log[used..], place, last, out);
         let end = ran.written;
-        let is_written = bench_io::write(&out[0..end]);
+        let is_written = bench_io::write(rt, &out[0..end]);
         place = ran.place;
         over = bench_io::is_over(ran.over, is_written);
         going = bench_io::goes_on(ran.used, over);
@@ -137,11 +143,18 @@ fn turn_all(log: &[u8], passed: u64, last: bool, out: &mut [u8]) -> Ran
 }
 
 // One read of the log behind what is left of it, and all that it then has.
-fn read_some(log: &mut [u8], out: &mut [u8], left: usize, passed: u64) -> Turn
+fn read_some(
+    rt: &(impl Print + Eprint),
+    input: &mut impl Read,
+    log: &mut [u8],
+    out: &mut [u8],
+    left: usize,
+    passed: u64,
+) -> Turn
     requires { left ≤ length log.old }
     ensures { result.left ≤ length log.old }
 {
-    let filled = bench_io::refill(log, left);
+    let filled = bench_io::refill(rt, input, log, left);
     let end = filled.end;
     if filled.failed {
         return Turn {
@@ -150,7 +163,7 @@ fn read_some(log: &mut [u8], out: &mut [u8], left: usize, passed: u64) -> Turn
             more: false,
         };
     }
-    let ran = turn_all(&log[0..end], passed, filled.last, out);
+    let ran = turn_all(rt, &log[0..end], passed, filled.last, out);
     let rest = bench_io::move_front(log, ran.used, end);
     Turn {
         left: rest,
@@ -160,13 +173,13 @@ fn read_some(log: &mut [u8], out: &mut [u8], left: usize, passed: u64) -> Turn
 }
 
 // The whole log. A proved loop has to end, and nothing says that the input does: so the turns are counted, from a number that no run uses up.
-fn read_all(log: &mut [u8], out: &mut [u8]) {
+fn read_all(rt: &(impl Print + Eprint), input: &mut impl Read, log: &mut [u8], out: &mut [u8]) {
     let mut left = 0;
     let mut place: u64 = 0;
     let mut more = true;
     let mut turns = u64::MAX;
     while 0 < turns && more {
-        let turn = read_some(log, out, left, place);
+        let turn = read_some(rt, input, log, out, left, place);
         left = turn.left;
         place = turn.place;
         more = turn.more;
@@ -174,10 +187,10 @@ fn read_all(log: &mut [u8], out: &mut [u8]) {
     }
 }
 
-fn main() {
-    let mut space = io::large_buffer();
+fn main(rt: HostRuntime) {
+    let mut space = [0u8; BLOCK];
     let log: &mut [u8] = &mut space;
-    let mut text = io::large_buffer();
+    let mut text = [0u8; BLOCK];
     let out: &mut [u8] = &mut text;
-    read_all(log, out);
+    read_all(&rt, &mut rt.stdin(), log, out);
 }

@@ -1,11 +1,17 @@
 // Any encoded list of calls, run by `witness::replay`. Standard input has numbers in hex: the NAME, the preferred address, the number of ports, how many calls there
 // are, five words for each call, and the bytes of all calls; what stands behind a # is passed over. A line for each call, its answer's twelve words, and how many frames
 // wait at each port.
+#![tactic(auto)]
+
 ghost use Rattle.std.specs.Prelude.{◌+◌, ◌*◌, ◌≤◌, length};
 
-use libc::{STDIN_FILENO, STDOUT_FILENO};
+use std::io;
+use std::io::Read;
 use unit::Unit;
 use witness::ANSWER_WORDS;
+
+// The most bytes that are read.
+const MOST: u64 = 65536;
 
 // How many numbers, bytes and calls there is room for.
 const NUMBERS: usize = 32768;
@@ -130,47 +136,47 @@ fn copy_bytes(numbers: &[u64], bytes: &mut [u8]) -> usize
 }
 
 // A number in hex and what stands behind it.
-fn number(n: u64, behind: &[u8]) {
-    io::print_hex(STDOUT_FILENO, n, 1);
-    io::write_all(STDOUT_FILENO, behind);
+fn number(rt: &impl Print, n: u64, behind: &[u8]) {
+    let _ = print!(rt; "{n:x}");
+    let _ = rt.write_all(behind);
 }
 
 // A number of a line; the last ends it.
-fn print_word(n: u64, is_last: bool) {
+fn print_word(rt: &impl Print, n: u64, is_last: bool) {
     if is_last {
-        number(n, b"\n");
+        number(rt, n, b"\n");
         return;
     }
-    number(n, b" ");
+    number(rt, n, b" ");
 }
 
 // The answers' words in hex, those of an answer a line.
-fn print_answers(answers: &[u64]) {
+fn print_answers(rt: &impl Print, answers: &[u64]) {
     let mut i = 0;
     while i < answers.len() {
-        print_word(answers[i], i % ANSWER_WORDS == LAST_WORD);
+        print_word(rt, answers[i], i % ANSWER_WORDS == LAST_WORD);
         i += 1;
     }
 }
 
 // How many frames wait at a port, by its index from 0: the first word of its queue.
-fn print_waiting(words: &[u64], index: usize, is_last: bool)
+fn print_waiting(rt: &impl Print, words: &[u64], index: usize, is_last: bool)
     requires { index ≤ 8 }
 {
     let place = Unit::QUEUES_AT + queue::BLOCK_LENGTH * index;
     if place < words.len() {
-        print_word(words[place], is_last);
+        print_word(rt, words[place], is_last);
     }
 }
 
 // How many frames wait at each port.
-fn print_record(words: &[u64], ports: usize)
+fn print_record(rt: &impl Print, words: &[u64], ports: usize)
     requires { ports ≤ 8 }
 {
-    io::write_all(STDOUT_FILENO, b"waiting ");
+    let _ = rt.print("waiting ");
     let mut i = 0;
     while i < ports {
-        print_waiting(words, i, i + 1 == ports);
+        print_waiting(rt, words, i, i + 1 == ports);
         i += 1;
     }
 }
@@ -203,7 +209,7 @@ fn record_length(ports: usize) -> usize
 }
 
 // Power-on and the calls; how many frames wait is told from the record after them.
-fn make_calls(words: &mut [u64], numbers: &[u64], answers: &mut [u64], n: usize)
+fn make_calls(rt: &impl Print, words: &mut [u64], numbers: &[u64], answers: &mut [u64], n: usize)
     requires { 4 + 5 * n ≤ length numbers.now }
 {
     let end = HEAD + 5 * n;
@@ -220,11 +226,11 @@ fn make_calls(words: &mut [u64], numbers: &[u64], answers: &mut [u64], n: usize)
         &mut reply,
         answers,
     );
-    number(refused as u64, b"\n");
+    number(rt, refused as u64, b"\n");
 }
 
 // A unit, its calls and their answers.
-fn run(numbers: &[u64])
+fn run(rt: &impl Print, numbers: &[u64])
     requires { 4 ≤ length numbers.now }
 {
     let n = calls_made(numbers[3], numbers.len());
@@ -234,25 +240,22 @@ fn run(numbers: &[u64])
     let mut space = [0u64; ANSWER_WORDS * CALLS];
     let words: &mut [u64] = &mut record;
     let answers: &mut [u64] = &mut space;
-    make_calls(&mut words[0..length], numbers, answers, n);
+    make_calls(rt, &mut words[0..length], numbers, answers, n);
     let written = &answers[..];
-    print_answers(&written[0..ANSWER_WORDS * n]);
-    print_record(words, ports);
+    print_answers(rt, &written[0..ANSWER_WORDS * n]);
+    print_record(rt, words, ports);
 }
 
-fn main() {
-    let mut text = io::large_buffer();
-    let n = io::read_full(STDIN_FILENO, &mut text);
+fn main(rt: HostRuntime) -> io::Result<()> {
+    let mut text = Vec::new(rt.alloc());
+    rt.stdin().take(MOST).read_to_end(&mut text)?;
     let mut space = [0u64; NUMBERS];
     let numbers: &mut [u64] = &mut space;
-    let count = read_numbers(&text[..n], numbers);
+    let count = read_numbers(&text, numbers);
     if count < HEAD {
-        io::write_all(
-            STDOUT_FILENO,
-            b"a NAME, a preferred address, a number of ports and of calls come first\n",
-        );
-        return;
+        return rt.println("a NAME, a preferred address, a number of ports and of calls come first");
     }
     let read = &numbers[..];
-    run(&read[0..count]);
+    run(&rt, &read[0..count]);
+    Ok(())
 }

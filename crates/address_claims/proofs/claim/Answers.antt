@@ -1,4 +1,4 @@
-use borrow.Author.Rules.{rules}
+-- `address_claims::claim` meets its contract: the contest, then the drop where the claim is beaten, else the settling. Assumes nothing.
 use Rattle.address_claims.proofs.Calls.{claim_beaten, claim_settled}
 use Rattle.address_claims.proofs.claim.Goals as goal
 

@@ -1,4 +1,4 @@
-use borrow.Author.Rules.{rules}
+-- `address_claims::contest` meets its contract: the tests are those of the definition. Assumes nothing.
 use borrow.Author.Tests.{eq-eqb, ne_eqb, lt-ltb, le-ltb}
 use Rattle.address_claims.specs.Claims.{contest_event}
 use Rattle.address_claims.proofs.contest.Goals as goal

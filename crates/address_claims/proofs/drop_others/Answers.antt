@@ -1,7 +1,6 @@
-use mathlib.Core.Logic.{⊎_elim}
-use Prim.Native.Nat.{◌+◌, ◌-◌, zero-le}
+-- `address_claims::drop_others` meets its contract. The loop's invariant is `Passed`: the places passed are as the drop leaves them. Assumes nothing.
+use Prim.Native.Nat.{◌+◌, zero-le}
 use native.Mathlib.Omega.{arith}
-use Rattle.addresses.specs.Table.{places}
 use Rattle.address_claims.proofs.Dropping.{Passed, passed_start, passed_free, passed_keep, passed_drop, passed_skip, passed_done}
 use Rattle.address_claims.proofs.drop_others.Goals.{then-is_held_by+then-address-keep, then-is_held_by+else-address-keep, else-is_held_by}
 use Rattle.address_claims.proofs.drop_others.Goals as goal

@@ -1,8 +1,7 @@
-use mathlib.Core.Logic.{⊎_elim}
-use Prim.Native.Nat.{◌+◌, ◌-◌, zero-le}
-use native.Mathlib.Omega.{arith}
+-- `address_claims::drop_others` meets its contract. The loop's invariant is `Passed`: the places passed are as the drop leaves them. Assumes nothing.
+use Prim.Native.Nat.{◌-◌}
 use Rattle.addresses.specs.Table.{places}
-use Rattle.address_claims.proofs.Dropping.{Passed, passed_start, passed_free, passed_keep, passed_drop, passed_skip, passed_done}
+use Rattle.address_claims.proofs.Dropping.{Passed}
 use Rattle.address_claims.proofs.drop_others.Given as goal
 
 abbrev pub invariant-loop-address : goal.invariant-loop-address

@@ -1,3 +1,4 @@
+-- `address_claims::settle` meets its contract: the drop of every address, then the store. Assumes nothing.
 use borrow.Author.Rules.{rules}
 use Rattle.address_claims.specs.Claims.{moved_to}
 use Rattle.address_claims.proofs.Calls.{gone}

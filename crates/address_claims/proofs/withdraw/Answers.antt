@@ -1,3 +1,4 @@
+-- `address_claims::withdraw` meets its contract: a drop that keeps no address is the withdrawal. Assumes nothing.
 use borrow.Author.Rules.{rules}
 use Rattle.address_claims.proofs.Calls.{withdrew, held_nothing}
 use Rattle.address_claims.proofs.withdraw.Goals as goal

@@ -1,9 +1,9 @@
+-- `address_pairs::add` meets its contract: refused, or the table is lent and comes back with one more pair. Assumes nothing.
 use mathlib.Core.Path.{sym, ◌∙◌}
 use Prim.Native.Nat.{◌-◌, ◌*◌}
 use Rattle.storage.proofs.Parts.{range_size}
 use Rattle.address_pairs.specs.AddressPairs.{pairs_length}
 use Rattle.address_pairs.proofs.Adding.{kept_out, may_append, put_in}
-use borrow.Author.Rules.{rules}
 use Rattle.address_pairs.proofs.add.Goals as goal
 
 pub returns-then-number-ne0 : goal.returns-then-number-ne0

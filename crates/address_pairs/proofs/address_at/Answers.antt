@@ -1,6 +1,6 @@
+-- `address_pairs::address_at` meets its contract: a word below 254 is its own remainder. Assumes nothing.
 use native.Mathlib.Omega.{arith}
 use Rattle.address_pairs.proofs.Looking.{side_word}
-use borrow.Author.Rules.{rules}
 use Rattle.address_pairs.proofs.address_at.Goals as goal
 
 pub returns-then-word-lt254 : goal.returns-then-word-lt254

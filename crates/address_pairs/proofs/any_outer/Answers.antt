@@ -1,8 +1,7 @@
-use Prim.Native.Nat.{◌-◌}
+-- `address_pairs::any_outer` meets its contract: one table after the other. Assumes nothing.
 use mathlib.Core.Path.{sym, ◌∙◌}
 use native.Mathlib.Omega.{arith}
-use Rattle.address_pairs.specs.AddressPairs.{tables_of}
-use Rattle.address_pairs.proofs.Tables.{Going, start, other, found, done, table_count}
+use Rattle.address_pairs.proofs.Tables.{start, other, found, done, table_count}
 use Rattle.address_pairs.proofs.any_outer.Goals as goal
 
 pub loop-i-init : goal.loop-i-init

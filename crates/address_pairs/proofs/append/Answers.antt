@@ -1,7 +1,7 @@
+-- `address_pairs::append` meets its contract: two words and the count are stored. Assumes nothing.
 use native.Mathlib.Omega.{arith}
 use lib.ListN.{length-set}
 use Rattle.address_pairs.proofs.Appending.{appended}
-use borrow.Author.Rules.{rules}
 use Rattle.address_pairs.proofs.append.Goals as goal
 
 pub bounds-table-at-2 : goal.bounds-table-at-2

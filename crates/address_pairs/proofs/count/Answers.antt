@@ -1,6 +1,6 @@
+-- `address_pairs::count` meets its contract: a count above sixteen is sixteen. Assumes nothing.
 use native.Mathlib.Omega.{arith}
 use Rattle.address_pairs.proofs.Looking.{counted}
-use borrow.Author.Rules.{rules}
 use Rattle.address_pairs.proofs.count.Goals as goal
 
 pub returns-then-n : goal.returns-then-n

@@ -1,8 +1,8 @@
+-- `address_pairs::is_full` meets its contract: the table is lent. Assumes nothing.
 use Prim.Native.Nat.{◌*◌}
 use Rattle.storage.proofs.Parts.{range_size}
 use Rattle.address_pairs.specs.AddressPairs.{pairs_length}
 use Rattle.address_pairs.proofs.Tables.{table_at}
-use borrow.Author.Rules.{rules}
 use Rattle.address_pairs.proofs.is_full.Goals as goal
 
 pub returns : goal.returns

@@ -1,8 +1,7 @@
-use Prim.Native.Nat.{◌-◌}
+-- `address_pairs::look_up` meets its contract: the pairs are compared one after the other. Assumes nothing.
 use mathlib.Core.Path.{sym, ◌∙◌}
 use native.Mathlib.Omega.{arith}
-use borrow.Author.Rules.{rules}
-use Rattle.address_pairs.proofs.Looking.{Seeking, start, other, found, done}
+use Rattle.address_pairs.proofs.Looking.{start, other, found, done}
 use Rattle.address_pairs.proofs.look_up.Goals as goal
 
 pub loop-i-init : goal.loop-i-init

@@ -1,8 +1,6 @@
+-- `address_pairs::look_up` meets its contract: the pairs are compared one after the other. Assumes nothing.
 use Prim.Native.Nat.{◌-◌}
-use mathlib.Core.Path.{sym, ◌∙◌}
-use native.Mathlib.Omega.{arith}
-use borrow.Author.Rules.{rules}
-use Rattle.address_pairs.proofs.Looking.{Seeking, start, other, found, done}
+use Rattle.address_pairs.proofs.Looking.{Seeking}
 use Rattle.address_pairs.proofs.look_up.Given as goal
 
 abbrev pub invariant-loop-i : goal.invariant-loop-i

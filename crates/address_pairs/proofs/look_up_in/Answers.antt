@@ -1,8 +1,8 @@
+-- `address_pairs::look_up_in` meets its contract: the table is lent. Assumes nothing.
 use Prim.Native.Nat.{◌*◌}
 use Rattle.storage.proofs.Parts.{range_size}
 use Rattle.address_pairs.specs.AddressPairs.{pairs_length}
 use Rattle.address_pairs.proofs.Tables.{table_at}
-use borrow.Author.Rules.{rules}
 use Rattle.address_pairs.proofs.look_up_in.Goals as goal
 
 pub returns : goal.returns

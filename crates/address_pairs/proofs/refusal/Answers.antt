@@ -1,7 +1,7 @@
+-- `address_pairs::refusal` meets its contract: by the tests on the way. Assumes nothing.
 use mathlib.Core.Path.{sym, ◌∙◌}
 use Rattle.address_pairs.specs.AddressPairs.{tables_of}
 use Rattle.address_pairs.proofs.Adding.{outer_wrong, inner_wrong, inner_twice, outer_twice, table_full, none_applies_lem}
-use borrow.Author.Rules.{rules}
 use Rattle.address_pairs.proofs.refusal.Goals as goal
 
 pub returns-then-outer-ge-ADDRESSES : goal.returns-then-outer-ge-ADDRESSES

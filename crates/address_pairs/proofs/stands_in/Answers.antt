@@ -1,9 +1,9 @@
+-- `address_pairs::stands_in` meets its contract: it stands there if a look-up gives something. Assumes nothing.
 use mathlib.Core.List.{[]}
 use Prim.Native.Nat.{◌-◌}
 use lib.ListN.{get_or}
 use Rattle.address_pairs.specs.AddressPairs.{tables_of}
 use Rattle.address_pairs.proofs.Looking.{missing, given}
-use borrow.Author.Rules.{rules}
 use Rattle.address_pairs.proofs.stands_in.Goals as goal
 
 pub returns-in-Missing : goal.returns-in-Missing

@@ -1,5 +1,5 @@
+-- `addresses::four_others` meets its contract: each of the four words was compared. Assumes nothing.
 use mathlib.Core.Bool.{false≢true}
-use native.Mathlib.Omega.{arith}
 use Rattle.addresses.proofs.Skipping.{four_read}
 use borrow.Author.Rules.{rules}
 use Rattle.addresses.proofs.four_others.Goals as goal

@@ -1,3 +1,4 @@
+-- `addresses::holder` meets its contract: the two words read are the place. Assumes nothing.
 use borrow.Author.Rules.{rules}
 use Rattle.addresses.proofs.Words.{free_read, held_read}
 use Rattle.addresses.proofs.holder.Goals as goal

@@ -1,3 +1,4 @@
+-- `addresses::is_held_by` meets its contract: a NAME found beside a port holds the place. Assumes nothing.
 use borrow.Author.Rules.{rules}
 use Rattle.addresses.proofs.Words.{by_found, by_absent}
 use Rattle.addresses.proofs.is_held_by.Goals as goal

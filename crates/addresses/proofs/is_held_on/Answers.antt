@@ -1,3 +1,4 @@
+-- `addresses::is_held_on` meets its contract: a place has the port that its word says, and 0 is none. Assumes nothing.
 use borrow.Author.Rules.{rules}
 use Rattle.addresses.proofs.Words.{on_found, on_absent}
 use Rattle.addresses.proofs.is_held_on.Goals as goal

@@ -1,8 +1,6 @@
-use mathlib.Core.Logic.{⊎_elim}
-use Prim.Native.Nat.{◌-◌}
+-- `addresses::list_on` meets its contract. The loop's invariant is `Written`: the addresses passed are listed, the rest of the buffer is as it was. Assumes nothing.
 use native.Mathlib.Omega.{arith}
-use Rattle.addresses.specs.Table.{places}
-use Rattle.addresses.proofs.Listing.{Written, written_start, written_not, written_except, written_one, written_others, written_done}
+use Rattle.addresses.proofs.Listing.{written_start, written_not, written_except, written_one, written_others, written_done}
 use Rattle.addresses.proofs.list_on.Goals.{else-is_held_on, then-is_held_on+else-address-except, then-is_held_on+then-address-except}
 use Rattle.addresses.proofs.list_on.Goals as goal
 

@@ -1,8 +1,7 @@
-use mathlib.Core.Logic.{⊎_elim}
+-- `addresses::list_on` meets its contract. The loop's invariant is `Written`: the addresses passed are listed, the rest of the buffer is as it was. Assumes nothing.
 use Prim.Native.Nat.{◌-◌}
-use native.Mathlib.Omega.{arith}
 use Rattle.addresses.specs.Table.{places}
-use Rattle.addresses.proofs.Listing.{Written, written_start, written_not, written_except, written_one, written_others, written_done}
+use Rattle.addresses.proofs.Listing.{Written}
 use Rattle.addresses.proofs.list_on.Given as goal
 
 abbrev pub invariant-loop-address : goal.invariant-loop-address

@@ -1,7 +1,5 @@
-use Prim.Native.Nat.{◌-◌}
+-- `addresses::past_others` meets its contract: a loop that passes over four others at a time. Assumes nothing.
 use native.Mathlib.Omega.{arith}
-use Rattle.addresses.specs.Table.{places}
-use Rattle.addresses.specs.Steps.{Skipping}
 use Rattle.addresses.proofs.Skipping.{skip_none, skip_four}
 use Rattle.addresses.proofs.past_others.Goals as goal
 

@@ -1,8 +1,7 @@
+-- `addresses::past_others` meets its contract: a loop that passes over four others at a time. Assumes nothing.
 use Prim.Native.Nat.{◌-◌}
-use native.Mathlib.Omega.{arith}
 use Rattle.addresses.specs.Table.{places}
 use Rattle.addresses.specs.Steps.{Skipping}
-use Rattle.addresses.proofs.Skipping.{skip_none, skip_four}
 use Rattle.addresses.proofs.past_others.Given as goal
 
 abbrev pub invariant-loop-address : goal.invariant-loop-address

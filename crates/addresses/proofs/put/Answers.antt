@@ -1,3 +1,4 @@
+-- `addresses::put` meets its contract: the two words stored are the place. Assumes nothing.
 use native.Mathlib.Omega.{arith}
 use lib.ListN.{length-set}
 use borrow.Author.Rules.{rules}

@@ -1,4 +1,4 @@
-use borrow.Author.Rules.{rules}
+-- `addresses::release` meets its contract: a place of two zeros is free. Assumes nothing.
 use Rattle.addresses.specs.Table.{place_from}
 use Rattle.addresses.proofs.release.Goals as goal
 

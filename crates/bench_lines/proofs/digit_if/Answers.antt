@@ -1,4 +1,4 @@
-use borrow.Author.Rules.{rules}
+-- `digit_if` meets its contract: by the test. Assumes nothing.
 use native.Mathlib.Omega.{arith}
 use borrow.Author.Tests.{eq-eqb, ne_eqb}
 use Rattle.text.proofs.Writing.{writing_none}

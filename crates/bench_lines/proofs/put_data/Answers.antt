@@ -1,4 +1,4 @@
-use borrow.Author.Rules.{rules}
+-- `put_data` meets its contract: nothing, or a blank and the bytes. Assumes nothing.
 use native.Mathlib.Omega.{arith}
 use Rattle.text.proofs.Writing.{writing_join}
 use borrow.Author.Tests.{eq-eqb, ne_eqb}

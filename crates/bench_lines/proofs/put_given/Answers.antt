@@ -1,3 +1,4 @@
+-- `put_given` meets its contract: four texts, one after the other. Assumes nothing.
 use borrow.Author.Rules.{rules}
 use native.Mathlib.Omega.{arith}
 use Rattle.text.proofs.Writing.{writing_join}

@@ -1,3 +1,4 @@
+-- `put_id` meets its contract: three texts, one after the other. Assumes nothing.
 use borrow.Author.Rules.{rules}
 use native.Mathlib.Omega.{arith}
 use Rattle.text.proofs.Writing.{writing_join}

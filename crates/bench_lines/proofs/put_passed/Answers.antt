@@ -1,4 +1,4 @@
-use borrow.Author.Rules.{rules}
+-- `put_passed` meets its contract: five texts, one after the other. Assumes nothing.
 use native.Mathlib.Omega.{arith}
 use Rattle.text.proofs.Writing.{writing_join}
 use Rattle.bench_lines.specs.Lines.{passed_text}

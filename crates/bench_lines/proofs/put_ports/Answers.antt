@@ -1,4 +1,4 @@
-use borrow.Author.Rules.{rules}
+-- `put_ports` meets its contract: a digit for each port, or -. Assumes nothing.
 use native.Mathlib.Omega.{arith}
 use Rattle.text.proofs.Writing.{writing_join}
 use Rattle.bench_lines.specs.Lines.{ports_text}

@@ -1,4 +1,4 @@
-use borrow.Author.Rules.{rules}
+-- `put_refused` meets its contract: three texts, one after the other. Assumes nothing.
 use native.Mathlib.Omega.{arith}
 use Rattle.text.proofs.Writing.{writing_join}
 use Rattle.text.proofs.Digits.{decimal_long}

@@ -1,4 +1,4 @@
-use borrow.Author.Rules.{rules}
+-- `put_taken` meets its contract: by what was taken. Assumes nothing.
 use Rattle.bench_lines.proofs.put_taken.Goals as goal
 
 pub returns-in-Given : goal.returns-in-Given

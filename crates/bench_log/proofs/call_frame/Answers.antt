@@ -1,5 +1,5 @@
+-- `call_frame` meets its contract: the parts of the record. Assumes nothing.
 use Rattle.bench_log.proofs.Steps.{long_bytes, short_bytes}
-use borrow.Author.Rules.{rules}
 use Rattle.bench_log.proofs.call_frame.Goals as goal
 
 pub returns-then-len-gt8 : goal.returns-then-len-gt8

@@ -1,5 +1,5 @@
+-- `call_long` meets its contract: so many zeros. Assumes nothing.
 use Rattle.bench_log.proofs.Steps.{zeros}
-use borrow.Author.Rules.{rules}
 use Rattle.bench_log.proofs.call_long.Goals as goal
 
 pub returns : goal.returns

@@ -1,4 +1,4 @@
-use borrow.Author.Rules.{rules}
+-- `cut` meets its contract: by whether anything follows. Assumes nothing.
 use Rattle.bench_log.proofs.Steps.{cut_last, cut_more}
 use Rattle.bench_log.proofs.cut.Goals as goal
 

@@ -1,4 +1,4 @@
-use borrow.Author.Rules.{rules}
+-- `do_frame` meets its contract: the call, then its line. Assumes nothing.
 use Rattle.bench_log.proofs.Steps.{frame_done_lem}
 use Rattle.bench_log.proofs.do_frame.Goals as goal
 

@@ -1,4 +1,4 @@
-use borrow.Author.Rules.{rules}
+-- `do_take` meets its contract: the call, then its line. Assumes nothing.
 use Rattle.bench_log.proofs.Steps.{take_done}
 use Rattle.bench_log.proofs.do_take.Goals as goal
 

@@ -1,4 +1,4 @@
-use borrow.Author.Rules.{rules}
+-- `put_frame` meets its contract: by the refusal. Assumes nothing.
 use borrow.Author.Tests.{eq-eqb, ne_eqb}
 use Rattle.bench_log.proofs.put_frame.Goals as goal
 

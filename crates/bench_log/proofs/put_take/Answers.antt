@@ -1,4 +1,4 @@
-use borrow.Author.Rules.{rules}
+-- `put_take` meets its contract: by the answer. Assumes nothing.
 use Rattle.bench_log.proofs.put_take.Goals as goal
 
 pub returns-in-Refused : goal.returns-in-Refused

@@ -1,12 +1,8 @@
-use mathlib.Core.Path.{◌≡◌}
+-- `run` meets its contract: the steps so far are a run once the rest is run behind them. Assumes nothing.
 use mathlib.Core.Bool.{cond}
-use Prim.Native.Nat.{◌+◌, ◌-◌, ◌*◌, ◌≤◌}
-use native.Mathlib.Omega.{arith}
-use borrow.Author.Rules.{rules}
-use borrow.Author.Tests.{ltb-true}
+use Prim.Native.Nat.{◌+◌, ◌-◌, ◌*◌}
 use lib.ListN.{length}
-use Rattle.bench_records.proofs.Turns.{turns_fall, part_long}
-use Rattle.bench_log.proofs.Pieces.{Going, going_none, going_step, going_done}
+use Rattle.bench_log.proofs.Pieces.{Going}
 use Rattle.bench_log.proofs.run.Given as goal
 
 abbrev pub invariant-loop-going : goal.invariant-loop-going

@@ -1,5 +1,4 @@
-use mathlib.Core.Path.{◌≡◌, sym, ◌∙◌}
-use native.Mathlib.Omega.{arith}
+-- `step` meets its contract: by the room, the log and its kind. Assumes nothing.
 use Rattle.bench_log.proofs.Steps.{no_room, at_end, at_unknown}
 use Rattle.bench_records.proofs.Numbers.{number_unknown}
 use borrow.Author.Rules.{rules}

@@ -1,4 +1,4 @@
-use mathlib.Core.Path.{◌≡◌, sym, ◌∙◌}
+-- `step_take` meets its contract: cut, or done. Assumes nothing.
 use native.Mathlib.Omega.{arith}
 use Rattle.bench_log.proofs.Steps.{at_cut, at_take}
 use Rattle.bench_records.proofs.Numbers.{number_cut_take}

@@ -1,4 +1,4 @@
-use borrow.Author.Rules.{rules}
+-- `arrival_of` meets its contract: part by part. Assumes nothing.
 use Rattle.bench_records.specs.Records.{arrival_of}
 use Rattle.bench_records.proofs.arrival_of.Goals as goal
 

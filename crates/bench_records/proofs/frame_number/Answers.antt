@@ -1,4 +1,4 @@
-use borrow.Author.Rules.{rules}
+-- `frame_number` meets its contract: by the tests on the way. Assumes nothing.
 use borrow.Author.Tests.{lt-ltb, le-ltb, eq-eqb, ne_eqb}
 use Rattle.bench_records.proofs.frame_number.Goals as goal
 

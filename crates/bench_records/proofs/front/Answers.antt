@@ -1,5 +1,4 @@
-use mathlib.Core.Path.{refl}
-use borrow.Author.Rules.{rules}
+-- `front` meets its contract: by the length and the kind. Assumes nothing.
 use Rattle.bench_records.proofs.Numbers.{front_frame, front_take, front_unknown, empty_unknown, number_unknown}
 use Rattle.bench_records.proofs.front.Goals as goal
 

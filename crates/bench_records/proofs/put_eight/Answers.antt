@@ -1,12 +1,9 @@
-use mathlib.Core.Path.{◌≡◌}
-use Prim.Native.Nat.{◌+◌, ◌-◌, ◌≤◌}
-use lib.ListN.{length, take}
+-- `put_eight` meets its contract. The invariant: the bytes passed are written. Assumes nothing.
 use lib.Seq.{take_all}
 use borrow.Author.Rules.{rules}
 use native.Mathlib.Omega.{arith}
 use Rattle.storage.specs.Bytes.{bytes_of}
 use Rattle.storage.proofs.Bytes.{bytes_of_length}
-use Rattle.text.specs.Writing.{Writing}
 use Rattle.text.proofs.Writing.{writing_none, copy_more}
 use Rattle.bench_records.proofs.put_eight.Goals as goal
 

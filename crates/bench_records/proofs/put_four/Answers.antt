@@ -1,4 +1,4 @@
-use borrow.Author.Rules.{rules}
+-- `put_four` meets its contract: four bytes, one after the other. Assumes nothing.
 use native.Mathlib.Omega.{arith}
 use Rattle.text.proofs.Writing.{writing_join}
 use Rattle.bench_records.proofs.put_four.Goals as goal

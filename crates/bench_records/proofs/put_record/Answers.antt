@@ -1,4 +1,4 @@
-use borrow.Author.Rules.{rules}
+-- `put_record` meets its contract: its parts, one after the other. Assumes nothing.
 use native.Mathlib.Omega.{arith}
 use Rattle.text.proofs.Writing.{writing_join}
 use Rattle.storage.proofs.Bytes.{bytes_of_length}

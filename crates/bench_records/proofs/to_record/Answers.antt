@@ -1,7 +1,7 @@
-use mathlib.Core.Path.{◌≡◌, sym, ◌∙◌}
+-- `to_record` meets its contract: refused, or the record of the frame that the line is. Assumes nothing.
+use mathlib.Core.Path.{sym, ◌∙◌}
 use native.Mathlib.Omega.{arith}
 use Rattle.bench_records.proofs.Records.{record_no_room, record_refused, record_written, read_good}
-use borrow.Author.Rules.{rules}
 use Rattle.bench_records.proofs.to_record.Goals as goal
 
 pub returns-then-out-lt-FRAME_SIZE : goal.returns-then-out-lt-FRAME_SIZE

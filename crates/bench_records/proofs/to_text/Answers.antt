@@ -1,6 +1,4 @@
-use borrow.Author.Rules.{rules}
-use native.Mathlib.Omega.{arith}
-use mathlib.Core.Path.{◌≡◌, sym, ◌∙◌}
+-- `to_text` meets its contract: refused, or the line of the record. Assumes nothing.
 use Rattle.bench_records.proofs.Records.{frame_whole, text_refused, text_written}
 use Rattle.bench_records.proofs.to_text.Goals as goal
 

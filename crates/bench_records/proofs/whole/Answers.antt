@@ -1,3 +1,4 @@
+-- `whole` meets its contract: by the length. Assumes nothing.
 use borrow.Author.Tests.{lt-ltb, le-ltb}
 use Rattle.bench_records.proofs.whole.Goals as goal
 

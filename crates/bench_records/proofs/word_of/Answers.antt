@@ -1,5 +1,5 @@
-use borrow.Author.Rules.{rules}
-use mathlib.Core.Path.{◌≡◌, sym, ◌∙◌}
+-- `word_of` meets its contract: the bytes up to the length, or all eight. Assumes nothing.
+use mathlib.Core.Path.{◌∙◌}
 use Rattle.bench_records.proofs.Records.{word_long, word_short}
 use Rattle.bench_records.proofs.word_of.Goals as goal
 

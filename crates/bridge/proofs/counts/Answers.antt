@@ -1,9 +1,9 @@
+-- `bridge::counts` meets its contract, by what the refusal and the read of the queue ensure. Assumes nothing.
 use mathlib.Core.Path.{sym, ◌∙◌}
 use native.Mathlib.Omega.{arith}
 use lib.ListN.{length}
 use Rattle.refusals.proofs.Checks.{take_goes}
 use Rattle.bridge.proofs.Answers.{counts_refused_lem, counts_read}
-use borrow.Author.Rules.{rules}
 use Rattle.bridge.proofs.counts.Goals as goal
 
 pub returns-then-number-ne0 : goal.returns-then-number-ne0

@@ -1,10 +1,10 @@
+-- `bridge::frame` meets its contract: refused, or passed on as it was handed in. Assumes nothing.
 use mathlib.Core.Path.{refl, sym, ◌∙◌}
 use native.Mathlib.Omega.{arith}
 use lib.ListN.{length}
 use Rattle.refusals.proofs.Checks.{frame_goes}
 use Rattle.claims.proofs.Frames.{frame_is}
 use Rattle.bridge.proofs.Passes.{frame_refused_lem, frame_passed_lem}
-use borrow.Author.Rules.{rules}
 use Rattle.bridge.proofs.frame.Goals as goal
 
 pub returns-then-number-ne0 : goal.returns-then-number-ne0

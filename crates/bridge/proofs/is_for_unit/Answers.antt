@@ -1,5 +1,5 @@
+-- `bridge::is_for_unit` meets its contract: no frame without a destination is consumed. Assumes nothing.
 use Rattle.unit.specs.Own.{consumes}
-use borrow.Author.Rules.{rules}
 use Rattle.bridge.proofs.is_for_unit.Goals as goal
 
 pub returns-then-has_destination : goal.returns-then-has_destination

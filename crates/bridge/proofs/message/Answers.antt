@@ -1,3 +1,4 @@
+-- `bridge::message` meets its contract: refused before the payload is read, or what it asks is done and answered. Assumes nothing.
 use mathlib.Core.Path.{sym, ◌∙◌}
 use native.Mathlib.Omega.{arith}
 use lib.ListN.{length}
@@ -5,7 +6,6 @@ use Rattle.network_message.proofs.Decoding.{decoded_good}
 use Rattle.unit.specs.Model.{model_of}
 use Rattle.refusals.proofs.Checks.{message_goes}
 use Rattle.bridge.proofs.MessageLaws.{message_refused, message_done}
-use borrow.Author.Rules.{rules}
 use Rattle.bridge.proofs.message.Goals as goal
 
 pub returns-then-number-ne0 : goal.returns-then-number-ne0

@@ -1,5 +1,5 @@
+-- `bridge::pass` meets its contract: shared out, then acted on. Assumes nothing.
 use Rattle.bridge.proofs.Passes.{passed}
-use borrow.Author.Rules.{rules}
 use Rattle.bridge.proofs.pass.Goals as goal
 
 pub returns : goal.returns

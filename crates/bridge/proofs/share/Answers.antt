@@ -1,5 +1,5 @@
+-- `bridge::share` meets its contract: forwarded, or left. Assumes nothing.
 use Rattle.bridge.proofs.Passes.{kept_still, shared}
-use borrow.Author.Rules.{rules}
 use Rattle.bridge.proofs.share.Goals as goal
 
 pub returns-then-consumed : goal.returns-then-consumed

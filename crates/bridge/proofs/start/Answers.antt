@@ -1,8 +1,8 @@
+-- `bridge::start` meets its contract, by the way that the code went. Assumes nothing.
 use mathlib.Core.Path.{sym, ◌∙◌}
 use native.Mathlib.Omega.{arith}
 use Rattle.refusals.proofs.Checks.{start_goes}
 use Rattle.bridge.proofs.Passes.{start_short, start_refused_lem, start_done}
-use borrow.Author.Rules.{rules}
 use Rattle.bridge.proofs.start.Goals as goal
 
 pub returns-then-words-record_length : goal.returns-then-words-record_length

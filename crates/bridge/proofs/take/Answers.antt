@@ -1,9 +1,9 @@
+-- `bridge::take` meets its contract, by what the refusal and the take on the queue ensure. Assumes nothing.
 use mathlib.Core.Path.{sym, ◌∙◌}
 use native.Mathlib.Omega.{arith}
 use lib.ListN.{length}
 use Rattle.refusals.proofs.Checks.{take_goes}
 use Rattle.bridge.proofs.Answers.{take_refused, taken}
-use borrow.Author.Rules.{rules}
 use Rattle.bridge.proofs.take.Goals as goal
 
 pub returns-then-number-ne0 : goal.returns-then-number-ne0

@@ -1,9 +1,9 @@
+-- `bridge::unit` meets its contract, by what reading the unit ensures; its number of ports is the record's. Assumes nothing.
 use mathlib.Core.Path.{sym, ap, ◌∙◌}
 use Rattle.unit.specs.declared.Unit.{Unit}
 use Rattle.unit.specs.Model.{model_of}
 use Rattle.unit.proofs.Own.{own_ports}
 use Rattle.bridge.proofs.Answers.{unit_short, unit_read}
-use borrow.Author.Rules.{rules}
 use Rattle.bridge.proofs.unit.Goals as goal
 
 pub returns-then-words-record_length : goal.returns-then-words-record_length

@@ -1,4 +1,4 @@
-use borrow.Author.Rules.{rules}
+-- `arrival_in` meets its contract: part by part. Assumes nothing.
 use Rattle.candump.specs.Line.{arrival_in}
 use Rattle.candump.proofs.arrival_in.Goals as goal
 

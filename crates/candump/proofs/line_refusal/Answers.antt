@@ -1,3 +1,4 @@
+-- `line_refusal` meets its contract: by the tests on the way. Assumes nothing.
 use borrow.Author.Tests.{lt-ltb, le-ltb, le-leb, lt-leb}
 use Rattle.candump.specs.Calls.{line_refusal}
 use Rattle.candump.proofs.line_refusal.Goals as goal

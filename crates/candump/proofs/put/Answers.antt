@@ -1,4 +1,4 @@
-use borrow.Author.Rules.{rules}
+-- `put` meets its contract: the head and the tail. Assumes nothing.
 use native.Mathlib.Omega.{arith}
 use Rattle.candump.specs.Line.{written}
 use Rattle.text.proofs.Writing.{writing_join}

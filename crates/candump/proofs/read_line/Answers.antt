@@ -1,6 +1,5 @@
-use borrow.Author.Rules.{rules}
-use native.Mathlib.Omega.{arith}
-use mathlib.Core.Path.{◌≡◌, sym, ap, ◌∙◌}
+-- `read_line` meets its contract: by the tests on the way. Assumes nothing.
+use mathlib.Core.Path.{sym, ◌∙◌}
 use Rattle.candump.specs.Line.{is_frame}
 use Rattle.candump.proofs.Lines.{short_line, long_line, frame_parts, shows_part, read_refused, read_frame, no_frame_lem, not_written}
 use Rattle.candump.proofs.read_line.Goals as goal

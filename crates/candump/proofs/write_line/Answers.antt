@@ -1,6 +1,5 @@
-use borrow.Author.Rules.{rules}
-use native.Mathlib.Omega.{arith}
-use mathlib.Core.Path.{◌≡◌, sym, ◌∙◌}
+-- `write_line` meets its contract: refused, or the whole line. Assumes nothing.
+use mathlib.Core.Path.{sym, ◌∙◌}
 use Rattle.candump.proofs.Lines.{goes, line_refused, line_written}
 use Rattle.candump.proofs.write_line.Goals as goal
 

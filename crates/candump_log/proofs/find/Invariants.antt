@@ -1,6 +1,5 @@
-use mathlib.Core.Path.{◌≡◌}
+-- `find` meets its contract: the place stays within the text. Assumes nothing.
 use Prim.Native.Nat.{◌-◌, ◌≤◌}
-use borrow.Author.Rules.{rules}
 use lib.ListN.{length}
 use Rattle.candump_log.proofs.find.Given as goal
 

@@ -1,6 +1,5 @@
-use mathlib.Core.Path.{◌≡◌}
+-- `is_same` meets its contract: the measure is what is left of the word. Assumes nothing.
 use Prim.Native.Nat.{◌-◌, ◌≤◌}
-use borrow.Author.Rules.{rules}
 use lib.ListN.{length}
 use Rattle.candump_log.proofs.is_same.Given as goal
 

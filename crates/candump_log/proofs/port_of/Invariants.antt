@@ -1,6 +1,5 @@
-use mathlib.Core.Path.{◌≡◌}
+-- `port_of` meets its contract: the place moves on with every item. Assumes nothing.
 use Prim.Native.Nat.{◌+◌, ◌-◌, ◌≤◌}
-use borrow.Author.Rules.{rules}
 use lib.ListN.{length}
 use Rattle.candump_log.proofs.port_of.Given as goal
 

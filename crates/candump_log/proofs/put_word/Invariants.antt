@@ -1,6 +1,6 @@
+-- `put_word` meets its contract: every place lies in the buffer. Assumes nothing.
 use mathlib.Core.Path.{◌≡◌}
 use Prim.Native.Nat.{◌-◌, ◌≤◌}
-use borrow.Author.Rules.{rules}
 use lib.ListN.{length}
 use Rattle.candump_log.proofs.put_word.Given as goal
 

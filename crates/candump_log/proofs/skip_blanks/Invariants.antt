@@ -1,6 +1,5 @@
-use mathlib.Core.Path.{◌≡◌}
+-- `skip_blanks` meets its contract: the place stays within the text. Assumes nothing.
 use Prim.Native.Nat.{◌-◌, ◌≤◌}
-use borrow.Author.Rules.{rules}
 use lib.ListN.{length}
 use Rattle.candump_log.proofs.skip_blanks.Given as goal
 

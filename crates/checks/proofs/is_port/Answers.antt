@@ -1,3 +1,4 @@
+-- `checks::is_port` meets its contract: by the tests on the way. Assumes nothing.
 use borrow.Author.Tests.{le-leb, lt-leb}
 use Rattle.checks.specs.Ports.{is_port}
 use Rattle.checks.proofs.is_port.Goals as goal

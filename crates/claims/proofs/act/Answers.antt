@@ -1,6 +1,6 @@
+-- `claims::act` meets its contract: by what the frame is. Assumes nothing.
 use mathlib.Core.Path.{refl, sym, ◌∙◌}
 use Rattle.claims.proofs.Acts.{claim_acted_lem, request_acted, not_acted}
-use borrow.Author.Rules.{rules}
 use Rattle.claims.proofs.act.Goals as goal
 
 pub returns-then-is_claim : goal.returns-then-is_claim

@@ -1,5 +1,5 @@
+-- `claims::act_on_claim` meets its contract, by the way that the code went. Assumes nothing.
 use Rattle.claims.proofs.Acts.{own_claim, withdrawal, contesting, claiming}
-use borrow.Author.Rules.{rules}
 use Rattle.claims.proofs.act_on_claim.Goals as goal
 
 pub returns-then-name-unit : goal.returns-then-name-unit

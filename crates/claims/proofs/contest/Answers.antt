@@ -1,7 +1,7 @@
+-- `claims::contest` meets its contract: defended or displaced. Assumes nothing.
 use native.Mathlib.Omega.{arith}
 use Rattle.unit.proofs.Own.{moved_count}
 use Rattle.claims.proofs.Acts.{defended, displaced}
-use borrow.Author.Rules.{rules}
 use Rattle.claims.proofs.contest.Goals as goal
 
 pub returns-then-unit-name : goal.returns-then-unit-name

@@ -1,8 +1,8 @@
+-- `claims::is_claim` meets its contract: by the tests on the way. Assumes nothing.
 use mathlib.Core.Path.{sym, ◌∙◌}
 use borrow.Author.Tests.{eq-eqb, ne_eqb}
 use Rattle.identifier.specs.Identifier.{pgn_of, ps_of}
 use Rattle.claims.specs.Claims.{is_claim}
-use borrow.Author.Rules.{rules}
 use Rattle.claims.proofs.is_claim.Goals as goal
 
 pub returns-then-pgn-ne-ADDRESS_CLAIMED : goal.returns-then-pgn-ne-ADDRESS_CLAIMED

@@ -1,4 +1,4 @@
-use borrow.Author.Rules.{rules}
+-- `claims::is_held_under` meets its contract: by cases of who holds the address. Assumes nothing.
 use Rattle.claims.proofs.is_held_under.Goals as goal
 
 pub returns-in-Free : goal.returns-in-Free

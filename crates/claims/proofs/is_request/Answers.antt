@@ -1,9 +1,9 @@
+-- `claims::is_request` meets its contract: by the tests on the way. Assumes nothing.
 use mathlib.Core.Path.{sym, ◌∙◌}
 use borrow.Author.Tests.{eq-eqb, ne_eqb}
 use Rattle.storage.specs.Bytes.{packed}
 use Rattle.identifier.specs.Identifier.{pgn_of}
 use Rattle.claims.specs.Claims.{is_request}
-use borrow.Author.Rules.{rules}
 use Rattle.claims.proofs.is_request.Goals as goal
 
 pub returns-then-pgn-ne-REQUEST : goal.returns-then-pgn-ne-REQUEST

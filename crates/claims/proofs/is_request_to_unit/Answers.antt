@@ -1,5 +1,5 @@
+-- `claims::is_request_to_unit` meets its contract: by the tests on the way. Assumes nothing.
 use Rattle.claims.specs.Claims.{is_request_to_unit}
-use borrow.Author.Rules.{rules}
 use Rattle.claims.proofs.is_request_to_unit.Goals as goal
 
 pub returns-then-consumed : goal.returns-then-consumed

@@ -1,8 +1,8 @@
+-- `claims::start` meets its contract: the address is held under a lower NAME, or it is claimed. Assumes nothing.
 use Prim.Native.Nat.{◌<◌}
 use native.Mathlib.Omega.{arith}
 use Rattle.unit.proofs.Own.{moved_count}
 use Rattle.claims.proofs.Acts.{start_lost, start_claiming}
-use borrow.Author.Rules.{rules}
 use Rattle.claims.proofs.start.Goals as goal
 
 pub is_held_under-requires : goal.is_held_under-requires

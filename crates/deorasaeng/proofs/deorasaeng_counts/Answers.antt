@@ -1,6 +1,6 @@
+-- `deorasaeng_counts` meets its contract, by what `bridge::counts` ensures. Assumes nothing.
 use native.Mathlib.Omega.{arith}
 use Rattle.deorasaeng.proofs.Calls.{counts_wrong, counts_refused_lem, counts_done}
-use borrow.Author.Rules.{rules}
 use Rattle.deorasaeng.proofs.deorasaeng_counts.Goals as goal
 
 pub returns-then-answer-ne-COUNTS_WORDS : goal.returns-then-answer-ne-COUNTS_WORDS

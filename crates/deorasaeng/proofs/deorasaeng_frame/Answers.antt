@@ -1,6 +1,6 @@
+-- `deorasaeng_frame` meets its contract, by what `bridge::frame` ensures. Assumes nothing.
 use native.Mathlib.Omega.{arith}
 use Rattle.deorasaeng.proofs.Calls.{frame_wrong, frame_refused_lem, frame_done_lem}
-use borrow.Author.Rules.{rules}
 use Rattle.deorasaeng.proofs.deorasaeng_frame.Goals as goal
 
 pub returns-then-answer-ne-FRAME_WORDS : goal.returns-then-answer-ne-FRAME_WORDS

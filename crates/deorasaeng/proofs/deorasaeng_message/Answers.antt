@@ -1,9 +1,9 @@
+-- `deorasaeng_message` meets its contract, by what `bridge::message` ensures. Assumes nothing.
 use mathlib.Core.List.{[], ◌∷◌}
 use native.Mathlib.Omega.{arith}
 use lib.ListN.{length-set}
 use Rattle.flat_answers.proofs.Words.{stored}
 use Rattle.deorasaeng.proofs.Calls.{message_wrong, message_done}
-use borrow.Author.Rules.{rules}
 use Rattle.deorasaeng.proofs.deorasaeng_message.Goals as goal
 
 pub returns-then-answer-ne-MESSAGE_WORDS : goal.returns-then-answer-ne-MESSAGE_WORDS

@@ -1,4 +1,4 @@
-use borrow.Author.Rules.{rules}
+-- `deorasaeng_plan` meets its contract: the plan's answer is handed on. Assumes nothing.
 use Rattle.deorasaeng.proofs.deorasaeng_plan.Goals as goal
 
 pub returns : goal.returns

@@ -1,10 +1,10 @@
+-- `deorasaeng_start` meets its contract, by what `bridge::start` ensures. Assumes nothing.
 use mathlib.Core.Path.{◌∙◌}
 use mathlib.Core.List.{[], ◌∷◌}
 use native.Mathlib.Omega.{arith}
 use lib.ListN.{length-set}
 use Rattle.flat_answers.proofs.Words.{stored}
 use Rattle.deorasaeng.proofs.Calls.{start_wrong, start_refused_lem, start_done}
-use borrow.Author.Rules.{rules}
 use Rattle.deorasaeng.proofs.deorasaeng_start.Goals as goal
 
 pub returns-then-answer-ne-START_WORDS : goal.returns-then-answer-ne-START_WORDS

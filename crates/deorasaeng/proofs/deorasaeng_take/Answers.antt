@@ -1,5 +1,5 @@
+-- `deorasaeng_take` meets its contract, by what `bridge::take` ensures. Assumes nothing.
 use Rattle.deorasaeng.proofs.Calls.{take_wrong, take_wrong_bytes, take_left, take_told}
-use borrow.Author.Rules.{rules}
 use Rattle.deorasaeng.proofs.deorasaeng_take.Goals as goal
 
 pub returns-then-answer-ne-TAKE_WORDS : goal.returns-then-answer-ne-TAKE_WORDS

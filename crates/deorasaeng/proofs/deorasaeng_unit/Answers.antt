@@ -1,5 +1,5 @@
+-- `deorasaeng_unit` meets its contract, by what `bridge::unit` ensures. Assumes nothing.
 use Rattle.deorasaeng.proofs.Calls.{unit_wrong, unit_left, unit_told}
-use borrow.Author.Rules.{rules}
 use Rattle.deorasaeng.proofs.deorasaeng_unit.Goals as goal
 
 pub returns-then-answer-ne-UNIT_WORDS : goal.returns-then-answer-ne-UNIT_WORDS

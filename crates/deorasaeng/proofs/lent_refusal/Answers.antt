@@ -1,5 +1,4 @@
-use borrow.Author.Rules.{rules}
-use borrow.Author.Tests.{not-true, not-false}
+-- `lent_refusal` meets its contract: by the test on the way. Assumes nothing.
 use Rattle.deorasaeng.specs.Interface.{lent_refusal}
 use Rattle.deorasaeng.proofs.lent_refusal.Goals as goal
 

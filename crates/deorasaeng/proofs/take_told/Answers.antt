@@ -1,5 +1,5 @@
+-- `take_told` meets its contract, by what `Queue::take` ensures. Assumes nothing.
 use Rattle.deorasaeng.proofs.Calls.{queue_wrong, queue_wrong_bytes, queue_told}
-use borrow.Author.Rules.{rules}
 use Rattle.deorasaeng.proofs.take_told.Goals as goal
 
 pub returns-then-answer-ne-TAKE_WORDS : goal.returns-then-answer-ne-TAKE_WORDS

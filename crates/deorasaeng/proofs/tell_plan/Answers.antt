@@ -1,6 +1,6 @@
+-- `tell_plan` meets its contract: by the way that the code went. Assumes nothing.
 use native.Mathlib.Omega.{arith}
 use Rattle.deorasaeng.proofs.Tells.{tell_wrong, tell_heard, tell_refused}
-use borrow.Author.Rules.{rules}
 use Rattle.deorasaeng.proofs.tell_plan.Goals as goal
 
 pub returns-then-answer-ne-PLAN_WORDS : goal.returns-then-answer-ne-PLAN_WORDS

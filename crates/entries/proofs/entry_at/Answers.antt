@@ -1,7 +1,7 @@
+-- `entries::entry_at` meets its contract: entry i is the number at three times i. Assumes nothing.
 use mathlib.Core.Path.{sym, ◌∙◌}
 use native.Mathlib.Omega.{arith}
 use Rattle.entries.proofs.ThreeBytes.{entries_count, entry_is}
-use borrow.Author.Rules.{rules}
 use Rattle.entries.proofs.entry_at.Goals as goal
 
 pub overflow_mul-i : goal.overflow_mul-i

@@ -1,10 +1,9 @@
-use mathlib.Core.Path.{◌≡◌, sym, ◌∙◌}
-use Prim.Native.Nat.{◌+◌, ◌*◌, ◌-◌, ◌/◌, ◌≤◌, ◌<◌}
-use native.Mathlib.Omega.{arith}
-use borrow.Author.Rules.{rules}
+-- `entries::first_wrong` meets its contract: a walk over the entries that stops at the first which is no PGN. Assumes nothing.
+use mathlib.Core.Path.{◌≡◌}
+use Prim.Native.Nat.{◌*◌, ◌-◌, ◌/◌, ◌≤◌}
 use lib.ListN.{length}
-use Rattle.entries.specs.Entries.{entries_of, entry_at, first_wrong}
-use Rattle.entries.proofs.ThreeBytes.{entries_count, Judged, judged_none, judged_pgn, judged_wrong, judged_all}
+use Rattle.entries.specs.Entries.{entries_of, first_wrong}
+use Rattle.entries.proofs.ThreeBytes.{Judged}
 use Rattle.entries.proofs.first_wrong.Given as goal
 
 abbrev pub invariant-loop-at : goal.invariant-loop-at

@@ -1,9 +1,8 @@
+-- `entries::names` meets its contract: a loop over the entries that stops at the first one that is x. Assumes nothing.
 use mathlib.Core.Path.{refl, sym, ◌∙◌}
-use Prim.Native.Nat.{◌-◌}
 use native.Mathlib.Omega.{arith}
-use borrow.Author.Rules.{rules}
-use Rattle.entries.specs.Entries.{listed, entries_of}
-use Rattle.storage.proofs.Walk.{Left, left_all, left_none}
+use Rattle.entries.specs.Entries.{listed}
+use Rattle.storage.proofs.Walk.{left_all, left_none}
 use Rattle.entries.proofs.Listed.{named_here, named_not}
 use Rattle.entries.proofs.names.Goals as goal
 

@@ -1,8 +1,8 @@
+-- `entries::read_entry` meets its contract: each way out by the tests that led there. Assumes nothing.
 use mathlib.Core.Path.{sym, ◌∙◌}
 use mathlib.Core.Bool.{true, false}
 use native.Mathlib.Omega.{arith}
 use Rattle.entries.proofs.ThreeBytes.{entry_short, entry_read}
-use borrow.Author.Rules.{rules}
 use Rattle.entries.proofs.read_entry.Goals as goal
 
 pub returns-then-bytes-lt-ENTRY_SIZE : goal.returns-then-bytes-lt-ENTRY_SIZE

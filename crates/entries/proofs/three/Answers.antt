@@ -1,8 +1,9 @@
+-- `entries::three` meets its contract: three bytes, one after the other, make one number. Assumes nothing.
 use Prim.Native.Nat.{◌+◌, ◌*◌}
 use native.Mathlib.Omega.{arith}
 use borrow.Author.Rules.{rules}
 use lib.ListN.{get_or}
-use Rattle.storage.proofs.Bytes.{AllBytes, packing_one, packing_join}
+use Rattle.storage.proofs.Bytes.{packing_one, packing_join}
 use Rattle.entries.proofs.three.Goals as goal
 
 pub overflow_cast-low : goal.overflow_cast-low

@@ -1,6 +1,6 @@
+-- `filter::ask_named` meets its contract: a permanent PGN asks no list; else the search found it, or the NAME entries decide. Assumes nothing.
 use mathlib.Core.Path.{sym, ◌∙◌}
 use Rattle.filter.proofs.Asking.{ask_permanent, ask_found, ask_names}
-use borrow.Author.Rules.{rules}
 use Rattle.filter.proofs.ask_named.Goals as goal
 
 pub returns-then-is_permanent : goal.returns-then-is_permanent

@@ -1,8 +1,8 @@
+-- `filter::ask_plain` meets its contract: a permanent PGN and a cleared pair ask no list; else the search answers. Assumes nothing.
 use mathlib.Core.Path.{sym, ◌∙◌}
 use native.Mathlib.Omega.{arith}
 use Rattle.sorted_list.proofs.Ceiling.{mark_found, mark_absent}
 use Rattle.filter.proofs.Asking.{ask_permanent, ask_cleared, ask_found, ask_absent}
-use borrow.Author.Rules.{rules}
 use Rattle.filter.proofs.ask_plain.Goals as goal
 
 pub returns-then-is_permanent : goal.returns-then-is_permanent

@@ -1,6 +1,6 @@
+-- `filter::by_list` meets its contract, by the tests on the way. Assumes nothing.
 use mathlib.Core.Bool.{true, false}
 use mathlib.Core.Path.{sym, ◌∙◌}
-use borrow.Author.Rules.{rules}
 use Rattle.filter.proofs.Meaning.{reason_cleared, reason_block, reason_pass}
 use Rattle.filter.proofs.by_list.Goals as goal
 

@@ -1,6 +1,6 @@
+-- `filter::count` meets its contract: a cleared pair holds none, another the count, cut at the list's size. Assumes nothing.
 use native.Mathlib.Omega.{arith}
 use Rattle.filter.proofs.Meaning.{count_cleared, count_listed}
-use borrow.Author.Rules.{rules}
 use Rattle.filter.proofs.count.Goals as goal
 
 pub returns-then-block-eq-CLEARED : goal.returns-then-block-eq-CLEARED

@@ -1,5 +1,4 @@
 use borrow.Author.Tests.{eq-eqb, ne_eqb}
-use mathlib.Core.Path.{refl}
 use Rattle.filter.specs.Filter.{is_block}
 use Rattle.filter.proofs.is_block.Goals as goal
 

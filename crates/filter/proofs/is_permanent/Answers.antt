@@ -1,3 +1,4 @@
+-- `filter::is_permanent` meets its contract, by the two tests. Assumes nothing.
 use borrow.Author.Tests.{eq-eqb, ne_eqb}
 use Rattle.filter.specs.Filter.{is_permanent}
 use Rattle.filter.proofs.is_permanent.Goals as goal

@@ -1,8 +1,8 @@
+-- `filter::lists` meets its contract: the search among those in use. Assumes nothing.
 use mathlib.Core.Path.{◌∙◌}
 use native.Mathlib.Omega.{arith}
 use Rattle.pgn_list.proofs.Search.{found_says}
 use Rattle.filter.proofs.Meaning.{list_long, front}
-use borrow.Author.Rules.{rules}
 use Rattle.filter.proofs.lists.Goals as goal
 
 pub returns : goal.returns

@@ -1,3 +1,4 @@
+-- `filter::pgn_at` meets its contract: the list stands at the front of the PGNs. Assumes nothing.
 use native.Mathlib.Omega.{arith}
 use Rattle.filter.proofs.Meaning.{counting, pgn_is}
 use Rattle.filter.proofs.pgn_at.Goals as goal

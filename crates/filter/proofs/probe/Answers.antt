@@ -1,5 +1,5 @@
+-- `filter::probe` meets its contract: what is searched are the first n of the PGNs in rising order. Assumes nothing.
 use Rattle.filter.proofs.Meaning.{sorted_front}
-use borrow.Author.Rules.{rules}
 use Rattle.filter.proofs.probe.Goals as goal
 
 pub returns : goal.returns

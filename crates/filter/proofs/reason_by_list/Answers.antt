@@ -1,6 +1,6 @@
+-- `filter::reason_by_list` meets its contract: a permanent PGN is in no list's hands, else the list decides. Assumes nothing.
 use mathlib.Core.Path.{sym, ◌∙◌}
 use Rattle.filter.proofs.Asking.{list_permanent, list_decides}
-use borrow.Author.Rules.{rules}
 use Rattle.filter.proofs.reason_by_list.Goals as goal
 
 pub returns-then-is_permanent : goal.returns-then-is_permanent

@@ -1,7 +1,7 @@
+-- `filter_commands::add` meets its contract: refused on a cleared pair, else the list grows, by one entry or by several. Assumes nothing.
 use mathlib.Core.Path.{sym, ◌∙◌}
 use Rattle.entries.specs.Entries.{entries_of}
 use Rattle.filter_commands.proofs.Commands.{only_one, add_cleared, add_grown}
-use borrow.Author.Rules.{rules}
 use Rattle.filter_commands.proofs.add.Goals as goal
 
 pub returns-then-is_cleared : goal.returns-then-is_cleared

@@ -1,7 +1,7 @@
+-- `filter_commands::begin` meets its contract: by one entry or by several. Assumes nothing.
 use mathlib.Core.Path.{sym, ◌∙◌}
 use Rattle.entries.specs.Entries.{entries_of}
 use Rattle.filter_commands.proofs.Commands.{only_one}
-use borrow.Author.Rules.{rules}
 use Rattle.filter_commands.proofs.begin.Goals as goal
 
 pub returns-then-count-eq1 : goal.returns-then-count-eq1

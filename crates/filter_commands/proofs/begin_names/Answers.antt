@@ -1,6 +1,6 @@
+-- `filter_commands::begin_names` meets its contract: the entry is the first, and the mode word says that there are some. Assumes nothing.
 use mathlib.Core.Path.{◌∙◌}
 use Rattle.filter_commands.proofs.Names.{names_long, name_begun}
-use borrow.Author.Rules.{rules}
 use Rattle.filter_commands.proofs.begin_names.Goals as goal
 
 pub returns : goal.returns

@@ -1,6 +1,6 @@
+-- `filter_commands::clear` meets its contract: a mode word of 0 is cleared, whatever the count says. Assumes nothing.
 use lib.ListN.{length-set}
 use Rattle.filter.proofs.Meaning.{cleared_is}
-use borrow.Author.Rules.{rules}
 use Rattle.filter_commands.proofs.clear.Goals as goal
 
 pub returns : goal.returns

@@ -1,13 +1,14 @@
+-- `filter_commands::copied` meets its contract: the words are copied one after the other. Assumes nothing.
 use mathlib.Core.Path.{◌≡◌}
 use mathlib.Core.List.{List}
-use Prim.Native.Nat.{ℕ, ◌+◌, ◌-◌}
+use Prim.Native.Nat.{ℕ, ◌+◌}
 use native.Mathlib.Nat.{zero-add}
 use native.Mathlib.Omega.{arith}
 use lib.ListN.{length}
 use Rattle.filter.specs.Filter.{list_of, block_size}
 use Rattle.filter.proofs.Meaning.{list_whole, list_at}
 use Rattle.pgn_list.specs.PgnList.{list_size}
-use Rattle.storage.proofs.Copy.{Copied, copied_none, copied_one, copied_all}
+use Rattle.storage.proofs.Copy.{copied_none, copied_one, copied_all}
 use Rattle.filter_commands.proofs.copied.Goals as goal
 
 fits : (words : List ℕ) → length words ≡ block_size → 0 + length (list_of words) ≡ list_size

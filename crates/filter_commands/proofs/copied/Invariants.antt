@@ -1,13 +1,8 @@
-use mathlib.Core.Path.{◌≡◌}
-use mathlib.Core.List.{List}
-use Prim.Native.Nat.{ℕ, ◌+◌, ◌-◌}
-use native.Mathlib.Nat.{zero-add}
-use native.Mathlib.Omega.{arith}
-use lib.ListN.{length}
-use Rattle.filter.specs.Filter.{list_of, block_size}
-use Rattle.filter.proofs.Meaning.{list_whole, list_at}
+-- `filter_commands::copied` meets its contract: the words are copied one after the other. Assumes nothing.
+use Prim.Native.Nat.{◌-◌}
+use Rattle.filter.specs.Filter.{list_of}
 use Rattle.pgn_list.specs.PgnList.{list_size}
-use Rattle.storage.proofs.Copy.{Copied, copied_none, copied_one, copied_all}
+use Rattle.storage.proofs.Copy.{Copied}
 use Rattle.filter_commands.proofs.copied.Given as goal
 
 abbrev pub invariant-loop-i : goal.invariant-loop-i

@@ -1,7 +1,6 @@
+-- `filter_commands::create` meets its contract: refused on a pair that is not cleared, else the list begins anew and the mode is stored. Assumes nothing.
 use mathlib.Core.Path.{sym, ◌∙◌}
-use borrow.Author.Tests.{not-true, not-false}
 use Rattle.filter_commands.proofs.Commands.{create_listing, create_over, create_pass, create_block}
-use borrow.Author.Rules.{rules}
 use Rattle.filter_commands.proofs.create.Goals as goal
 
 pub returns-then-not-is_cleared : goal.returns-then-not-is_cleared

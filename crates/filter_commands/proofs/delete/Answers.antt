@@ -1,3 +1,5 @@
+-- `filter_commands::delete` meets its contract: refused on a cleared pair and where an entry is absent, else the list closes up, and what is
+-- searched too. Assumes nothing.
 use mathlib.Core.Path.{sym, ◌∙◌}
 use native.Mathlib.Omega.{arith}
 use Rattle.entries.specs.Entries.{entries_of}

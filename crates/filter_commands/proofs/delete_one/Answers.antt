@@ -1,3 +1,4 @@
+-- `filter_commands::delete_one` meets its contract: refused where the search finds nothing, else the list closes up, and what is searched too. Assumes nothing.
 use mathlib.Core.Path.{◌∙◌}
 use native.Mathlib.Omega.{arith}
 use Rattle.filter.proofs.Meaning.{list_whole}

@@ -1,10 +1,10 @@
+-- `filter_commands::first_entry` meets its contract: by whether there is one. Assumes nothing.
 use mathlib.Core.Path.{◌≡◌, sym, ◌∙◌, refl}
 use mathlib.Core.List.{List, [], ◌∷◌}
 use Prim.Native.Nat.{ℕ}
 use native.Mathlib.Omega.{arith}
 use lib.ListN.{length, get_or}
 use Rattle.entries.specs.Entries.{entries_of}
-use borrow.Author.Rules.{rules}
 use Rattle.filter_commands.proofs.first_entry.Goals as goal
 
 -- `filter_commands::first_entry` meets its contract: by whether there is one. Assumes nothing.

@@ -1,3 +1,4 @@
+-- `filter_commands::grow` meets its contract: few entries in place, others by a copy, unless they would pass; what is new is put in order. Assumes nothing.
 use mathlib.Core.Path.{sym, ap, ◌∙◌}
 use lib.ListN.{length}
 use Rattle.entries.specs.Entries.{entries_of}

@@ -1,3 +1,4 @@
+-- `filter_commands::grow_by_one` meets its contract: the list with the entry, which is put in order, or as it was where it does not hold it. Assumes nothing.
 use mathlib.Core.Path.{refl, ◌∙◌}
 use native.Mathlib.Omega.{arith}
 use Rattle.filter.proofs.Meaning.{list_whole}

@@ -1,6 +1,6 @@
+-- `filter_commands::grow_names` meets its contract: already there, the ninth, or put behind the others. Assumes nothing.
 use mathlib.Core.Path.{◌∙◌}
 use Rattle.filter_commands.proofs.Names.{names_long, name_there, name_ninth, name_grown}
-use borrow.Author.Rules.{rules}
 use Rattle.filter_commands.proofs.grow_names.Goals as goal
 
 pub returns-then-holds : goal.returns-then-holds

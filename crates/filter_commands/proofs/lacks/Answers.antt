@@ -1,6 +1,6 @@
+-- `filter_commands::lacks` meets its contract: what is listed are the first n. Assumes nothing.
 use mathlib.Core.Path.{ap, ◌∙◌}
 use mathlib.Core.Bool.{not}
-use borrow.Author.Rules.{rules}
 use Rattle.entries.specs.Entries.{listed, every, entries_of}
 use Rattle.filter_commands.specs.Changes.{lacks}
 use Rattle.filter.proofs.Meaning.{front}

@@ -1,6 +1,6 @@
+-- `filter_commands::names_full` meets its contract: no NAME entries, fewer than eight, or the search among eight. Assumes nothing.
 use native.Mathlib.Omega.{arith}
 use Rattle.filter_commands.proofs.Names.{full_none, full_room, full_by}
-use borrow.Author.Rules.{rules}
 use Rattle.filter_commands.proofs.names_full.Goals as goal
 
 pub returns-then-block-lt-BLOCK_NAMED : goal.returns-then-block-lt-BLOCK_NAMED

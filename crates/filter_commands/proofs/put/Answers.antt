@@ -1,10 +1,7 @@
-use mathlib.Core.Path.{◌≡◌}
-use Prim.Native.Nat.{◌+◌, ◌-◌}
+-- `filter_commands::put` meets its contract: the words are copied one after the other. Assumes nothing.
 use native.Mathlib.Nat.{zero-add}
 use native.Mathlib.Omega.{arith}
-use lib.ListN.{length}
-use Rattle.storage.proofs.Copy.{Copied, copied_none, copied_one, copied_long, copied_all}
-use Rattle.pgn_list.specs.PgnList.{list_size}
+use Rattle.storage.proofs.Copy.{copied_none, copied_one, copied_long, copied_all}
 use Rattle.filter_commands.proofs.put.Goals as goal
 
 pub loop-i-init : goal.loop-i-init

@@ -1,9 +1,6 @@
-use mathlib.Core.Path.{◌≡◌}
-use Prim.Native.Nat.{◌+◌, ◌-◌}
-use native.Mathlib.Nat.{zero-add}
-use native.Mathlib.Omega.{arith}
-use lib.ListN.{length}
-use Rattle.storage.proofs.Copy.{Copied, copied_none, copied_one, copied_long, copied_all}
+-- `filter_commands::put` meets its contract: the words are copied one after the other. Assumes nothing.
+use Prim.Native.Nat.{◌-◌}
+use Rattle.storage.proofs.Copy.{Copied}
 use Rattle.pgn_list.specs.PgnList.{list_size}
 use Rattle.filter_commands.proofs.put.Given as goal
 

@@ -1,7 +1,7 @@
+-- `filter_commands::sort_out` meets its contract: those that no entry names are kept, as many as the list holds. Assumes nothing.
 use mathlib.Core.Path.{◌∙◌}
 use Rattle.filter.proofs.Meaning.{sorted_long}
 use Rattle.filter_commands.proofs.Sorting.{taken_out, part_long}
-use borrow.Author.Rules.{rules}
 use Rattle.filter_commands.proofs.sort_out.Goals as goal
 
 pub returns : goal.returns

@@ -1,7 +1,7 @@
+-- `filter_commands::would_pass` meets its contract: few entries can't pass, and the others are counted on a copy. Assumes nothing.
 use mathlib.Core.Path.{sym}
 use native.Mathlib.Omega.{arith}
 use Rattle.filter_commands.proofs.Commands.{pass_few, pass_tried}
-use borrow.Author.Rules.{rules}
 use Rattle.filter_commands.proofs.would_pass.Goals as goal
 
 pub returns-then-count-n : goal.returns-then-count-n

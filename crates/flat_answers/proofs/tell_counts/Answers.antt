@@ -1,6 +1,6 @@
+-- `flat_answers::tell_counts` meets its contract: ten words are stored in a place for ten. Assumes nothing.
 use native.Mathlib.Omega.{arith}
 use lib.ListN.{length-set}
-use borrow.Author.Rules.{rules}
 use Rattle.flat_answers.specs.Answers.{counts_words}
 use Rattle.flat_answers.proofs.Words.{stored}
 use Rattle.flat_answers.proofs.tell_counts.Goals as goal
@@ -28,4 +28,4 @@ shape_of-answer c = simp length-set (omega arith)
 
 pub returns : goal.returns
 returns c = let args = c.args in
-    stored (counts_words args.t2) args.answer.now (omega arith)
+    stored (counts_words args.tally) args.answer.now (omega arith)

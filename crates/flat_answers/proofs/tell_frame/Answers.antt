@@ -1,9 +1,9 @@
+-- `flat_answers::tell_frame` meets its contract: eight words are stored in a place for eight. Assumes nothing.
 use mathlib.Core.Path.{◌∙◌}
 use mathlib.Core.List.{[], ◌∷◌}
 use native.Mathlib.Omega.{arith}
 use lib.ListN.{length-set}
 use Rattle.flat_answers.proofs.Words.{stored}
-use borrow.Author.Rules.{rules}
 use Rattle.flat_answers.proofs.tell_frame.Goals as goal
 
 pub bounds-answer-4 : goal.bounds-answer-4

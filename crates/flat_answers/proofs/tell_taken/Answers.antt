@@ -1,7 +1,7 @@
+-- `flat_answers::tell_taken` meets its contract: by cases of what was taken. Assumes nothing.
 use mathlib.Core.List.{[], ◌∷◌}
 use native.Mathlib.Omega.{arith}
 use Rattle.flat_answers.proofs.Words.{stored, told_nothing, told_frame}
-use borrow.Author.Rules.{rules}
 use Rattle.flat_answers.proofs.tell_taken.Goals as goal
 
 pub returns-in-Nothing : goal.returns-in-Nothing

@@ -1,9 +1,9 @@
+-- `flat_answers::tell_unit` meets its contract: five words are stored in a place for five. Assumes nothing.
 use mathlib.Core.Path.{refl, ◌∙◌}
 use mathlib.Core.List.{[], ◌∷◌}
 use native.Mathlib.Omega.{arith}
 use Rattle.flat_answers.proofs.Words.{stored}
 use lib.ListN.{length-set}
-use borrow.Author.Rules.{rules}
 use Rattle.flat_answers.proofs.tell_unit.Goals as goal
 
 pub bounds-answer-4 : goal.bounds-answer-4

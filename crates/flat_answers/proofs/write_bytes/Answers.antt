@@ -1,9 +1,9 @@
+-- `flat_answers::write_bytes` meets its contract: the word as it is, or cut after the frame's bytes. Assumes nothing.
 use mathlib.Core.Path.{◌∙◌}
 use Prim.Native.Nat.{◌*◌}
 use native.Mathlib.Omega.{arith}
 use lib.Pow.{pow_pos}
 use Rattle.flat_answers.proofs.Words.{shifted, cut_frame, short_frame, whole_frame}
-use borrow.Author.Rules.{rules}
 use Rattle.flat_answers.proofs.write_bytes.Goals as goal
 
 pub returns-then-f-ge8 : goal.returns-then-f-ge8

@@ -1,7 +1,5 @@
-use Prim.Native.Nat.{◌-◌}
-use native.Mathlib.Omega.{arith}
-use Rattle.flat_answers.proofs.Words.{Written, written_start, written_more, written_all}
-use borrow.Author.Rules.{rules}
+-- `flat_answers::write_word` meets its contract. The loop's invariant is `Written`: the bytes before i are the word's. Assumes nothing.
+use Rattle.flat_answers.proofs.Words.{written_start, written_more, written_all}
 use Rattle.flat_answers.proofs.write_word.Goals as goal
 
 pub loop-i-init : goal.loop-i-init

@@ -1,7 +1,6 @@
+-- `flat_answers::write_word` meets its contract. The loop's invariant is `Written`: the bytes before i are the word's. Assumes nothing.
 use Prim.Native.Nat.{◌-◌}
-use native.Mathlib.Omega.{arith}
-use Rattle.flat_answers.proofs.Words.{Written, written_start, written_more, written_all}
-use borrow.Author.Rules.{rules}
+use Rattle.flat_answers.proofs.Words.{Written}
 use Rattle.flat_answers.proofs.write_word.Given as goal
 
 abbrev pub invariant-loop-i : goal.invariant-loop-i

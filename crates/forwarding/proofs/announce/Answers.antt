@@ -1,5 +1,5 @@
+-- `forwarding::announce` meets its contract: by cases of what is sent. Assumes nothing.
 use Rattle.forwarding.proofs.Loop.{told_nothing}
-use borrow.Author.Rules.{rules}
 use Rattle.forwarding.proofs.announce.Goals as goal
 
 pub returns-in-Nothing : goal.returns-in-Nothing

@@ -1,7 +1,7 @@
+-- `forwarding::carry` meets its contract, by the way that the code went. Assumes nothing.
 use mathlib.Core.Bool.{true, false}
 use mathlib.Core.Path.{sym, ◌∙◌}
 use Rattle.forwarding.proofs.Sends.{carried_stopped, carried}
-use borrow.Author.Rules.{rules}
 use Rattle.forwarding.proofs.carry.Goals as goal
 
 pub returns-then-waits : goal.returns-then-waits

@@ -1,5 +1,5 @@
+-- `forwarding::count_loss` meets its contract, in the one counter after the other. Assumes nothing.
 use Rattle.forwarding.proofs.Sends.{lost_both}
-use borrow.Author.Rules.{rules}
 use Rattle.forwarding.proofs.count_loss.Goals as goal
 
 pub returns : goal.returns

@@ -1,7 +1,7 @@
-use mathlib.Core.Logic.{⊎_elim}
-use Prim.Native.Nat.{◌-◌}
+-- `forwarding::count_losses` meets its contract: the loop over the set, a bit at a time. Assumes nothing.
 use native.Mathlib.Omega.{arith}
-use Rattle.forwarding.proofs.Loop.{Counted, counted_start, counted_away, counted_more, counted_passed, counted_done}
+use Rattle.forwarding.proofs.Loop.{counted_start, counted_away, counted_more, counted_passed, counted_done}
+use Rattle.forwarding.proofs.count_losses.Goals.{then-set-eq1, else-set-eq1}
 use Rattle.forwarding.proofs.count_losses.Goals as goal
 
 pub loop-to-init : goal.loop-to-init
@@ -13,10 +13,10 @@ count_loss-requires c = let more = c.loop-to-test.true in
 
 pub loop-to-preserved : goal.loop-to-preserved
 loop-to-preserved c = let more = c.loop-to-test.true in
-    ⊎_elim
-    (λ w. rw w.5 (counted_more c.loop-to.invariant more (omega arith) w.0.taken w.2.ensures))
-    (λ w. rw w.1 (counted_passed c.loop-to.invariant more w.0.left))
-    c.if-set-eq1.branch-raw
+    elim c.if-set-eq1.branch [
+      | then-set-eq1 w ↦ rw w.words-is (counted_more c.loop-to.invariant more (omega arith) w.if-set-eq1.true w.count_loss.ensures)
+      | else-set-eq1 w ↦ rw w.words-is (counted_passed c.loop-to.invariant more w.if-set-eq1.false)
+    ]
 
 pub returns : goal.returns
 returns c = counted_done (omega arith) c.loop-to.invariant

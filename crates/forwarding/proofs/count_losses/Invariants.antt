@@ -1,7 +1,6 @@
-use mathlib.Core.Logic.{⊎_elim}
+-- `forwarding::count_losses` meets its contract: the loop over the set, a bit at a time. Assumes nothing.
 use Prim.Native.Nat.{◌-◌}
-use native.Mathlib.Omega.{arith}
-use Rattle.forwarding.proofs.Loop.{Counted, counted_start, counted_away, counted_more, counted_passed, counted_done}
+use Rattle.forwarding.proofs.Loop.{Counted}
 use Rattle.forwarding.proofs.count_losses.Given as goal
 
 abbrev pub invariant-loop-to : goal.invariant-loop-to

@@ -1,9 +1,9 @@
+-- `forwarding::forward` meets its contract: what was lost on the way is counted, where there is any. Assumes nothing.
 use native.Mathlib.Omega.{arith}
 use Rattle.identifier.specs.Identifier.{sa_of}
 use Rattle.forwarding.proofs.Sends.{verdict_home}
 use Rattle.forwarding.proofs.Loop.{lost_home, forwarded_none, forwarded_lost}
 use Rattle.unit.specs.Model.{model_of}
-use borrow.Author.Rules.{rules}
 use Rattle.forwarding.proofs.forward.Goals as goal
 
 pub count_losses-requires : goal.count_losses-requires

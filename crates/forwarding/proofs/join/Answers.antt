@@ -1,5 +1,5 @@
+-- `forwarding::join` meets its contract, by what `join_row` ensures. Assumes nothing.
 use Rattle.forwarding.proofs.Sends.{joined_waits, joined_lost}
-use borrow.Author.Rules.{rules}
 use Rattle.forwarding.proofs.join.Goals as goal
 
 pub returns-then-waits : goal.returns-then-waits

@@ -1,6 +1,6 @@
-use Prim.Native.Nat.{◌-◌}
+-- `forwarding::join_all` meets its contract: the loop over the ports. Assumes nothing.
 use native.Mathlib.Omega.{arith}
-use Rattle.forwarding.proofs.Loop.{Telling, telling_start, telling_more, telling_done, told_sums}
+use Rattle.forwarding.proofs.Loop.{telling_start, telling_more, telling_done, told_sums}
 use Rattle.forwarding.proofs.join_all.Goals as goal
 
 pub loop-port-init : goal.loop-port-init

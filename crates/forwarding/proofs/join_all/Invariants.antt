@@ -1,6 +1,6 @@
+-- `forwarding::join_all` meets its contract: the loop over the ports. Assumes nothing.
 use Prim.Native.Nat.{◌-◌}
-use native.Mathlib.Omega.{arith}
-use Rattle.forwarding.proofs.Loop.{Telling, telling_start, telling_more, telling_done, told_sums}
+use Rattle.forwarding.proofs.Loop.{Telling}
 use Rattle.forwarding.proofs.join_all.Given as goal
 
 abbrev pub invariant-loop-port : goal.invariant-loop-port

@@ -1,5 +1,5 @@
+-- `forwarding::join_own` meets its contract, by what `join_row` ensures. Assumes nothing.
 use Rattle.forwarding.proofs.Sends.{own_waits, own_lost_lem}
-use borrow.Author.Rules.{rules}
 use Rattle.forwarding.proofs.join_own.Goals as goal
 
 pub returns-then-waits : goal.returns-then-waits

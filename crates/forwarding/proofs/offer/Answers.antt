@@ -1,5 +1,5 @@
+-- `forwarding::offer` meets its contract: the way by lists alone, and what is left of it. Assumes nothing.
 use Rattle.forwarding.proofs.Ways.{gone_done}
-use borrow.Author.Rules.{rules}
 use Rattle.forwarding.proofs.offer.Goals as goal
 
 pub returns-then-way-ports : goal.returns-then-way-ports

@@ -1,8 +1,6 @@
-use mathlib.Core.List.{List}
-use borrow.Author.Rules.{rules}
+-- `forwarding::offer_rest` meets its contract: the loop over the ports that are left, for every record that the way began on. Assumes nothing.
 use native.Mathlib.Omega.{arith}
-use Prim.Native.Nat.{ℕ, ◌-◌}
-use Rattle.forwarding.specs.Steps.{way_after, way_past, Gone}
+use Rattle.forwarding.specs.Steps.{way_after, way_past}
 use Rattle.forwarding.proofs.Ways.{gone_past, past_small, pair_in_lem, gone_after, room, gone_done}
 use Rattle.forwarding.proofs.offer_rest.Goals as goal
 

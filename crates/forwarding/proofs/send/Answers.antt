@@ -1,5 +1,5 @@
+-- `forwarding::send` meets its contract: what the pair answered is done. Assumes nothing.
 use Rattle.forwarding.proofs.Sends.{sent_by}
-use borrow.Author.Rules.{rules}
 use Rattle.forwarding.proofs.send.Goals as goal
 
 pub returns : goal.returns

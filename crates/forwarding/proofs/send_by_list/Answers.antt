@@ -1,5 +1,5 @@
+-- `forwarding::send_by_list` meets its contract: what the pair answered, whoever sent the frame, is done. Assumes nothing.
 use Rattle.forwarding.proofs.Sends.{sent_by}
-use borrow.Author.Rules.{rules}
 use Rattle.forwarding.proofs.send_by_list.Goals as goal
 
 pub returns : goal.returns

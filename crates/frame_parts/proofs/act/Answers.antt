@@ -1,9 +1,9 @@
+-- `frame_parts::act` meets its contract, by the way that the code went. Assumes nothing.
 use mathlib.Core.Path.{sym, ◌∙◌}
 use native.Mathlib.Omega.{arith}
 use lib.ListN.{length}
 use Rattle.refusals.proofs.Checks.{frame_goes}
 use Rattle.frame_parts.proofs.Laws.{act_refused, acted}
-use borrow.Author.Rules.{rules}
 use Rattle.frame_parts.proofs.act.Goals as goal
 
 pub returns-then-number-ne0 : goal.returns-then-number-ne0

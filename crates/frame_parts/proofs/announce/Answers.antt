@@ -1,7 +1,7 @@
+-- `frame_parts::announce` meets its contract, by the way that the code went. Assumes nothing.
 use mathlib.Core.Path.{sym, ◌∙◌}
 use native.Mathlib.Omega.{arith}
 use Rattle.frame_parts.proofs.Laws.{announce_short, announced}
-use borrow.Author.Rules.{rules}
 use Rattle.frame_parts.proofs.announce.Goals as goal
 
 pub returns-then-words-record_length : goal.returns-then-words-record_length

@@ -1,10 +1,10 @@
+-- `frame_parts::arrive` meets its contract: refused, or told as it was handed in. Assumes nothing.
 use mathlib.Core.Path.{refl, sym, ◌∙◌}
 use native.Mathlib.Omega.{arith}
 use lib.ListN.{length}
 use Rattle.claims.proofs.Frames.{frame_is}
 use Rattle.refusals.proofs.Checks.{frame_goes}
 use Rattle.frame_parts.proofs.Laws.{arrive_refused, arrive_goes}
-use borrow.Author.Rules.{rules}
 use Rattle.frame_parts.proofs.arrive.Goals as goal
 
 pub returns-then-number-ne0 : goal.returns-then-number-ne0

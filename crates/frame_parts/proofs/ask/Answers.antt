@@ -1,8 +1,8 @@
+-- `frame_parts::ask` meets its contract, by the way that the code went. Assumes nothing.
 use mathlib.Core.Path.{sym, ◌∙◌}
 use native.Mathlib.Omega.{arith}
 use lib.ListN.{length}
 use Rattle.frame_parts.proofs.Laws.{pair_goes, ask_refused, ask_self, ask_pair}
-use borrow.Author.Rules.{rules}
 use Rattle.frame_parts.proofs.ask.Goals as goal
 
 pub returns-then-number-ne0 : goal.returns-then-number-ne0

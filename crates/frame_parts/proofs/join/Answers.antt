@@ -1,8 +1,8 @@
+-- `frame_parts::join` meets its contract, by the way that the code went. Assumes nothing.
 use mathlib.Core.Path.{sym, ◌∙◌}
 use native.Mathlib.Omega.{arith}
 use lib.ListN.{length}
 use Rattle.frame_parts.proofs.Laws.{pair_goes, join_refused, join_self, joined}
-use borrow.Author.Rules.{rules}
 use Rattle.frame_parts.proofs.join.Goals as goal
 
 pub returns-then-number-ne0 : goal.returns-then-number-ne0

@@ -1,5 +1,5 @@
+-- `frame_parts::pair_refusal` meets its contract: by the test on the way. Assumes nothing.
 use Rattle.frame_parts.specs.Parts.{pair_refusal}
-use borrow.Author.Rules.{rules}
 use Rattle.frame_parts.proofs.pair_refusal.Goals as goal
 
 pub returns-then-is_port : goal.returns-then-is_port

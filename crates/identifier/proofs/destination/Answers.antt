@@ -1,4 +1,4 @@
-use borrow.Author.Rules.{rules}
+-- `identifier::destination` meets its contract: PS, where it is the destination, else all. Assumes nothing.
 use Rattle.identifier.specs.Identifier.{destination_of}
 use Rattle.identifier.proofs.destination.Goals as goal
 

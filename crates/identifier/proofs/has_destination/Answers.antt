@@ -1,4 +1,4 @@
-use borrow.Author.Rules.{rules}
+-- `identifier::has_destination` meets its contract, by what `pf` ensures. Assumes nothing.
 use Rattle.identifier.proofs.has_destination.Goals as goal
 
 pub returns : goal.returns

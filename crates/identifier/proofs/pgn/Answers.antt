@@ -1,5 +1,5 @@
+-- `identifier::pgn` meets its contract: it is that sum. Assumes nothing.
 use native.Mathlib.Omega.{arith}
-use borrow.Author.Rules.{rules}
 use Rattle.identifier.specs.Identifier.{pgn_of}
 use Rattle.identifier.proofs.Numbers.{extension_small}
 use Rattle.identifier.proofs.pgn.Goals as goal

@@ -1,6 +1,6 @@
+-- `identifier::with_source` meets its contract: it is that sum. Assumes nothing.
 use mathlib.Core.Path.{refl}
 use Rattle.identifier.specs.Turning.{with_source}
-use borrow.Author.Rules.{rules}
 use Rattle.identifier.proofs.with_source.Goals as goal
 
 pub returns : goal.returns

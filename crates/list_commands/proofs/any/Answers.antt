@@ -1,9 +1,7 @@
+-- `list_commands::any` meets its contract: the loop over the pairs that are named. Assumes nothing.
 use mathlib.Core.Path.{◌≡◌, sym, ◌∙◌}
-use Prim.Native.Nat.{◌≤◌, ◌-◌}
 use native.Mathlib.Omega.{arith}
-use Rattle.entries.specs.Entries.{entries_of}
-use Rattle.filter_commands.specs.Pairs.{holds_of}
-use Rattle.list_commands.proofs.PairLoop.{pairs_in, Asked, ask_start, ask_found, ask_more, ask_done}
+use Rattle.list_commands.proofs.PairLoop.{ask_start, ask_found, ask_more, ask_done}
 use Rattle.list_commands.proofs.any.Goals as goal
 
 pub loop-i-init : goal.loop-i-init

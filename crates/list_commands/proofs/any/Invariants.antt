@@ -1,9 +1,8 @@
-use mathlib.Core.Path.{◌≡◌, sym, ◌∙◌}
+-- `list_commands::any` meets its contract: the loop over the pairs that are named. Assumes nothing.
 use Prim.Native.Nat.{◌≤◌, ◌-◌}
-use native.Mathlib.Omega.{arith}
 use Rattle.entries.specs.Entries.{entries_of}
 use Rattle.filter_commands.specs.Pairs.{holds_of}
-use Rattle.list_commands.proofs.PairLoop.{pairs_in, Asked, ask_start, ask_found, ask_more, ask_done}
+use Rattle.list_commands.proofs.PairLoop.{pairs_in, Asked}
 use Rattle.list_commands.proofs.any.Given as goal
 
 abbrev pub invariant-loop-i : goal.invariant-loop-i

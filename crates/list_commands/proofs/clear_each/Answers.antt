@@ -1,8 +1,8 @@
+-- `list_commands::clear_each` meets its contract: the loop over the pairs that are named. Assumes nothing.
 use mathlib.Core.Path.{◌≡◌}
-use Prim.Native.Nat.{◌≤◌, ◌-◌}
 use native.Mathlib.Omega.{arith}
 use Rattle.filter.specs.Filter.{clear}
-use Rattle.list_commands.proofs.PairLoop.{Walking, walk_start, walk_more, walk_done}
+use Rattle.list_commands.proofs.PairLoop.{walk_start, walk_more, walk_done}
 use Rattle.list_commands.proofs.clear_each.Goals as goal
 
 pub loop-i-init : goal.loop-i-init

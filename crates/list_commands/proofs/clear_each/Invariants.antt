@@ -1,8 +1,7 @@
-use mathlib.Core.Path.{◌≡◌}
+-- `list_commands::clear_each` meets its contract: the loop over the pairs that are named. Assumes nothing.
 use Prim.Native.Nat.{◌≤◌, ◌-◌}
-use native.Mathlib.Omega.{arith}
 use Rattle.filter.specs.Filter.{clear}
-use Rattle.list_commands.proofs.PairLoop.{Walking, walk_start, walk_more, walk_done}
+use Rattle.list_commands.proofs.PairLoop.{Walking}
 use Rattle.list_commands.proofs.clear_each.Given as goal
 
 abbrev pub invariant-loop-i : goal.invariant-loop-i

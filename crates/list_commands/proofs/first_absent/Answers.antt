@@ -1,13 +1,7 @@
-use mathlib.Core.Path.{◌≡◌, sym, ◌∙◌}
-use Prim.Native.Nat.{◌-◌}
+-- `list_commands::first_absent` meets its contract: a loop over the pairs and in it one over the entries, left at the first that is absent. Assumes nothing.
+use mathlib.Core.Path.{sym, ◌∙◌}
 use native.Mathlib.Omega.{arith}
-use borrow.Author.Rules.{rules}
-use borrow.Author.Tests.{not-true, not-false}
-use lib.ListN.{length, get_or}
-use Rattle.entries.specs.Entries.{entries_of}
-use Rattle.filter.specs.Filter.{clear}
-use Rattle.list_commands.proofs.PairLoop.{pairs_in}
-use Rattle.list_commands.proofs.Searching.{Held, held_none, held_one, Searched, searched_none, searched_one, stopped_here, stopped_none}
+use Rattle.list_commands.proofs.Searching.{held_none, held_one, searched_none, searched_one, stopped_here, stopped_none}
 use Rattle.list_commands.proofs.first_absent.Goals as goal
 
 pub search-init : goal.search-init

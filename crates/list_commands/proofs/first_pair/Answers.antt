@@ -1,8 +1,8 @@
+-- `list_commands::first_pair` meets its contract: a port's pairs are among the pairs. Assumes nothing.
 use mathlib.Core.Path.{refl}
 use Prim.Native.Nat.{◌-◌}
 use native.Mathlib.Omega.{arith}
 use Rattle.unit.proofs.Count.{pairs_most, row_within}
-use borrow.Author.Rules.{rules}
 use Rattle.list_commands.proofs.first_pair.Goals as goal
 
 pub overflow_mul-result : goal.overflow_mul-result

@@ -1,5 +1,5 @@
+-- `list_commands::leads_to` meets its contract: past the port itself the others' numbers are one up. Assumes nothing.
 use native.Mathlib.Omega.{arith}
-use borrow.Author.Rules.{rules}
 use borrow.Author.Tests.{lt-ltb, le-ltb}
 use Rattle.list_commands.proofs.leads_to.Goals as goal
 

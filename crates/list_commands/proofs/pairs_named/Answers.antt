@@ -1,6 +1,6 @@
+-- `list_commands::pairs_named` meets its contract: by the tests on the way. Assumes nothing.
 use native.Mathlib.Omega.{arith}
 use Rattle.list_commands.proofs.PairLoop.{naming_all, naming_lower, naming_upper, naming_none}
-use borrow.Author.Rules.{rules}
 use Rattle.list_commands.proofs.pairs_named.Goals as goal
 
 pub returns-then-to-eq15 : goal.returns-then-to-eq15

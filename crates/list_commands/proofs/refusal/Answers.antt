@@ -1,5 +1,5 @@
+-- `list_commands::refusal` meets its contract: by cases of the change, and what each question ensures. Assumes nothing.
 use Rattle.list_commands.specs.Commands.{list_refusal, list_checks}
-use borrow.Author.Rules.{rules}
 use Rattle.list_commands.proofs.refusal.Goals as goal
 
 pub returns-then-any : goal.returns-then-any

@@ -1,9 +1,6 @@
-use mathlib.Core.Path.{sym, ◌∙◌}
+-- `list_commands::where_absent` meets its contract: the search stopped at the first pair that lacks an entry, and at that entry. Assumes nothing.
 use native.Mathlib.Omega.{arith}
 use native.Mathlib.Numerals.{add-one}
-use borrow.Author.Rules.{rules}
-use lib.ListN.{length}
-use Rattle.entries.specs.Entries.{entries_of}
 use Rattle.list_commands.proofs.Searching.{absent_is, entry_is, entry_short}
 use Rattle.list_commands.proofs.where_absent.Goals as goal
 

@@ -1,3 +1,4 @@
+-- `losses::count` meets its contract: a word below the last count is written, another is that count already. Assumes nothing.
 use mathlib.Core.Path.{refl}
 use native.Mathlib.Omega.{arith}
 use Rattle.losses.proofs.Counters.{counted_below, counted_beyond}

@@ -1,3 +1,4 @@
+-- `losses::counted` meets its contract. Assumes nothing.
 use mathlib.Core.Path.{sym}
 use native.Mathlib.Omega.{arith}
 use Rattle.losses.specs.Losses.{losses_of}

@@ -1,4 +1,4 @@
-use borrow.Author.Rules.{rules}
+-- `message_answers::absent_told` meets its contract, by the number. Assumes nothing.
 use borrow.Author.Tests.{eq-eqb, ne_eqb}
 use Rattle.message_answers.specs.Messages.{absent_told}
 use Rattle.message_answers.proofs.absent_told.Goals as goal

@@ -1,5 +1,5 @@
+-- `message_answers::change` meets its contract, by what the command and its acknowledgment ensure. Assumes nothing.
 use Rattle.message_answers.proofs.Replies.{change_told}
-use borrow.Author.Rules.{rules}
 use Rattle.message_answers.proofs.change.Goals as goal
 
 pub returns : goal.returns

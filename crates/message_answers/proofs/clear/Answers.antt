@@ -1,5 +1,5 @@
+-- `message_answers::clear` meets its contract: the pairs were cleared, then acknowledged. Assumes nothing.
 use Rattle.message_answers.proofs.Replies.{clear_told}
-use borrow.Author.Rules.{rules}
 use Rattle.message_answers.proofs.clear.Goals as goal
 
 pub returns : goal.returns

@@ -1,7 +1,7 @@
+-- `message_answers::perform` meets its contract: by cases of the command. Assumes nothing.
 use native.Mathlib.Omega.{arith}
 use Rattle.message_answers.specs.Messages.{performed_by}
 use Rattle.message_answers.proofs.Replies.{one_port_lem, reply_given, refusal_told}
-use borrow.Author.Rules.{rules}
 use Rattle.message_answers.proofs.perform.Goals as goal
 
 pub report-requires : goal.report-requires

@@ -1,4 +1,4 @@
-use borrow.Author.Rules.{rules}
+-- `message_answers::refuse` meets its contract: the acknowledgment, with what is told. Assumes nothing.
 use Rattle.message_answers.proofs.refuse.Goals as goal
 
 pub returns : goal.returns

@@ -1,5 +1,5 @@
+-- `message_answers::report` meets its contract, by what was written. Assumes nothing.
 use Rattle.message_answers.proofs.Replies.{reported_of}
-use borrow.Author.Rules.{rules}
 use Rattle.message_answers.proofs.report.Goals as goal
 
 pub returns : goal.returns

@@ -1,6 +1,6 @@
+-- `message_answers::report_addresses` meets its contract, by what was written. Assumes nothing.
 use Rattle.message_answers.proofs.Replies.{reported_of}
 use native.Mathlib.Omega.{arith}
-use borrow.Author.Rules.{rules}
 use Rattle.message_answers.proofs.report_addresses.Goals as goal
 
 pub overflow_cast-result : goal.overflow_cast-result

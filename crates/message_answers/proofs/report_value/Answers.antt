@@ -1,6 +1,6 @@
+-- `message_answers::report_value` meets its contract, by what was written. Assumes nothing.
 use native.Mathlib.Omega.{arith}
 use Rattle.message_answers.proofs.Replies.{held_small, reported_of}
-use borrow.Author.Rules.{rules}
 use Rattle.message_answers.proofs.report_value.Goals as goal
 
 pub overflow_cast-parameter : goal.overflow_cast-parameter

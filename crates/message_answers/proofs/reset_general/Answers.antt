@@ -1,5 +1,5 @@
+-- `message_answers::reset_general` meets its contract: the counter was reset, then acknowledged. Assumes nothing.
 use Rattle.message_answers.proofs.Replies.{reset_told}
-use borrow.Author.Rules.{rules}
 use Rattle.message_answers.proofs.reset_general.Goals as goal
 
 pub returns : goal.returns

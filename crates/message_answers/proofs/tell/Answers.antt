@@ -1,5 +1,5 @@
+-- `message_answers::tell` meets its contract: the acknowledgment that was written. Assumes nothing.
 use mathlib.Core.Path.{refl}
-use borrow.Author.Rules.{rules}
 use Rattle.message_answers.proofs.tell.Goals as goal
 
 pub returns : goal.returns

@@ -1,3 +1,4 @@
+-- `name_entries::agree` meets its contract. Assumes nothing.
 use native.Mathlib.Omega.{arith}
 use Rattle.name_entries.proofs.Bits.{agree_is}
 use Rattle.name_entries.proofs.agree.Goals as goal

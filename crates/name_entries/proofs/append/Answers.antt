@@ -1,6 +1,6 @@
+-- `name_entries::append` meets its contract: three words and the count are stored. Assumes nothing.
 use native.Mathlib.Omega.{arith}
 use lib.ListN.{length-set}
-use borrow.Author.Rules.{rules}
 use Rattle.name_entries.proofs.Holding.{appended}
 use Rattle.name_entries.proofs.append.Goals as goal
 

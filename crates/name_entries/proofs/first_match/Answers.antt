@@ -1,8 +1,7 @@
-use Prim.Native.Nat.{◌-◌}
+-- `name_entries::first_match` meets its contract: the entries are compared one after the other. Assumes nothing.
 use mathlib.Core.Path.{sym, ◌∙◌}
 use native.Mathlib.Omega.{arith}
-use borrow.Author.Rules.{rules}
-use Rattle.name_entries.proofs.Matching.{Going, start, other, found, done}
+use Rattle.name_entries.proofs.Matching.{start, other, found, done}
 use Rattle.name_entries.proofs.first_match.Goals as goal
 
 pub loop-i-init : goal.loop-i-init

@@ -1,8 +1,6 @@
+-- `name_entries::first_match` meets its contract: the entries are compared one after the other. Assumes nothing.
 use Prim.Native.Nat.{◌-◌}
-use mathlib.Core.Path.{sym, ◌∙◌}
-use native.Mathlib.Omega.{arith}
-use borrow.Author.Rules.{rules}
-use Rattle.name_entries.proofs.Matching.{Going, start, other, found, done}
+use Rattle.name_entries.proofs.Matching.{Going}
 use Rattle.name_entries.proofs.first_match.Given as goal
 
 abbrev pub invariant-loop-i : goal.invariant-loop-i

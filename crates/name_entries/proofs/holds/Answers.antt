@@ -1,7 +1,7 @@
-use Prim.Native.Nat.{◌-◌}
+-- `name_entries::holds` meets its contract: the entries are compared one after the other. Assumes nothing.
 use mathlib.Core.Path.{sym, ◌∙◌}
 use native.Mathlib.Omega.{arith}
-use Rattle.name_entries.proofs.Holding.{Seeking, start, other, found, done}
+use Rattle.name_entries.proofs.Holding.{start, other, found, done}
 use Rattle.name_entries.proofs.holds.Goals as goal
 
 pub loop-i-init : goal.loop-i-init

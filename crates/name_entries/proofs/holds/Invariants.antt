@@ -1,7 +1,6 @@
+-- `name_entries::holds` meets its contract: the entries are compared one after the other. Assumes nothing.
 use Prim.Native.Nat.{◌-◌}
-use mathlib.Core.Path.{sym, ◌∙◌}
-use native.Mathlib.Omega.{arith}
-use Rattle.name_entries.proofs.Holding.{Seeking, start, other, found, done}
+use Rattle.name_entries.proofs.Holding.{Seeking}
 use Rattle.name_entries.proofs.holds.Given as goal
 
 abbrev pub invariant-loop-i : goal.invariant-loop-i

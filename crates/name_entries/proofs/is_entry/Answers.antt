@@ -1,4 +1,4 @@
-use borrow.Author.Rules.{rules}
+-- `name_entries::is_entry` meets its contract: the three words one after the other. Assumes nothing.
 use Rattle.name_entries.proofs.Holding.{other_pgn, other_name, by_mask}
 use Rattle.name_entries.proofs.is_entry.Goals as goal
 

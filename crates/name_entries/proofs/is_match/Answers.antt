@@ -1,5 +1,5 @@
+-- `name_entries::is_match` meets its contract: the PGN, then the bits that the mask asks for. Assumes nothing.
 use Rattle.name_entries.proofs.Matching.{match_not, match_as}
-use borrow.Author.Rules.{rules}
 use Rattle.name_entries.proofs.is_match.Goals as goal
 
 pub returns-then-block-at : goal.returns-then-block-at

@@ -1,5 +1,5 @@
+-- `name_entries::search` meets its contract: by whether the sender is known. Assumes nothing.
 use Rattle.name_entries.proofs.Matching.{search_none}
-use borrow.Author.Rules.{rules}
 use Rattle.name_entries.proofs.search.Goals as goal
 
 pub returns-in-Unknown : goal.returns-in-Unknown

@@ -1,5 +1,5 @@
+-- `name_entries::search_known` meets its contract: by the index at which the search stopped. Assumes nothing.
 use Rattle.name_entries.proofs.Matching.{search_found, search_past}
-use borrow.Author.Rules.{rules}
 use Rattle.name_entries.proofs.search_known.Goals as goal
 
 pub returns-then-i-n : goal.returns-then-i-n

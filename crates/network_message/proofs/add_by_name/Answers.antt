@@ -1,5 +1,5 @@
+-- `network_message::add_by_name` meets its contract: the NAME and the mask where the payload has them. Assumes nothing.
 use Rattle.network_message.specs.Decoding.{name_of, mask_of}
-use borrow.Author.Rules.{rules}
 use Rattle.network_message.proofs.add_by_name.Goals as goal
 
 pub returns : goal.returns

@@ -1,6 +1,6 @@
+-- `network_message::command_of` meets its contract: by the arm that the function takes. Assumes nothing.
 use borrow.Author.Tests.{ne_eqb}
 use Rattle.network_message.specs.Decoding.{command_of}
-use borrow.Author.Rules.{rules}
 use Rattle.network_message.proofs.command_of.Goals as goal
 
 pub returns-in-0 : goal.returns-in-0

@@ -1,5 +1,5 @@
+-- `network_message::decode` meets its contract: the refusal, if there is one, else the command. Assumes nothing.
 use borrow.Author.Tests.{eq-eqb, ne_eqb}
-use borrow.Author.Rules.{rules}
 use Rattle.network_message.specs.Decoding.{decoded}
 use Rattle.network_message.proofs.decode.Goals as goal
 

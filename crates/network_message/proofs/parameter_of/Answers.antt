@@ -1,5 +1,5 @@
+-- `network_message::parameter_of` meets its contract: a byte fits. Assumes nothing.
 use native.Mathlib.Omega.{arith}
-use borrow.Author.Rules.{rules}
 use Rattle.network_message.proofs.parameter_of.Goals as goal
 
 pub overflow_cast-result : goal.overflow_cast-result

@@ -1,4 +1,4 @@
-use borrow.Author.Rules.{rules}
+-- `network_message::with_entries` meets its contract, by where the entries begin and end. Assumes nothing.
 use Rattle.network_message.proofs.with_entries.Goals as goal
 
 pub returns : goal.returns

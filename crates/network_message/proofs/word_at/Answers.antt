@@ -1,9 +1,9 @@
+-- `network_message::word_at` meets its contract: eight bytes of what is left, and none past the end. Assumes nothing.
 use Prim.Native.Nat.{◌-◌}
 use native.Mathlib.Omega.{arith}
 use lib.ListN.{length, drop, length-drop, drop_of_length-le}
 use lib.Seq.{take_all}
 use Rattle.storage.specs.Bytes.{packed}
-use borrow.Author.Rules.{rules}
 use Rattle.network_message.proofs.word_at.Goals as goal
 
 pub returns-then-payload-at : goal.returns-then-payload-at

@@ -1,6 +1,6 @@
+-- `packets::abort` meets its contract: its eight bytes make that number. Assumes nothing.
 use native.Mathlib.Omega.{arith}
 use Rattle.packets.proofs.Frames.{eight}
-use borrow.Author.Rules.{rules}
 use Rattle.packets.proofs.abort.Goals as goal
 
 pub returns : goal.returns

@@ -1,6 +1,6 @@
+-- `packets::clear_to_send` meets its contract: its eight bytes make that sum. Assumes nothing.
 use native.Mathlib.Omega.{arith}
 use Rattle.packets.proofs.Frames.{eight}
-use borrow.Author.Rules.{rules}
 use Rattle.packets.proofs.clear_to_send.Goals as goal
 
 pub returns : goal.returns

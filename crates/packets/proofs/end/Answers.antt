@@ -1,7 +1,7 @@
+-- `packets::end` meets its contract: its eight bytes make that sum. Assumes nothing.
 use native.Mathlib.Omega.{arith}
 use Prim.Native.Nat.{◌/◌, ◌%◌}
 use Rattle.packets.proofs.Frames.{eight}
-use borrow.Author.Rules.{rules}
 use Rattle.packets.proofs.end.Goals as goal
 
 pub returns : goal.returns

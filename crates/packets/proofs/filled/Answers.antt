@@ -1,3 +1,4 @@
+-- `packets::filled` meets its contract: the bytes make one number, the filling behind them another, and the two are added. Assumes nothing.
 use Rattle.packets.proofs.Words.{first_packed, filled_full, filled_short}
 use Rattle.storage.proofs.Bytes.{AllBytes, packed_small}
 use native.Mathlib.Omega.{arith}

@@ -1,3 +1,4 @@
+-- `packets::filling` meets its contract: each of the seven numbers is that of its bytes. Assumes nothing.
 use Rattle.storage.specs.Bytes.{packed}
 use mathlib.Core.Path.{◌≡◌, refl}
 use native.Mathlib.Omega.{arith}

@@ -1,3 +1,4 @@
+-- `packets::kind_of` meets its contract: a byte of a word is a remainder of a quotient. Assumes nothing.
 use Prim.Native.Nat.{◌/◌, ◌%◌}
 use mathlib.Core.Path.{◌≡◌}
 use native.Mathlib.Omega.{arith}

@@ -1,3 +1,4 @@
+-- `packets::packet` meets its contract: its number and the seven bytes make a word, whose bytes they are. Assumes nothing.
 use Rattle.packets.proofs.Words.{packet_filled, short_part, full_part}
 use Rattle.storage.proofs.Bytes.{AllBytes}
 use borrow.Author.Rules.{rules}

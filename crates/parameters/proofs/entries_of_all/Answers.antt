@@ -1,13 +1,10 @@
+-- `parameters::entries_of_all` meets its contract: the loop's sum is that of the lists passed. Assumes nothing.
 use mathlib.Core.Path.{◌≡◌, refl}
-use Prim.Native.Nat.{◌*◌, ◌-◌, ◌≤◌}
 use native.Mathlib.Omega.{arith}
-use Rattle.pgn_list.specs.PgnList.{list_size}
 use Rattle.unit.specs.Count.{pair_count}
 use Rattle.unit.specs.Ports.{total}
-use Rattle.unit.specs.Model.{model_of}
 use Rattle.unit.proofs.Count.{pairs_most}
 use Rattle.unit.proofs.Ports.{total_step}
-use Rattle.parameters.specs.Parameters.{entries_at}
 use Rattle.parameters.proofs.entries_of_all.Goals as goal
 
 pub loop-i-init : goal.loop-i-init

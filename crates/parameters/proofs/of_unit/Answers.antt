@@ -1,9 +1,9 @@
+-- `parameters::of_unit` meets its contract: by cases of the parameter. Assumes nothing.
 use mathlib.Core.Path.{refl, sym, ◌∙◌}
 use native.Mathlib.Omega.{arith}
 use Rattle.unit.proofs.Count.{pairs_most}
 use Rattle.parameters.specs.Parameters.{general_parameter}
 use Rattle.parameters.proofs.Laws.{chosen_last}
-use borrow.Author.Rules.{rules}
 use Rattle.parameters.proofs.of_unit.Goals as goal
 
 pub overflow_cast-result-in-2 : goal.overflow_cast-result-in-2
@@ -23,7 +23,7 @@ returns-in-3 c = (simp c.in-3.is c.entries_of_all.ensures.0, c.entries_of_all.en
 
 pub returns-in_default : goal.returns-in_default
 unfolding general_parameter
-returns-in_default c = let rest = c.in_default.rest in (
+returns-in_default c = let rest = c.in_default.in_default-own.rest in (
   (rw c.general_at-pairs.ensures at c.losses_at.ensures.0)
       ∙ sym (chosen_last c.args.parameter _ _ _ _ rest.0.0.1 rest.0.1 rest.1),
   omega (arith, c.losses_at.ensures.1),

@@ -1,9 +1,7 @@
-use mathlib.Core.Logic.{⊎_elim}
+-- `pgn_list::close_up` meets its contract: from the first place of x on, x is passed over and another moves to the end of those kept. Assumes nothing.
 use mathlib.Core.Path.{refl}
-use mathlib.Core.List.{[], ◌∷◌}
-use Prim.Native.Nat.{◌-◌, ◌≤◌}
 use native.Mathlib.Omega.{arith}
-use Rattle.pgn_list.proofs.Changes.{Kept, kept_not, kept_one, kept_all}
+use Rattle.pgn_list.proofs.Changes.{kept_not, kept_one, kept_all}
 use Rattle.pgn_list.proofs.Removing.{kept_before, lone_other, lone_same}
 use Rattle.pgn_list.proofs.close_up.Goals.{else-y-x, then-y-x}
 use Rattle.pgn_list.proofs.close_up.Goals as goal

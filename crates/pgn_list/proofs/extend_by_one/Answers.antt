@@ -1,6 +1,6 @@
+-- `pgn_list::extend_by_one` meets its contract: a listed entry changes nothing, another joins the end of a list that is not full. Assumes nothing.
 use mathlib.Core.Path.{refl, sym, ◌∙◌}
 use native.Mathlib.Omega.{arith}
-use borrow.Author.Rules.{rules}
 use Rattle.pgn_list.proofs.Changes.{one_stays, one_joins, one_over}
 use Rattle.pgn_list.proofs.extend_by_one.Goals as goal
 

@@ -1,12 +1,8 @@
-use mathlib.Core.Logic.{⊎_elim}
+-- `pgn_list::extend_by_search` meets its contract: a walk over the entries, in which a listed one changes nothing, another joins the end, and one too many stops it. Assumes nothing.
 use mathlib.Core.Path.{refl, sym, ◌∙◌}
-use Prim.Native.Nat.{◌-◌}
 use native.Mathlib.Omega.{arith}
-use borrow.Author.Rules.{rules}
-use borrow.Author.Tests.{not-true, not-false}
-use Rattle.entries.specs.Entries.{entries_of}
 use Rattle.storage.proofs.Walk.{left_all}
-use Rattle.pgn_list.proofs.Changes.{Held, held_listed, held_new, held_over, held_all}
+use Rattle.pgn_list.proofs.Changes.{held_listed, held_new, held_over, held_all}
 use Rattle.pgn_list.proofs.extend_by_search.Goals.{else-not-is_listed, then-not-is_listed+else-held-eq-LIST_SIZE}
 use Rattle.pgn_list.proofs.extend_by_search.Goals as goal
 

@@ -1,12 +1,7 @@
-use mathlib.Core.Logic.{⊎_elim}
-use mathlib.Core.Path.{refl, sym, ◌∙◌}
+-- `pgn_list::extend_by_search` meets its contract: a walk over the entries, in which a listed one changes nothing, another joins the end, and one too many stops it. Assumes nothing.
 use Prim.Native.Nat.{◌-◌}
-use native.Mathlib.Omega.{arith}
-use borrow.Author.Rules.{rules}
-use borrow.Author.Tests.{not-true, not-false}
 use Rattle.entries.specs.Entries.{entries_of}
-use Rattle.storage.proofs.Walk.{left_all}
-use Rattle.pgn_list.proofs.Changes.{Held, held_listed, held_new, held_over, held_all}
+use Rattle.pgn_list.proofs.Changes.{Held}
 use Rattle.pgn_list.proofs.extend_by_search.Given as goal
 
 abbrev pub invariant-loop-i : goal.invariant-loop-i

@@ -1,9 +1,7 @@
+-- `pgn_list::find` meets its contract: four at a time are compared, and the rest is searched. Assumes nothing.
 use mathlib.Core.Path.{sym, ◌∙◌}
-use Prim.Native.Nat.{◌-◌, ◌≤◌}
 use native.Mathlib.Omega.{arith}
-use lib.ListN.{take}
-use Rattle.pgn_list.specs.Steps.{index_of}
-use Rattle.pgn_list.proofs.Search.{Passed, passed_none, passed_one, passed_two, passed_three, passed_four, found_here}
+use Rattle.pgn_list.proofs.Search.{passed_none, passed_one, passed_two, passed_three, passed_four, found_here}
 use Rattle.pgn_list.proofs.find.Goals as goal
 
 pub loop-i-init : goal.loop-i-init

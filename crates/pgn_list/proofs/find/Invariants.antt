@@ -1,9 +1,8 @@
-use mathlib.Core.Path.{sym, ◌∙◌}
+-- `pgn_list::find` meets its contract: four at a time are compared, and the rest is searched. Assumes nothing.
 use Prim.Native.Nat.{◌-◌, ◌≤◌}
-use native.Mathlib.Omega.{arith}
 use lib.ListN.{take}
 use Rattle.pgn_list.specs.Steps.{index_of}
-use Rattle.pgn_list.proofs.Search.{Passed, passed_none, passed_one, passed_two, passed_three, passed_four, found_here}
+use Rattle.pgn_list.proofs.Search.{Passed}
 use Rattle.pgn_list.proofs.find.Given as goal
 
 abbrev pub invariant-loop-i : goal.invariant-loop-i

@@ -1,8 +1,8 @@
+-- `pgn_list::find_from` meets its contract: a loop that stops at the first entry that is x. Assumes nothing.
 use Prim.Native.Nat.{◌+◌, ◌-◌}
-use native.Mathlib.Omega.{arith}
 use lib.ListN.{take, drop}
 use Rattle.pgn_list.specs.Steps.{index_of}
-use Rattle.pgn_list.proofs.Search.{Passed, passed_start, passed_one, found_here, found_none}
+use Rattle.pgn_list.proofs.Search.{Passed}
 use Rattle.pgn_list.proofs.find_from.Given as goal
 
 abbrev pub invariant-loop-i : goal.invariant-loop-i

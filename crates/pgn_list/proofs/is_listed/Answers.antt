@@ -1,4 +1,4 @@
-use borrow.Author.Rules.{rules}
+-- `pgn_list::is_listed` meets its contract: the search ends inside exactly where x is listed. Assumes nothing.
 use Rattle.pgn_list.proofs.Search.{found_says}
 use Rattle.pgn_list.proofs.is_listed.Goals as goal
 

@@ -1,8 +1,6 @@
-use Prim.Native.Nat.{◌-◌}
+-- `pgn_list::keep_others_by_search` meets its contract: what one entry leaves is left to the next. Assumes nothing.
 use native.Mathlib.Omega.{arith}
-use borrow.Author.Rules.{rules}
-use Rattle.entries.specs.Entries.{entries_of}
-use Rattle.pgn_list.proofs.Removing.{Removed, removed_none, removed_one, removed_all}
+use Rattle.pgn_list.proofs.Removing.{removed_none, removed_one, removed_all}
 use Rattle.pgn_list.proofs.keep_others_by_search.Goals as goal
 
 pub loop-i-init : goal.loop-i-init

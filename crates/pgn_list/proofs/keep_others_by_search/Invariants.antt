@@ -1,8 +1,7 @@
+-- `pgn_list::keep_others_by_search` meets its contract: what one entry leaves is left to the next. Assumes nothing.
 use Prim.Native.Nat.{◌-◌}
-use native.Mathlib.Omega.{arith}
-use borrow.Author.Rules.{rules}
 use Rattle.entries.specs.Entries.{entries_of}
-use Rattle.pgn_list.proofs.Removing.{Removed, removed_none, removed_one, removed_all}
+use Rattle.pgn_list.proofs.Removing.{Removed}
 use Rattle.pgn_list.proofs.keep_others_by_search.Given as goal
 
 abbrev pub invariant-loop-i : goal.invariant-loop-i

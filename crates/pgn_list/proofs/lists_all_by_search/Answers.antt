@@ -1,11 +1,8 @@
+-- `pgn_list::lists_all_by_search` meets its contract: a walk over the entries that stops at the first one that is not listed. Assumes nothing.
 use mathlib.Core.Path.{refl, sym, ◌∙◌}
-use Prim.Native.Nat.{◌-◌}
 use native.Mathlib.Omega.{arith}
-use borrow.Author.Rules.{rules}
-use borrow.Author.Tests.{not-true, not-false}
-use lib.ListN.{take}
-use Rattle.entries.specs.Entries.{listed, every, entries_of}
-use Rattle.storage.proofs.Walk.{Left, left_all, left_none}
+use Rattle.entries.specs.Entries.{every}
+use Rattle.storage.proofs.Walk.{left_all, left_none}
 use Rattle.pgn_list.proofs.Changes.{every_not, every_on}
 use Rattle.pgn_list.proofs.lists_all_by_search.Goals as goal
 

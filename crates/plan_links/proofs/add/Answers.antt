@@ -1,9 +1,8 @@
-use mathlib.Core.Path.{◌≡◌, sym, ◌∙◌}
+-- `plan_links::add` meets its contract: by the two tests. Assumes nothing.
+use mathlib.Core.Path.{sym, ◌∙◌}
 use mathlib.Core.Bool.{true}
 use native.Mathlib.Omega.{arith}
-use Rattle.plan_links.specs.Links.{link_in_range}
-use Rattle.plan_links.proofs.Puts.{Ranged, ranged, put_good, put_again, put_outside}
-use borrow.Author.Rules.{rules}
+use Rattle.plan_links.proofs.Puts.{ranged, put_good, put_again, put_outside}
 use Rattle.plan_links.proofs.add.Goals as goal
 
 -- `plan_links::add` meets its contract: by the two tests. Assumes nothing.

@@ -1,5 +1,5 @@
+-- `plan_links::hear_table` meets its contract: by the tests on the way. Assumes nothing.
 use Rattle.plan_links.proofs.Puts.{table_good, table_short, table_bad}
-use borrow.Author.Rules.{rules}
 use Rattle.plan_links.proofs.hear_table.Goals as goal
 
 pub returns-then-table : goal.returns-then-table

@@ -1,6 +1,6 @@
+-- `plan_links::is_in_range` meets its contract: by the tests on the way. Assumes nothing.
 use borrow.Author.Tests.{lt-leb, le-leb}
 use Rattle.plan_links.specs.Links.{link_in_range}
-use borrow.Author.Rules.{rules}
 use Rattle.plan_links.proofs.is_in_range.Goals as goal
 
 pub returns-then-link-lt1 : goal.returns-then-link-lt1

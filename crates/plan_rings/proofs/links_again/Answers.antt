@@ -1,9 +1,9 @@
+-- `plan_rings::links_again` meets its contract: by the way that the code went. Assumes nothing.
 use mathlib.Core.Path.{sym, refl}
 use Prim.Native.Nat.{◌/◌}
 use native.Mathlib.Omega.{arith}
 use Rattle.plan_rings.specs.Rings.{unit_node}
 use Rattle.plan_rings.proofs.Labels.{relabel_alone, link_none, link_again, link_joined}
-use borrow.Author.Rules.{rules}
 use Rattle.plan_rings.proofs.links_again.Goals as goal
 
 pub returns-then-segment-eq0 : goal.returns-then-segment-eq0

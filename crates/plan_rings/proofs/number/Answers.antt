@@ -1,7 +1,6 @@
-use Prim.Native.Nat.{◌-◌}
+-- `plan_rings::number` meets its contract: the places below i have their own label. Assumes nothing.
 use native.Mathlib.Omega.{arith}
-use Rattle.plan_rings.specs.Rings.{nodes}
-use Rattle.plan_rings.proofs.Labels.{NumberedTo, number_start, number_more, number_done}
+use Rattle.plan_rings.proofs.Labels.{number_start, number_more, number_done}
 use Rattle.plan_rings.proofs.number.Goals as goal
 
 pub loop-i-init : goal.loop-i-init

@@ -1,7 +1,7 @@
+-- `plan_rings::number` meets its contract: the places below i have their own label. Assumes nothing.
 use Prim.Native.Nat.{◌-◌}
-use native.Mathlib.Omega.{arith}
 use Rattle.plan_rings.specs.Rings.{nodes}
-use Rattle.plan_rings.proofs.Labels.{NumberedTo, number_start, number_more, number_done}
+use Rattle.plan_rings.proofs.Labels.{NumberedTo}
 use Rattle.plan_rings.proofs.number.Given as goal
 
 abbrev pub invariant-loop-i : goal.invariant-loop-i

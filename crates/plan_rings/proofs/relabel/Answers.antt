@@ -1,8 +1,6 @@
-use Prim.Native.Nat.{◌-◌, ◌≤◌}
+-- `plan_rings::relabel` meets its contract: the places below i are turned, the others as they were. Assumes nothing.
 use native.Mathlib.Omega.{arith}
-use borrow.Author.Rules.{rules}
-use Rattle.plan_rings.specs.Rings.{nodes}
-use Rattle.plan_rings.proofs.Labels.{RelabeledTo, relabel_start, relabel_one, relabel_done}
+use Rattle.plan_rings.proofs.Labels.{relabel_start, relabel_one, relabel_done}
 use Rattle.plan_rings.proofs.relabel.Goals as goal
 
 pub loop-i-init : goal.loop-i-init

@@ -1,8 +1,7 @@
+-- `plan_rings::relabel` meets its contract: the places below i are turned, the others as they were. Assumes nothing.
 use Prim.Native.Nat.{◌-◌, ◌≤◌}
-use native.Mathlib.Omega.{arith}
-use borrow.Author.Rules.{rules}
 use Rattle.plan_rings.specs.Rings.{nodes}
-use Rattle.plan_rings.proofs.Labels.{RelabeledTo, relabel_start, relabel_one, relabel_done}
+use Rattle.plan_rings.proofs.Labels.{RelabeledTo}
 use Rattle.plan_rings.proofs.relabel.Given as goal
 
 abbrev pub invariant-loop-i : goal.invariant-loop-i

@@ -1,3 +1,4 @@
+-- `plan_rings::turned` meets its contract: by its test. Assumes nothing.
 use borrow.Author.Tests.{eq-eqb, ne_eqb}
 use Rattle.plan_rings.proofs.turned.Goals as goal
 

@@ -1,6 +1,6 @@
+-- `plan_shape::are_numbers` meets its contract: by the tests on the way. Assumes nothing.
 use borrow.Author.Tests.{lt-leb, le-leb}
 use Rattle.plan_shape.specs.Plan.{numbers_in_range}
-use borrow.Author.Rules.{rules}
 use Rattle.plan_shape.proofs.are_numbers.Goals as goal
 
 pub returns-then-segments : goal.returns-then-segments

@@ -1,12 +1,12 @@
+-- `plan_shape::are_ports` meets its contract: the loop answers at the first port that is out of range. Assumes nothing.
 use mathlib.Core.Path.{◌≡◌, sym}
 use mathlib.Core.Bool.{Bool, true}
 use mathlib.Core.List.{List}
-use Prim.Native.Nat.{ℕ, ◌-◌, ◌≤◌}
+use Prim.Native.Nat.{ℕ}
 use native.Mathlib.Omega.{arith}
 use borrow.Author.Tests.{lt-leb, le-leb}
 use lib.ListN.{get_or}
 use lib.Dec.{leb}
-use Rattle.plan_shape.specs.Plan.{below}
 use Rattle.plan_shape.proofs.Ranges.{below_none, below_more, below_not}
 use Rattle.plan_shape.proofs.are_ports.Goals as goal
 

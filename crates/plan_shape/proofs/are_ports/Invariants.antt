@@ -1,13 +1,11 @@
-use mathlib.Core.Path.{◌≡◌, sym}
+-- `plan_shape::are_ports` meets its contract: the loop answers at the first port that is out of range. Assumes nothing.
+use mathlib.Core.Path.{◌≡◌}
 use mathlib.Core.Bool.{Bool, true}
 use mathlib.Core.List.{List}
 use Prim.Native.Nat.{ℕ, ◌-◌, ◌≤◌}
-use native.Mathlib.Omega.{arith}
-use borrow.Author.Tests.{lt-leb, le-leb}
 use lib.ListN.{get_or}
 use lib.Dec.{leb}
 use Rattle.plan_shape.specs.Plan.{below}
-use Rattle.plan_shape.proofs.Ranges.{below_none, below_more, below_not}
 use Rattle.plan_shape.proofs.are_ports.Given as goal
 
 -- `plan_shape::are_ports` meets its contract: the loop answers at the first port that is out of range. Assumes nothing.

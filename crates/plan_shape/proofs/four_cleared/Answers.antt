@@ -1,3 +1,4 @@
+-- `plan_shape::four_cleared` meets its contract: the first mode was compared, and the bits of the other three. Assumes nothing.
 use mathlib.Core.Bool.{false≢true}
 use borrow.Author.Tests.{eqb-true}
 use Rattle.plan_shape.proofs.Ranges.{four_cleared}

@@ -1,8 +1,8 @@
+-- `plan_shape::is_in_range` meets its contract: the numbers, then the ports, then the lists. Assumes nothing.
 use mathlib.Core.Path.{sym, ◌∙◌}
 use native.Mathlib.Omega.{arith}
 use Rattle.plan_shape.specs.Plan.{in_range}
 use Rattle.plan_shape.proofs.Ranges.{numbers}
-use borrow.Author.Rules.{rules}
 use Rattle.plan_shape.proofs.is_in_range.Goals as goal
 
 pub are_ports-segmented-requires : goal.are_ports-segmented-requires

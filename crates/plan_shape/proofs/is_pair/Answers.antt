@@ -1,4 +1,4 @@
-use borrow.Author.Rules.{rules}
+-- `plan_shape::is_pair` meets its contract: by the tests on the way. Assumes nothing.
 use borrow.Author.Tests.{lt-leb, le-leb, eq-eqb, ne_eqb}
 use Rattle.plan_shape.specs.Plan.{pair_in_range}
 use Rattle.plan_shape.proofs.is_pair.Goals as goal

@@ -1,6 +1,5 @@
-use Prim.Native.Nat.{◌-◌}
+-- `plan_shape::past_cleared` meets its contract: a loop that passes over four at a time. Assumes nothing.
 use native.Mathlib.Omega.{arith}
-use Rattle.plan_shape.specs.Steps.{Passing}
 use Rattle.plan_shape.proofs.Ranges.{pass_none, pass_four}
 use Rattle.plan_shape.proofs.past_cleared.Goals as goal
 

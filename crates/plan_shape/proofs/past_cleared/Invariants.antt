@@ -1,7 +1,6 @@
+-- `plan_shape::past_cleared` meets its contract: a loop that passes over four at a time. Assumes nothing.
 use Prim.Native.Nat.{◌-◌}
-use native.Mathlib.Omega.{arith}
 use Rattle.plan_shape.specs.Steps.{Passing}
-use Rattle.plan_shape.proofs.Ranges.{pass_none, pass_four}
 use Rattle.plan_shape.proofs.past_cleared.Given as goal
 
 abbrev pub invariant-loop-i : goal.invariant-loop-i

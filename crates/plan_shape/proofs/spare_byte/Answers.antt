@@ -1,4 +1,4 @@
-use mathlib.Core.Path.{refl}
+-- `plan_shape::spare_byte` meets its contract: PF is 240 and up where its upper four bits are ones. Assumes nothing.
 use native.Mathlib.Omega.{arith}
 use Rattle.plan_shape.proofs.Together.{upper_ones, upper_others}
 use Rattle.plan_shape.proofs.spare_byte.Goals as goal

@@ -1,15 +1,11 @@
 -- `from_segment` and `from_unit`, which call each other, meet their contracts. The measure of both is the number of unvisited units and segments: each marks one
 -- before it calls the other. Assumes nothing.
-use native.Mathlib.Omega.{arith}
-use Prim.Native.Nat.{◌+◌, ◌-◌, ◌*◌, ◌<◌}
-use mathlib.Core.Path.{◌≡◌, sym, ◌∙◌}
-use mathlib.Core.Logic.{⊎_elim}
+use Prim.Native.Nat.{◌-◌, ◌<◌}
+use mathlib.Core.Path.{◌≡◌}
 use lib.ListN.{get_or}
 use Rattle.plan_shape.specs.Plan.{plan_of}
-use Rattle.plan_walk.specs.Walk.{unit_place, unvisited}
-use Rattle.plan_walk.proofs.Marks.{falls_to}
-use Rattle.plan_walk.proofs.Bits.{shifted}
-use Rattle.plan_walk.proofs.Turns.{FromSegment, FromUnit, walk_marked, walk_told, unit_start, unit_past, unit_more, unit_done, segment_start, segment_past, segment_more, segment_next, segment_done}
+use Rattle.plan_walk.specs.Walk.{unvisited}
+use Rattle.plan_walk.proofs.Turns.{FromSegment, FromUnit}
 use Rattle.plan_walk.proofs.+from_segment_from_unit.Given as goal
 
 abbrev pub decreases-from_segment : goal.decreases-from_segment

@@ -1,7 +1,7 @@
+-- `plan_walk::chain_links` meets its contract: from the last link to the first. Assumes nothing.
 use mathlib.Core.Path.{◌≡◌, refl}
-use Prim.Native.Nat.{◌-◌, ◌≤◌}
+use Prim.Native.Nat.{◌-◌}
 use native.Mathlib.Omega.{arith}
-use Rattle.plan_walk.specs.Walk.{Chained}
 use Rattle.plan_walk.proofs.Chain.{chain_past, chain_more}
 use Rattle.plan_walk.proofs.chain_links.Goals as goal
 

@@ -1,8 +1,6 @@
-use mathlib.Core.Path.{◌≡◌, refl}
-use Prim.Native.Nat.{◌-◌, ◌≤◌}
-use native.Mathlib.Omega.{arith}
+-- `plan_walk::chain_links` meets its contract: from the last link to the first. Assumes nothing.
+use Prim.Native.Nat.{◌≤◌}
 use Rattle.plan_walk.specs.Walk.{Chained}
-use Rattle.plan_walk.proofs.Chain.{chain_past, chain_more}
 use Rattle.plan_walk.proofs.chain_links.Given as goal
 
 abbrev pub invariant-loop-link : goal.invariant-loop-link

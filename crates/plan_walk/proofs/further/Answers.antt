@@ -1,7 +1,7 @@
+-- `plan_walk::further` meets its contract: by the first test that stops the walk. Assumes nothing.
 use mathlib.Core.Path.{sym, refl, ◌∙◌}
 use mathlib.Core.Bool.{true≢false}
 use Rattle.plan_walk.proofs.Ask.{stopped, goes_on_lem}
-use borrow.Author.Rules.{rules}
 use Rattle.plan_walk.proofs.further.Goals as goal
 
 pub returns-then-port-entered : goal.returns-then-port-entered

@@ -1,10 +1,10 @@
+-- `plan_walk::hear` meets its contract: from unmarked marks the walk reaches what hears. Assumes nothing.
 use mathlib.Core.Path.{refl}
 use native.Mathlib.Omega.{arith}
 use Rattle.plan_walk.specs.Walk.{marks_length, chain_length}
 use Rattle.plan_walk.proofs.Chain.{chain_start}
 use Rattle.plan_walk.proofs.Paths.{unmarked_at}
 use Rattle.plan_walk.proofs.Answer.{walk_fresh, answer_is}
-use borrow.Author.Rules.{rules}
 use Rattle.plan_walk.proofs.hear.Goals as goal
 
 pub chain_links-requires : goal.chain_links-requires

@@ -1,6 +1,6 @@
+-- `plan_walk::pair_at` meets its contract: by the test on the way. Assumes nothing.
 use native.Mathlib.Omega.{arith}
 use borrow.Author.Tests.{lt-ltb, le-ltb}
-use borrow.Author.Rules.{rules}
 use Rattle.plan_walk.proofs.pair_at.Goals as goal
 
 pub returns-then-to-from : goal.returns-then-to-from

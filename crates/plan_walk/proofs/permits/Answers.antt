@@ -1,5 +1,5 @@
+-- `plan_walk::permits` meets its contract: asking the pair's part of the lists. Assumes nothing.
 use Rattle.plan_walk.proofs.Ask.{permit_is}
-use borrow.Author.Rules.{rules}
 use Rattle.plan_walk.proofs.permits.Goals as goal
 
 pub returns : goal.returns

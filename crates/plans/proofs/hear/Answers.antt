@@ -1,10 +1,9 @@
-use mathlib.Core.Path.{◌≡◌, sym, ◌∙◌}
+-- `plans::hear` meets its contract: by the way that the code went. Assumes nothing.
+use mathlib.Core.Path.{sym, ◌∙◌}
 use mathlib.Core.Bool.{true, true≢false}
-use Rattle.plan_shape.specs.Plan.{Plan, plan_of, in_range}
-use Rattle.plans.specs.Plans.{Lent}
-use Rattle.plan_shape.proofs.Ranges.{Ranged, ranged}
+use Rattle.plan_shape.specs.Plan.{plan_of, in_range}
+use Rattle.plan_shape.proofs.Ranges.{ranged}
 use Rattle.plans.proofs.Answers.{refused_2, refused_28, refused_29, answer, walkable, first_small}
-use borrow.Author.Rules.{rules}
 use Rattle.plans.proofs.hear.Goals as goal
 
 -- `plans::hear` meets its contract: by the way that the code went. Assumes nothing.

@@ -1,8 +1,7 @@
-use Rattle.std.proofs.Common.{◌≡◌, ◌-◌, ◌≤◌, length, refl, ◌∙◌, arith}
+-- `queue::close_up` meets its contract. The loop's invariant: up to `place` the frames without frame `at`, from there on the frames as they were. Assumes nothing.
+use Rattle.std.proofs.Common.{◌≡◌, ◌-◌, ◌≤◌, length}
 use Rattle.queue.specs.Queue.{block_length, head, frames_of}
-use Rattle.queue.specs.Steps.{blank}
-use Rattle.queue.proofs.Words.{frames_length}
-use Rattle.queue.proofs.Lists.{shifted, shift_start, shift_step, shift_done}
+use Rattle.queue.proofs.Lists.{shifted}
 use Rattle.queue.proofs.close_up.Given as goal
 
 abbrev pub invariant-loop-place : goal.invariant-loop-place

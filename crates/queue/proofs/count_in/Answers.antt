@@ -1,4 +1,4 @@
-use Rattle.std.proofs.Common.{rules}
+-- `queue::count_in` meets its contract: two words go up by one. Assumes nothing.
 use Rattle.queue.proofs.Tallies.{counted_in_lem}
 use Rattle.queue.proofs.count_in.Goals as goal
 

@@ -1,4 +1,5 @@
-use Rattle.std.proofs.Common.{◌≡◌, ◌+◌, get_or, arith, rules}
+-- `queue::count_out` meets its contract: one word goes down by one, one up. Assumes nothing.
+use Rattle.std.proofs.Common.{◌≡◌, ◌+◌, get_or, arith}
 use Rattle.queue.specs.Queue.{one_less}
 use Rattle.queue.proofs.Tallies.{counted_out_lem}
 use Rattle.queue.proofs.count_out.Goals as goal

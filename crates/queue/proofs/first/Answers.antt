@@ -1,7 +1,8 @@
-use Rattle.std.proofs.Common.{◌≡◌, ◌-◌, ◌≤◌, take, ⊎_elim, arith}
+-- `queue::first` meets its contract. The loop's invariant is `Scan`: of the first i frames, a take gives the one at `at`, whose number is `low`. Assumes nothing.
+use Rattle.std.proofs.Common.{◌≡◌, arith}
 use Rattle.queue.specs.Queue.{frames_of}
 use Rattle.queue.proofs.Words.{frames_length}
-use Rattle.queue.proofs.Scan.{Scan, scan_start, scan_lower, scan_keep, scan_done}
+use Rattle.queue.proofs.Scan.{scan_start, scan_lower, scan_keep, scan_done}
 use Rattle.queue.proofs.first.Goals.{else-p-low, then-p-low}
 use Rattle.queue.proofs.first.Goals as goal
 

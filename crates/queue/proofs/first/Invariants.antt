@@ -1,7 +1,7 @@
-use Rattle.std.proofs.Common.{◌≡◌, ◌-◌, ◌≤◌, take, ⊎_elim, arith}
+-- `queue::first` meets its contract. The loop's invariant is `Scan`: of the first i frames, a take gives the one at `at`, whose number is `low`. Assumes nothing.
+use Rattle.std.proofs.Common.{◌-◌, ◌≤◌, take}
 use Rattle.queue.specs.Queue.{frames_of}
-use Rattle.queue.proofs.Words.{frames_length}
-use Rattle.queue.proofs.Scan.{Scan, scan_start, scan_lower, scan_keep, scan_done}
+use Rattle.queue.proofs.Scan.{Scan}
 use Rattle.queue.proofs.first.Given as goal
 
 abbrev pub invariant-loop-i : goal.invariant-loop-i

@@ -1,4 +1,5 @@
-use Rattle.std.proofs.Common.{◌+◌, ◌*◌, arith, rules}
+-- `queue::get` meets its contract: two words of the block are a frame of it. Assumes nothing.
+use Rattle.std.proofs.Common.{◌+◌, ◌*◌, arith}
 use Rattle.queue.proofs.Words.{frames_get}
 use Rattle.queue.proofs.get.Goals as goal
 

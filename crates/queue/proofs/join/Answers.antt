@@ -1,4 +1,5 @@
-use Rattle.std.proofs.Common.{◌+◌, arith, length-set, rules}
+-- `queue::join` meets its contract, by the laws of `Block` and what each step ensures. Assumes nothing.
+use Rattle.std.proofs.Common.{◌+◌, arith, length-set}
 use Rattle.queue.proofs.Block.{joined_in, lost}
 use Rattle.queue.proofs.join.Goals as goal
 

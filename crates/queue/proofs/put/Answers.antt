@@ -1,4 +1,5 @@
-use Rattle.std.proofs.Common.{arith, length-set, rules}
+-- `queue::put` meets its contract: two words stored are a frame stored. Assumes nothing.
+use Rattle.std.proofs.Common.{arith, length-set}
 use Rattle.queue.proofs.Words.{frames_put, head_put}
 use Rattle.queue.proofs.put.Goals as goal
 

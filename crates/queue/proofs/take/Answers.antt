@@ -1,4 +1,5 @@
-use Rattle.std.proofs.Common.{◌-◌, arith, length-set, rules}
+-- `queue::take` meets its contract, by the laws of `Block` and what each step ensures. Assumes nothing.
+use Rattle.std.proofs.Common.{◌-◌, arith, length-set}
 use Rattle.queue.proofs.Block.{took_nothing, took}
 use Rattle.queue.proofs.take.Goals as goal
 

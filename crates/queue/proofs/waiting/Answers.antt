@@ -1,4 +1,5 @@
-use Rattle.std.proofs.Common.{arith, rules}
+-- `queue::waiting` meets its contract: the row has as many frames as the count says, and 32 where it says more. Assumes nothing.
+use Rattle.std.proofs.Common.{arith}
 use Rattle.queue.proofs.Block.{held_count, held_all}
 use Rattle.queue.proofs.waiting.Goals as goal
 

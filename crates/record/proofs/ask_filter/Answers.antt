@@ -1,3 +1,4 @@
+-- `record::ask_filter` meets its contract: where the pair has NAME entries the sender's NAME is looked up, and the filter's block is lent to be read. Assumes nothing.
 use mathlib.Core.Path.{refl, sym, ◌∙◌}
 use borrow.Author.Tests.{leb-true, leb-false}
 use native.Mathlib.Omega.{arith}

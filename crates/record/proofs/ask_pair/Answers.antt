@@ -1,4 +1,4 @@
-use borrow.Author.Rules.{rules}
+-- `record::ask_pair` meets its contract: the pair's filter is asked. Assumes nothing.
 use Rattle.record.proofs.ask_pair.Goals as goal
 
 pub returns : goal.returns

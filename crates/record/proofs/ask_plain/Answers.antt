@@ -1,3 +1,4 @@
+-- `record::ask_plain` meets its contract: the filter's block is lent to be read. Without NAME entries the sender has no say. Assumes nothing.
 use mathlib.Core.Path.{refl}
 use native.Mathlib.Omega.{arith}
 use Rattle.storage.proofs.Parts.{range_size}

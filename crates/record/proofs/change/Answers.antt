@@ -1,3 +1,4 @@
+-- `record::change` meets its contract: the filter's block was lent and came back. Assumes nothing.
 use native.Mathlib.Omega.{arith}
 use Rattle.storage.proofs.Parts.{range_size}
 use Rattle.filter.specs.Filter.{block_size as filter_length}

@@ -1,6 +1,6 @@
+-- `record::counter_at` meets its contract: there are at most 56 pairs. Assumes nothing.
 use native.Mathlib.Omega.{arith}
 use Rattle.unit.proofs.Count.{pairs_most}
-use borrow.Author.Rules.{rules}
 use Rattle.record.proofs.counter_at.Goals as goal
 
 pub overflow_add-result : goal.overflow_add-result

@@ -1,6 +1,6 @@
-use mathlib.Core.Path.{◌≡◌, sym, ap, ◌∙◌}
+-- `record::counts_at` meets its contract: the queue's block is lent to be read. Assumes nothing.
+use mathlib.Core.Path.{sym, ap, ◌∙◌}
 use Prim.Native.Nat.{◌+◌, ◌*◌}
-use native.Mathlib.Omega.{arith}
 use Rattle.storage.proofs.Parts.{range_size}
 use Rattle.queue.specs.Queue.{Queued, queue_of, block_length as queue_length}
 use Rattle.unit.specs.Model.{rows_from}

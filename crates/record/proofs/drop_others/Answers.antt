@@ -1,3 +1,4 @@
+-- `record::drop_others` meets its contract: the address table was lent and came back. Assumes nothing.
 use native.Mathlib.Omega.{arith}
 use Rattle.record.proofs.Regions.{table_changed}
 use borrow.Author.Rules.{rules}

@@ -1,3 +1,4 @@
+-- `record::entries_of` meets its contract: the filter's block is lent to be read. Assumes nothing.
 use Rattle.storage.proofs.Parts.{range_size}
 use Rattle.filter.specs.Filter.{block_size as filter_length}
 use Rattle.record.proofs.Regions.{pair_of}

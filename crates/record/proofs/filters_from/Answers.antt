@@ -1,6 +1,6 @@
+-- `record::filters_from` meets its contract: the filter of the first pair begins there. Assumes nothing.
 use native.Mathlib.Omega.{arith}
 use Rattle.unit.proofs.Count.{row_below}
-use borrow.Author.Rules.{rules}
 use Rattle.record.proofs.filters_from.Goals as goal
 
 pub filter_at-requires : goal.filter_at-requires

@@ -1,6 +1,6 @@
+-- `record::first_pair` meets its contract: there are at most 56 pairs. Assumes nothing.
 use native.Mathlib.Omega.{arith}
 use Rattle.unit.proofs.Count.{pairs_most, row_below}
-use borrow.Author.Rules.{rules}
 use Rattle.record.proofs.first_pair.Goals as goal
 
 pub overflow_mul-result : goal.overflow_mul-result

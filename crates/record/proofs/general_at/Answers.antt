@@ -1,3 +1,4 @@
+-- `record::general_at` meets its contract: there are at most 56 pairs. Assumes nothing.
 use native.Mathlib.Omega.{arith}
 use Rattle.unit.specs.Count.{pair_count}
 use Rattle.unit.proofs.Count.{pairs_most}

@@ -1,10 +1,8 @@
+-- `record::has_names` meets its contract: the filter's mode word is read. Assumes nothing.
 use native.Mathlib.Omega.{arith}
-use lib.ListN.{get_or}
-use lib.Dec.{leb}
 use Rattle.storage.proofs.Parts.{range_size}
 use Rattle.filter.specs.Filter.{block_size as filter_length}
 use Rattle.record.proofs.Regions.{first_word}
-use borrow.Author.Rules.{rules}
 use Rattle.record.proofs.has_names.Goals as goal
 
 pub returns : goal.returns

@@ -1,5 +1,5 @@
+-- `record::holder` meets its contract: the address table is lent to be read. Assumes nothing.
 use Rattle.unit.specs.Model.{model_of}
-use borrow.Author.Rules.{rules}
 use Rattle.record.proofs.holder.Goals as goal
 
 pub returns : goal.returns

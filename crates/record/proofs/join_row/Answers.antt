@@ -1,3 +1,4 @@
+-- `record::join_row` meets its contract: the queue's block was lent and came back. Assumes nothing.
 use Prim.Native.Nat.{◌+◌, ◌*◌}
 use native.Mathlib.Omega.{arith}
 use Rattle.storage.proofs.Parts.{range_size}

@@ -1,3 +1,4 @@
+-- `record::losses_at` meets its contract: the counter is lent to be read. Assumes nothing.
 use Rattle.storage.proofs.Parts.{range_size}
 use Rattle.losses.specs.Losses.{counter_length}
 use Rattle.record.proofs.Regions.{losses_of_lem}

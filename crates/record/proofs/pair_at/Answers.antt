@@ -1,8 +1,8 @@
+-- `record::pair_at` meets its contract: by the test on the way. Assumes nothing.
 use native.Mathlib.Omega.{arith}
 use Prim.Native.Nat.{◌-◌}
 use borrow.Author.Tests.{lt-ltb, le-ltb}
 use Rattle.unit.proofs.Count.{pairs_most, row_below, pair_below}
-use borrow.Author.Rules.{rules}
 use Rattle.record.proofs.pair_at.Goals as goal
 
 pub overflow_add-result : goal.overflow_add-result

@@ -1,5 +1,5 @@
+-- `record::reply_addresses` meets its contract: the address table is lent to be read. Assumes nothing.
 use Rattle.unit.specs.Model.{model_of}
-use borrow.Author.Rules.{rules}
 use Rattle.record.proofs.reply_addresses.Goals as goal
 
 pub returns : goal.returns

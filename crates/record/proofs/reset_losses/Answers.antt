@@ -1,3 +1,4 @@
+-- `record::reset_losses` meets its contract: the counter was lent and came back. Assumes nothing.
 use native.Mathlib.Omega.{arith}
 use Rattle.storage.proofs.Parts.{range_size}
 use Rattle.losses.specs.Losses.{counter_length}

@@ -1,7 +1,7 @@
+-- `record::sender` meets its contract: an address past the table has no NAME, another the one of its place. Assumes nothing.
 use native.Mathlib.Omega.{arith}
 use Rattle.addresses.specs.Table.{name_in, name_at}
 use Rattle.record.proofs.Regions.{name_past}
-use borrow.Author.Rules.{rules}
 use Rattle.record.proofs.sender.Goals as goal
 
 pub returns-then-address-gt253 : goal.returns-then-address-gt253

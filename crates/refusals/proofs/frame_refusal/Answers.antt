@@ -1,4 +1,4 @@
-use borrow.Author.Rules.{rules}
+-- `refusals::frame_refusal` meets its contract: the checks of a take first, then by the tests on the way. Assumes nothing.
 use borrow.Author.Tests.{lt-ltb, le-ltb}
 use Rattle.refusals.specs.Refusals.{frame_refusal, take_refusal}
 use Rattle.checks.specs.Ports.{no_port}

@@ -1,3 +1,4 @@
+-- `refusals::late_refusal` meets its contract: by the tests on the way. Assumes nothing.
 use borrow.Author.Tests.{lt-ltb, le-ltb, le-leb, lt-leb}
 use Rattle.refusals.proofs.late_refusal.Goals as goal
 

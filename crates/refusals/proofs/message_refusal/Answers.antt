@@ -1,3 +1,4 @@
+-- `refusals::message_refusal` meets its contract: the checks of a take first, then by the tests on the way. Assumes nothing.
 use mathlib.Core.Path.{sym, ◌∙◌}
 use borrow.Author.Tests.{lt-ltb, le-ltb}
 use native.Mathlib.Omega.{arith}
@@ -7,7 +8,6 @@ use Rattle.refusals.specs.Refusals.{take_refusal, message_refusal}
 use Rattle.checks.specs.Ports.{no_port}
 use Rattle.unit.specs.PowerOn.{not_long}
 use Rattle.refusals.proofs.Checks.{take_goes, refused_early, passed_early}
-use borrow.Author.Rules.{rules}
 use Rattle.refusals.proofs.message_refusal.Goals as goal
 
 pub returns-then-number-ne0 : goal.returns-then-number-ne0

@@ -1,6 +1,6 @@
+-- `refusals::take_refusal` meets its contract: by the tests on the way. Assumes nothing.
 use mathlib.Core.Path.{sym, ◌∙◌}
-use borrow.Author.Rules.{rules}
-use borrow.Author.Tests.{eq-eqb, ne_eqb, not-true, not-false}
+use borrow.Author.Tests.{eq-eqb, ne_eqb}
 use Rattle.refusals.specs.Refusals.{take_refusal}
 use Rattle.refusals.proofs.take_refusal.Goals as goal
 

@@ -1,5 +1,5 @@
+-- `replies::acknowledge` meets its contract: a run of eight stores from the first byte on. Assumes nothing.
 use native.Mathlib.Omega.{arith}
-use borrow.Author.Rules.{rules}
 use lib.ListN.{length-set}
 use lib.Seq.{sets-eq}
 use Rattle.replies.specs.Replies.{acknowledgment}

@@ -1,3 +1,4 @@
+-- `replies::control` meets its contract: by the arm that the number takes. Assumes nothing.
 use borrow.Author.Tests.{ne_eqb}
 use Rattle.replies.specs.Replies.{control_of}
 use Rattle.replies.proofs.control.Goals as goal

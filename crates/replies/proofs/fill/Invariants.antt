@@ -1,7 +1,6 @@
+-- `replies::fill` meets its contract. The loop's invariant is `Filling`. Assumes nothing.
 use Prim.Native.Nat.{◌-◌}
-use native.Mathlib.Omega.{arith}
-use Rattle.replies.proofs.Laying.{laid_long}
-use Rattle.replies.proofs.Writing.{Filling, filling_none, filling_one, filling_done}
+use Rattle.replies.proofs.Writing.{Filling}
 use Rattle.replies.proofs.fill.Given as goal
 
 abbrev pub invariant-loop-at : goal.invariant-loop-at

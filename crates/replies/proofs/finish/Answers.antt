@@ -1,6 +1,6 @@
+-- `replies::finish` meets its contract: two stores, and the filling. Assumes nothing.
 use mathlib.Core.Path.{◌∙◌}
 use native.Mathlib.Omega.{arith}
-use borrow.Author.Rules.{rules}
 use lib.ListN.{length-set}
 use Rattle.replies.proofs.Writing.{finished}
 use Rattle.replies.proofs.finish.Goals as goal

@@ -1,8 +1,8 @@
+-- `replies::put_entry` meets its contract: a run of three stores. Assumes nothing.
 use mathlib.Core.Path.{◌≡◌}
 use Prim.Native.Nat.{◌+◌, suc}
 use native.Mathlib.Omega.{arith}
 use native.Mathlib.Numerals.{add-one}
-use borrow.Author.Rules.{rules}
 use lib.ListN.{length-set}
 use Rattle.storage.specs.Bytes.{bytes_of}
 use Rattle.replies.proofs.put_entry.Goals as goal

@@ -1,10 +1,9 @@
+-- `replies::put_list` meets its contract: the mode, then the entries. The loop's invariant is `Entered`. Assumes nothing.
 use mathlib.Core.Path.{◌∙◌}
-use Prim.Native.Nat.{◌-◌}
 use native.Mathlib.Omega.{arith}
 use lib.ListN.{length-set}
-use Rattle.filter.specs.Filter.{filter_of}
 use Rattle.replies.proofs.Laying.{laid_long}
-use Rattle.replies.proofs.Writing.{Entered, entered_none, entered_one, list_written}
+use Rattle.replies.proofs.Writing.{entered_none, entered_one, list_written}
 use Rattle.replies.proofs.put_list.Goals as goal
 
 pub loop-i-init : goal.loop-i-init

@@ -1,10 +1,7 @@
-use mathlib.Core.Path.{◌∙◌}
+-- `replies::put_list` meets its contract: the mode, then the entries. The loop's invariant is `Entered`. Assumes nothing.
 use Prim.Native.Nat.{◌-◌}
-use native.Mathlib.Omega.{arith}
-use lib.ListN.{length-set}
 use Rattle.filter.specs.Filter.{filter_of}
-use Rattle.replies.proofs.Laying.{laid_long}
-use Rattle.replies.proofs.Writing.{Entered, entered_none, entered_one, list_written}
+use Rattle.replies.proofs.Writing.{Entered}
 use Rattle.replies.proofs.put_list.Given as goal
 
 abbrev pub invariant-loop-i : goal.invariant-loop-i

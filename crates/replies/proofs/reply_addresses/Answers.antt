@@ -1,5 +1,5 @@
+-- `replies::reply_addresses` meets its contract: the addresses are written into the part past the two first bytes. Assumes nothing.
 use native.Mathlib.Omega.{arith}
-use borrow.Author.Rules.{rules}
 use Rattle.replies.specs.Replies.{address_reply}
 use Rattle.replies.proofs.Writing.{replied, listing}
 use Rattle.replies.proofs.reply_addresses.Goals as goal

@@ -1,5 +1,5 @@
+-- `replies::reply_list` meets its contract: the body is written into the part past the two first bytes. Assumes nothing.
 use native.Mathlib.Omega.{arith}
-use borrow.Author.Rules.{rules}
 use Rattle.replies.specs.Replies.{list_reply}
 use Rattle.replies.proofs.Writing.{replied}
 use Rattle.replies.proofs.reply_list.Goals as goal

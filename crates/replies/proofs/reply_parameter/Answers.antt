@@ -1,7 +1,7 @@
+-- `replies::reply_parameter` meets its contract: a run of three stores from the third byte on, and the two first bytes. Assumes nothing.
 use mathlib.Core.Path.{◌∙◌, refl}
 use mathlib.Core.List.{◌∷◌}
 use native.Mathlib.Omega.{arith}
-use borrow.Author.Rules.{rules}
 use lib.ListN.{length-set}
 use Rattle.storage.specs.Bytes.{bytes_of}
 use Rattle.replies.specs.Replies.{parameter_reply}

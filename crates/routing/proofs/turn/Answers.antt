@@ -1,8 +1,8 @@
+-- `routing::turn` meets its contract: by which address turns, if one does. Assumes nothing.
 use mathlib.Core.Path.{◌≡◌, sym, ◌∙◌}
 use native.Mathlib.Omega.{arith}
 use Rattle.address_pairs.specs.AddressPairs.{tables_of}
 use Rattle.routing.proofs.Turning.{source_ports, destination_ports, by_source, by_destination, as_it_came}
-use borrow.Author.Rules.{rules}
 use Rattle.routing.proofs.turn.Goals as goal
 
 pub turn_source-requires : goal.turn_source-requires

@@ -1,6 +1,6 @@
+-- `routing::turn_destination` meets its contract: by the entry of the destination, if there is one. Assumes nothing.
 use Rattle.identifier.specs.Turning.{with_destination}
 use Rattle.routing.proofs.Turning.{by_none, by_some}
-use borrow.Author.Rules.{rules}
 use Rattle.routing.proofs.turn_destination.Goals as goal
 
 pub returns-in-Missing : goal.returns-in-Missing

@@ -1,6 +1,6 @@
+-- `routing::turn_source` meets its contract: by the entry of the source address, if there is one. Assumes nothing.
 use Rattle.identifier.specs.Turning.{with_source}
 use Rattle.routing.proofs.Turning.{by_none, by_some}
-use borrow.Author.Rules.{rules}
 use Rattle.routing.proofs.turn_source.Goals as goal
 
 pub returns-in-Missing : goal.returns-in-Missing

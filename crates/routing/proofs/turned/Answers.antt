@@ -1,7 +1,7 @@
+-- `routing::turned` meets its contract: a claim crosses nowhere. Assumes nothing.
 use mathlib.Core.Path.{sym, ◌∙◌}
 use Rattle.address_pairs.specs.AddressPairs.{tables_of}
 use Rattle.routing.proofs.Turning.{claim_not, no_claim}
-use borrow.Author.Rules.{rules}
 use Rattle.routing.proofs.turned.Goals as goal
 
 pub returns-then-is_claim : goal.returns-then-is_claim

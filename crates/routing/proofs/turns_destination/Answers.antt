@@ -1,9 +1,9 @@
+-- `routing::turns_destination` meets its contract: by the tests on the way. Assumes nothing.
 use mathlib.Core.Path.{◌≡◌, sym, ◌∙◌}
 use mathlib.Core.Bool.{true, false}
 use borrow.Author.Tests.{eq-eqb, ne_eqb}
 use Rattle.identifier.specs.Identifier.{has_destination}
 use Rattle.routing.specs.Routing.{turns_destination}
-use borrow.Author.Rules.{rules}
 use Rattle.routing.proofs.turns_destination.Goals as goal
 
 pub returns-then-from-ne1 : goal.returns-then-from-ne1

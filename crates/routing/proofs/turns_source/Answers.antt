@@ -1,3 +1,4 @@
+-- `routing::turns_source` meets its contract: by the test on the way. Assumes nothing.
 use borrow.Author.Tests.{eq-eqb, ne_eqb}
 use Rattle.routing.specs.Routing.{turns_source}
 use Rattle.routing.proofs.turns_source.Goals as goal

@@ -1,5 +1,5 @@
+-- `session::ask_through` meets its contract: one word is stored. Assumes nothing.
 use Rattle.session.proofs.Laws.{asks}
-use borrow.Author.Rules.{rules}
 use Rattle.session.proofs.ask_through.Goals as goal
 
 pub returns : goal.returns

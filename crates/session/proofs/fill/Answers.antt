@@ -1,10 +1,6 @@
+-- `session::fill` meets its contract: the words of the packets are stored one after the other, then counted. Assumes nothing.
 use Rattle.session.proofs.Bytes.{fill_start, fill_one, fill_done}
-use Rattle.session.proofs.Paste.{Pasted}
-use Rattle.packets.specs.Words.{cut_words}
-use Rattle.session.specs.Session.{block_length}
-use lib.ListN.{length, length-set}
-use Prim.Native.Nat.{◌≤◌, ◌-◌}
-use mathlib.Core.Path.{◌≡◌}
+use lib.ListN.{length-set}
 use native.Mathlib.Omega.{arith}
 use Rattle.session.proofs.fill.Goals as goal
 

@@ -1,5 +1,5 @@
+-- `session::is_asked` meets its contract: how many are there, and one more, is not below the last that was asked for. Assumes nothing.
 use Rattle.session.specs.Session.{session_of}
-use borrow.Author.Rules.{rules}
 use Rattle.session.proofs.is_asked.Goals as goal
 
 pub returns : goal.returns

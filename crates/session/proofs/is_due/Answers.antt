@@ -1,3 +1,4 @@
+-- `session::is_due` meets its contract: a difference and a timer, for a sum and the time. Assumes nothing.
 use Rattle.session.proofs.Laws.{due_same}
 use lib.ListN.{get_or}
 use Prim.Native.Nat.{◌+◌}
@@ -5,7 +6,6 @@ use borrow.Author.Tests.{lt-leb}
 use Rattle.session.specs.Session.{session_of}
 use native.Mathlib.Omega.{arith}
 use mathlib.Core.Path.{sym}
-use borrow.Author.Rules.{rules}
 use Rattle.session.proofs.is_due.Goals as goal
 
 pub returns-then-time-since : goal.returns-then-time-since

@@ -1,5 +1,5 @@
+-- `session::is_last` meets its contract: how many are there, and one more, is how many the message has. Assumes nothing.
 use Rattle.session.specs.Session.{session_of}
-use borrow.Author.Rules.{rules}
 use Rattle.session.proofs.is_last.Goals as goal
 
 pub returns : goal.returns

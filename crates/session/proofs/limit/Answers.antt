@@ -1,3 +1,4 @@
+-- `session::limit` meets its contract: a word, clamped. Assumes nothing.
 use Rattle.session.specs.Session.{session_of}
 use borrow.Author.Rules.{rules}
 use Rattle.session.proofs.limit.Goals as goal

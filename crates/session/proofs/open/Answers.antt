@@ -1,7 +1,7 @@
+-- `session::open` meets its contract: eight words are stored. Assumes nothing.
 use Rattle.session.proofs.Laws.{opens}
 use lib.ListN.{length-set}
 use native.Mathlib.Omega.{arith}
-use borrow.Author.Rules.{rules}
 use Rattle.session.proofs.open.Goals as goal
 
 pub bounds-block-4 : goal.bounds-block-4

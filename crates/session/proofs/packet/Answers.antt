@@ -1,3 +1,4 @@
+-- `session::packet` meets its contract: the packets lie behind the block's own words. Assumes nothing.
 use Rattle.session.proofs.Laws.{packet_is, stored_is}
 use native.Mathlib.Omega.{arith}
 use Rattle.session.proofs.packet.Goals as goal

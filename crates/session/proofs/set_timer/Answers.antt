@@ -1,5 +1,5 @@
+-- `session::set_timer` meets its contract: two words are stored. Assumes nothing.
 use Rattle.session.proofs.Laws.{times}
-use borrow.Author.Rules.{rules}
 use Rattle.session.proofs.set_timer.Goals as goal
 
 pub returns : goal.returns

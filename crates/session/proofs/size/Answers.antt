@@ -1,3 +1,4 @@
+-- `session::size` meets its contract: a word, clamped. Assumes nothing.
 use Rattle.session.specs.Session.{session_of}
 use borrow.Author.Rules.{rules}
 use Rattle.session.proofs.size.Goals as goal

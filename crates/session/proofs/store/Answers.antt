@@ -1,6 +1,6 @@
+-- `session::store` meets its contract: behind the packets that are there one word is stored, and counted. Assumes nothing.
 use Rattle.session.proofs.Laws.{stores, stays}
 use native.Mathlib.Omega.{arith}
-use borrow.Author.Rules.{rules}
 use Rattle.session.proofs.store.Goals as goal
 
 pub returns-then-k-lt-MOST : goal.returns-then-k-lt-MOST

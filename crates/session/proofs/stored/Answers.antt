@@ -1,6 +1,6 @@
+-- `session::stored` meets its contract: as many packets as the block says, 255 where it says more. Assumes nothing.
 use Rattle.session.proofs.Laws.{stored_is}
 use mathlib.Core.Path.{sym, ◌∙◌}
-use borrow.Author.Rules.{rules}
 use Rattle.session.proofs.stored.Goals as goal
 
 pub returns : goal.returns

@@ -1,7 +1,8 @@
-use Rattle.session.proofs.Bytes.{There, there_none, there_seven, there_written}
+-- `session::write_full` meets its contract: seven bytes of each packet are stored one after the other. Assumes nothing.
+use Rattle.session.proofs.Bytes.{there_none, there_seven, there_written}
 use Rattle.session.specs.Session.{session_of, message}
-use lib.ListN.{length, length-set}
-use Prim.Native.Nat.{◌≤◌, ◌-◌, ◌*◌}
+use lib.ListN.{length-set}
+use Prim.Native.Nat.{◌*◌}
 use mathlib.Core.Path.{◌≡◌, refl}
 use native.Mathlib.Omega.{arith}
 use Rattle.session.proofs.write_full.Goals as goal

@@ -1,9 +1,9 @@
-use Rattle.session.proofs.Bytes.{There, there_none, there_seven, there_written}
+-- `session::write_full` meets its contract: seven bytes of each packet are stored one after the other. Assumes nothing.
+use Rattle.session.proofs.Bytes.{There}
 use Rattle.session.specs.Session.{session_of, message}
-use lib.ListN.{length, length-set}
+use lib.ListN.{length}
 use Prim.Native.Nat.{◌≤◌, ◌-◌, ◌*◌}
-use mathlib.Core.Path.{◌≡◌, refl}
-use native.Mathlib.Omega.{arith}
+use mathlib.Core.Path.{◌≡◌}
 use Rattle.session.proofs.write_full.Given as goal
 
 abbrev pub invariant-loop-k : goal.invariant-loop-k

@@ -1,3 +1,4 @@
+-- `session::write_out` meets its contract: whole packets first, then the bytes that are left. Assumes nothing.
 use lib.ListN.{length}
 use Rattle.session.proofs.Bytes.{write_done, message_long}
 use Rattle.session.specs.Session.{session_of, message}

@@ -1,9 +1,7 @@
-use mathlib.Core.List.{List}
-use Prim.Native.Nat.{ℕ}
-use Rattle.session.proofs.Bytes.{There, there_one, there_written, written_there}
+-- `session::write_rest` meets its contract: each byte of the message is stored after the one before it. Assumes nothing.
+use Rattle.session.proofs.Bytes.{there_one, there_written, written_there}
 use Rattle.session.specs.Session.{session_of, message}
-use lib.ListN.{length, length-set}
-use Prim.Native.Nat.{◌≤◌, ◌-◌}
+use lib.ListN.{length-set}
 use mathlib.Core.Path.{◌≡◌, refl}
 use native.Mathlib.Omega.{arith}
 use Rattle.session.proofs.write_rest.Goals as goal

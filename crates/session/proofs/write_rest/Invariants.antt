@@ -1,11 +1,11 @@
+-- `session::write_rest` meets its contract: each byte of the message is stored after the one before it. Assumes nothing.
 use mathlib.Core.List.{List}
 use Prim.Native.Nat.{ℕ}
-use Rattle.session.proofs.Bytes.{There, there_one, there_written, written_there}
+use Rattle.session.proofs.Bytes.{There}
 use Rattle.session.specs.Session.{session_of, message}
-use lib.ListN.{length, length-set}
+use lib.ListN.{length}
 use Prim.Native.Nat.{◌≤◌, ◌-◌}
-use mathlib.Core.Path.{◌≡◌, refl}
-use native.Mathlib.Omega.{arith}
+use mathlib.Core.Path.{◌≡◌}
 use Rattle.session.proofs.write_rest.Given as goal
 
 abbrev pub invariant-loop-i : goal.invariant-loop-i

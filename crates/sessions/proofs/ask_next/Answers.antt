@@ -1,3 +1,4 @@
+-- `sessions::ask_next` meets its contract: a number and a timer, one change after the other. Assumes nothing.
 use Prim.Native.Nat.{◌+◌}
 use Rattle.sessions.proofs.Steps.{still, asks_next}
 use Rattle.sessions.specs.Sessions.{talk_of}

@@ -1,3 +1,4 @@
+-- `sessions::ask_through` meets its contract: the block of a session is lent and comes back with another number. Assumes nothing.
 use Rattle.sessions.proofs.Talk.{talk_long, changed}
 use Rattle.session.specs.Session.{asking}
 use native.Mathlib.Omega.{arith}

@@ -1,10 +1,10 @@
+-- `sessions::clear_at` meets its contract: row by row. Assumes nothing.
 use native.Mathlib.Omega.{arith}
 use Rattle.sessions.specs.Sessions.{talk_of}
 use lib.ListN.{length}
 use Prim.Native.Nat.{◌<◌}
 use mathlib.Core.Path.{◌∙◌}
 use Rattle.sessions.proofs.Steps.{clears_none, clears_held, clears_zero, clears_past, clears_send}
-use borrow.Author.Rules.{rules}
 use Rattle.sessions.proofs.clear_at.Goals as goal
 
 pub returns-then-n-i : goal.returns-then-n-i

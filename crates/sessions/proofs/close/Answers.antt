@@ -1,9 +1,10 @@
-use Rattle.sessions.proofs.Lists.{shifted, shift_start, shift_step}
+-- `sessions::close` meets its contract: each block behind is copied down, then the count is one less. Assumes nothing.
+use Rattle.sessions.proofs.Lists.{shift_start, shift_step}
 use Rattle.sessions.proofs.Talk.{closes}
 use Rattle.sessions.proofs.Region.{blocks_long}
-use Rattle.sessions.specs.Sessions.{port_length, blocks_in, none}
-use lib.ListN.{length, length-set}
-use Prim.Native.Nat.{◌≤◌, ◌-◌}
+use Rattle.sessions.specs.Sessions.{blocks_in, none}
+use lib.ListN.{length-set}
+use Prim.Native.Nat.{◌-◌}
 use native.Mathlib.Omega.{arith}
 use mathlib.Core.Path.{◌≡◌, ◌∙◌}
 use Rattle.sessions.proofs.close.Goals as goal

@@ -1,6 +1,6 @@
+-- `sessions::count` meets its contract: the count word, or four. Assumes nothing.
 use Rattle.sessions.proofs.Talk.{talk_long}
 use native.Mathlib.Omega.{arith}
-use borrow.Author.Rules.{rules}
 use Rattle.sessions.proofs.count.Goals as goal
 
 pub returns-then-n : goal.returns-then-n

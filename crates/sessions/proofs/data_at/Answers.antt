@@ -1,10 +1,10 @@
+-- `sessions::data_at` meets its contract: row by row. Assumes nothing.
 use Rattle.sessions.proofs.Steps.{hears_none, hears_other, hears_last, hears_asked, hears_kept}
 use Rattle.sessions.specs.Sessions.{talk_of}
 use lib.ListN.{length}
 use Prim.Native.Nat.{ℕ, ◌+◌, ◌<◌}
 use native.Mathlib.Omega.{arith}
 use mathlib.Core.Path.{sym, ap, ◌∙◌}
-use borrow.Author.Rules.{rules}
 use Rattle.sessions.proofs.data_at.Goals as goal
 
 pub returns-then-n-i : goal.returns-then-n-i

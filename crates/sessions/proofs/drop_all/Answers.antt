@@ -1,6 +1,6 @@
+-- `sessions::drop_all` meets its contract: the count is 0. Assumes nothing.
 use native.Mathlib.Omega.{arith}
 use Rattle.sessions.proofs.Talk.{empties}
-use borrow.Author.Rules.{rules}
 use Rattle.sessions.proofs.drop_all.Goals as goal
 
 pub returns : goal.returns

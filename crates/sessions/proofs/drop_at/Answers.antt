@@ -1,7 +1,7 @@
+-- `sessions::drop_at` meets its contract: the session ends, or there is none. Assumes nothing.
 use Rattle.sessions.proofs.Steps.{past_none}
 use Rattle.sessions.specs.Sessions.{talk_of}
 use native.Mathlib.Omega.{arith}
-use borrow.Author.Rules.{rules}
 use Rattle.sessions.proofs.drop_at.Goals as goal
 
 pub returns-else-i-count : goal.returns-else-i-count

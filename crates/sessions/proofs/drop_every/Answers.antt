@@ -1,8 +1,7 @@
-use mathlib.Core.Path.{◌≡◌, refl, ◌∙◌}
-use Prim.Native.Nat.{◌≤◌, ◌-◌}
+-- `sessions::drop_every` meets its contract: the words of each port are lent and come back without a session. Assumes nothing.
+use mathlib.Core.Path.{refl, ◌∙◌}
 use native.Mathlib.Omega.{arith}
-use lib.ListN.{length}
-use Rattle.sessions.proofs.Ports.{Emptied, emptied_none, emptied_one, emptied_all}
+use Rattle.sessions.proofs.Ports.{emptied_none, emptied_one, emptied_all}
 use Rattle.sessions.proofs.drop_every.Goals as goal
 
 pub loop-p-init : goal.loop-p-init

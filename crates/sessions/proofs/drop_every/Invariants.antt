@@ -1,8 +1,8 @@
-use mathlib.Core.Path.{◌≡◌, refl, ◌∙◌}
+-- `sessions::drop_every` meets its contract: the words of each port are lent and come back without a session. Assumes nothing.
+use mathlib.Core.Path.{◌≡◌}
 use Prim.Native.Nat.{◌≤◌, ◌-◌}
-use native.Mathlib.Omega.{arith}
 use lib.ListN.{length}
-use Rattle.sessions.proofs.Ports.{Emptied, emptied_none, emptied_one, emptied_all}
+use Rattle.sessions.proofs.Ports.{Emptied}
 use Rattle.sessions.proofs.drop_every.Given as goal
 
 abbrev pub invariant-loop-p : goal.invariant-loop-p

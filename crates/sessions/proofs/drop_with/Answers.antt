@@ -1,4 +1,4 @@
-use borrow.Author.Rules.{rules}
+-- `sessions::drop_with` meets its contract: the session that is found ends. Assumes nothing.
 use Rattle.sessions.proofs.drop_with.Goals as goal
 
 pub returns : goal.returns

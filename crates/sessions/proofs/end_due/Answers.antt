@@ -1,6 +1,6 @@
+-- `sessions::end_due` meets its contract: the session that is found ends, or there is none. Assumes nothing.
 use native.Mathlib.Omega.{arith}
 use Rattle.sessions.proofs.Due.{ends_nothing, ends_one}
-use borrow.Author.Rules.{rules}
 use Rattle.sessions.proofs.end_due.Goals as goal
 
 pub returns-then-count-i : goal.returns-then-count-i

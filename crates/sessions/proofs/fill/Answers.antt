@@ -1,3 +1,4 @@
+-- `sessions::fill` meets its contract: the block of a session is lent and comes back with the packets of a message. Assumes nothing.
 use Rattle.sessions.proofs.Talk.{changed, talk_long}
 use Rattle.session.specs.Session.{with_packets}
 use Rattle.packets.specs.Words.{cut_words}

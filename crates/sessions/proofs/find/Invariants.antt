@@ -1,9 +1,7 @@
-use Rattle.sessions.proofs.Search.{Passed, passed_none, passed_found, passed_more, passed_all}
-use Rattle.sessions.proofs.Talk.{talk_at}
+-- `sessions::find` meets its contract: the first block that passes is found, and those before it did not pass. Assumes nothing.
+use Rattle.sessions.proofs.Search.{Passed}
 use Rattle.sessions.specs.Sessions.{talk_of, is_with}
 use Prim.Native.Nat.{◌≤◌, ◌-◌}
-use native.Mathlib.Omega.{arith}
-use mathlib.Core.Path.{sym, ap, ◌∙◌}
 use Rattle.sessions.proofs.find.Given as goal
 
 abbrev pub invariant-loop-i : goal.invariant-loop-i

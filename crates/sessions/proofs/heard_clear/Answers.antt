@@ -1,4 +1,4 @@
-use borrow.Author.Rules.{rules}
+-- `sessions::heard_clear` meets its contract: the row of the session that is found. Assumes nothing.
 use Rattle.sessions.proofs.heard_clear.Goals as goal
 
 pub returns : goal.returns

@@ -1,3 +1,4 @@
+-- `sessions::heard_request` meets its contract: the row of the session that is found. Assumes nothing.
 use Rattle.sessions.proofs.Search.{place_inside}
 use Rattle.sessions.specs.Sessions.{talk_of, is_with}
 use Prim.Native.Nat.{◌≤◌}

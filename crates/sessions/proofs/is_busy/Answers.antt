@@ -1,8 +1,8 @@
+-- `sessions::is_busy` meets its contract: how many are open, then a search. Assumes nothing.
 use native.Mathlib.Omega.{arith}
 use Rattle.sessions.specs.Sessions.{talk_of}
 use lib.ListN.{length}
 use borrow.Author.Tests.{le-leb, lt-leb}
-use borrow.Author.Rules.{rules}
 use Rattle.sessions.proofs.is_busy.Goals as goal
 
 pub returns-then-n-ge-MOST : goal.returns-then-n-ge-MOST

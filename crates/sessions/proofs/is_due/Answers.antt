@@ -1,9 +1,9 @@
+-- `sessions::is_due` meets its contract: the block of a session is lent. Assumes nothing.
 use Rattle.sessions.proofs.Region.{block_is}
 use Rattle.sessions.specs.Sessions.{blocks_in, none}
 use Rattle.session.specs.Session.{is_due}
 use lib.ListN.{get_or}
 use mathlib.Core.Path.{ap, ◌∙◌}
-use borrow.Author.Rules.{rules}
 use Rattle.sessions.proofs.is_due.Goals as goal
 
 pub returns : goal.returns

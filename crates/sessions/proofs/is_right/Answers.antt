@@ -1,6 +1,6 @@
+-- `sessions::is_right` meets its contract: three comparisons. Assumes nothing.
 use borrow.Author.Tests.{le-leb, lt-leb}
 use native.Mathlib.Omega.{arith}
-use borrow.Author.Rules.{rules}
 use Rattle.sessions.proofs.is_right.Goals as goal
 
 pub returns-then-size-lt9 : goal.returns-then-size-lt9

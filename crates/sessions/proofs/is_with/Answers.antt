@@ -1,10 +1,10 @@
+-- `sessions::is_with` meets its contract: two words of a block, compared one after the other. Assumes nothing.
 use Rattle.sessions.proofs.Search.{with_false, with_rest_lem}
 use Rattle.sessions.proofs.Region.{block_is}
 use Rattle.sessions.specs.Sessions.{blocks_in, none}
 use Rattle.session.specs.Session.{Session}
 use lib.ListN.{get_or}
 use mathlib.Core.Path.{ap, ◌∙◌}
-use borrow.Author.Rules.{rules}
 use Rattle.sessions.proofs.is_with.Goals as goal
 
 pub returns-then-way : goal.returns-then-way

@@ -1,8 +1,8 @@
+-- `sessions::limit` meets its contract: the block of a session is lent. Assumes nothing.
 use Rattle.sessions.proofs.Talk.{talk_long, place_is}
 use Rattle.session.specs.Session.{Session}
 use native.Mathlib.Omega.{arith}
 use mathlib.Core.Path.{ap, ◌∙◌}
-use borrow.Author.Rules.{rules}
 use Rattle.sessions.proofs.limit.Goals as goal
 
 pub overflow_mul-a : goal.overflow_mul-a

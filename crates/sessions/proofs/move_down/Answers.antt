@@ -1,9 +1,7 @@
-use Rattle.sessions.proofs.Region.{Down, down_start, down_one, down_done}
-use Rattle.sessions.specs.Sessions.{port_length}
-use lib.ListN.{length, length-set}
-use Prim.Native.Nat.{◌≤◌, ◌-◌}
+-- `sessions::move_down` meets its contract: the words of the block behind are copied one after the other. Assumes nothing.
+use Rattle.sessions.proofs.Region.{down_start, down_one, down_done}
+use lib.ListN.{length-set}
 use native.Mathlib.Omega.{arith}
-use mathlib.Core.Path.{◌≡◌}
 use Rattle.sessions.proofs.move_down.Goals as goal
 
 pub loop-k-init : goal.loop-k-init

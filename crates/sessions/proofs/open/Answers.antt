@@ -1,3 +1,4 @@
+-- `sessions::open` meets its contract: the block behind the last is opened, then the count is one more. Assumes nothing.
 use Rattle.sessions.proofs.Talk.{opens}
 use Rattle.sessions.proofs.Region.{block_back}
 use Rattle.sessions.specs.Sessions.{blocks_in}

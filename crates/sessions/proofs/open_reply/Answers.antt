@@ -1,3 +1,4 @@
+-- `sessions::open_reply` meets its contract: a session opens, then its packets are there. Assumes nothing.
 use Rattle.sessions.proofs.Steps.{sends, one_more_lem}
 use Rattle.sessions.specs.Sessions.{talk_of}
 use Rattle.session.specs.Session.{with_packets, opened}

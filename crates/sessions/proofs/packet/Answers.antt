@@ -1,3 +1,4 @@
+-- `sessions::packet` meets its contract: the block of a session is lent. Assumes nothing.
 use Prim.Native.Nat.{◌-◌}
 use lib.ListN.{get_or}
 use Rattle.sessions.proofs.Talk.{talk_long, place_is}

@@ -1,4 +1,4 @@
-use borrow.Author.Tests.{not-true, not-false}
+-- `sessions::request_at` meets its contract: row by row. Assumes nothing.
 use Rattle.sessions.proofs.Talk.{talk_long}
 use Rattle.sessions.proofs.Steps.{room, full, wrong, opened_for, right_bounds}
 use Rattle.sessions.specs.Sessions.{talk_of}

@@ -1,3 +1,4 @@
+-- `sessions::set_timer` meets its contract: the block of a session is lent and comes back with another timer. Assumes nothing.
 use Rattle.sessions.proofs.Talk.{talk_long, changed}
 use Rattle.session.specs.Session.{timed}
 use native.Mathlib.Omega.{arith}

@@ -1,3 +1,4 @@
+-- `sessions::store` meets its contract: the block of a session is lent and comes back with a packet more. Assumes nothing.
 use Rattle.sessions.proofs.Talk.{changed, talk_long}
 use Rattle.session.specs.Session.{with_packet}
 use native.Mathlib.Omega.{arith}

@@ -1,9 +1,9 @@
+-- `sessions::stored` meets its contract: the block of a session is lent. Assumes nothing.
 use lib.ListN.{length}
 use Rattle.sessions.proofs.Talk.{talk_long, place_is}
 use Rattle.session.specs.Session.{Session}
 use native.Mathlib.Omega.{arith}
 use mathlib.Core.Path.{ap, ◌∙◌}
-use borrow.Author.Rules.{rules}
 use Rattle.sessions.proofs.stored.Goals as goal
 
 pub overflow_mul-a : goal.overflow_mul-a

@@ -1,3 +1,4 @@
+-- `sessions::take_asked` meets its contract: a packet more, then the next are asked for. Assumes nothing.
 use Rattle.sessions.proofs.Steps.{still, takes_asked}
 use Rattle.sessions.specs.Sessions.{talk_of}
 use Rattle.session.specs.Session.{with_packet}

@@ -1,3 +1,4 @@
+-- `sessions::take_kept` meets its contract: a packet more, then a timer. Assumes nothing.
 use Rattle.sessions.proofs.Steps.{still, takes_kept}
 use Rattle.sessions.specs.Sessions.{talk_of}
 use Rattle.session.specs.Session.{with_packet}

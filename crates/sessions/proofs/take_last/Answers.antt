@@ -1,3 +1,4 @@
+-- `sessions::take_last` meets its contract: a packet more, the message, then the session ends. Assumes nothing.
 use Rattle.sessions.proofs.Steps.{still, takes_last}
 use Rattle.sessions.specs.Sessions.{talk_of}
 use Rattle.session.specs.Session.{with_packet}

@@ -1,5 +1,5 @@
+-- `sessions::tell_time` meets its contract: the greater of two is stored. Assumes nothing.
 use native.Mathlib.Omega.{arith}
-use borrow.Author.Rules.{rules}
 use Rattle.sessions.proofs.Ports.{tells, tells_nothing}
 use Rattle.sessions.proofs.tell_time.Goals as goal
 

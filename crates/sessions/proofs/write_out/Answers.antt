@@ -1,10 +1,10 @@
+-- `sessions::write_out` meets its contract: the block of a session is lent. Assumes nothing.
 use mathlib.Core.List.{◌++◌}
 use lib.ListN.{length, drop}
 use Rattle.sessions.proofs.Talk.{talk_long, place_is}
 use Rattle.session.specs.Session.{Session, message}
 use native.Mathlib.Omega.{arith}
 use mathlib.Core.Path.{ap, ◌∙◌}
-use borrow.Author.Rules.{rules}
 use Rattle.sessions.proofs.write_out.Goals as goal
 
 pub overflow_mul-a : goal.overflow_mul-a

@@ -1,7 +1,7 @@
+-- `sorted_list::find` meets its contract: a loop over the places left, one probe a turn. Assumes nothing.
 use native.Mathlib.Omega.{arith}
-use borrow.Author.Rules.{rules}
 use Rattle.sorted_list.proofs.Ceiling.{told_found, told_absent}
-use Rattle.sorted_list.proofs.Halving.{Unprobed, unprobed_all, unprobed_found, unprobed_on, unprobed_none}
+use Rattle.sorted_list.proofs.Halving.{unprobed_all, unprobed_found, unprobed_on, unprobed_none}
 use Rattle.sorted_list.proofs.find.Goals as goal
 
 pub loop-left-init : goal.loop-left-init

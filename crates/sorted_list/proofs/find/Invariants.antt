@@ -1,7 +1,5 @@
-use native.Mathlib.Omega.{arith}
-use borrow.Author.Rules.{rules}
-use Rattle.sorted_list.proofs.Ceiling.{told_found, told_absent}
-use Rattle.sorted_list.proofs.Halving.{Unprobed, unprobed_all, unprobed_found, unprobed_on, unprobed_none}
+-- `sorted_list::find` meets its contract: a loop over the places left, one probe a turn. Assumes nothing.
+use Rattle.sorted_list.proofs.Halving.{Unprobed}
 use Rattle.sorted_list.proofs.find.Given as goal
 
 abbrev pub invariant-loop-left : goal.invariant-loop-left

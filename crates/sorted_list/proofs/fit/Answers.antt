@@ -1,6 +1,6 @@
-use Prim.Native.Nat.{◌-◌}
+-- `sorted_list::fit` meets its contract: from the end of the first n on, one zero after the other. Assumes nothing.
 use native.Mathlib.Omega.{arith}
-use Rattle.sorted_list.proofs.Fitting.{Filled, filled_none, filled_one, filled_all}
+use Rattle.sorted_list.proofs.Fitting.{filled_none, filled_one, filled_all}
 use Rattle.sorted_list.proofs.fit.Goals as goal
 
 pub loop-i-init : goal.loop-i-init

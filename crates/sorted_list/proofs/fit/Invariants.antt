@@ -1,6 +1,6 @@
+-- `sorted_list::fit` meets its contract: from the end of the first n on, one zero after the other. Assumes nothing.
 use Prim.Native.Nat.{◌-◌}
-use native.Mathlib.Omega.{arith}
-use Rattle.sorted_list.proofs.Fitting.{Filled, filled_none, filled_one, filled_all}
+use Rattle.sorted_list.proofs.Fitting.{Filled}
 use Rattle.sorted_list.proofs.fit.Given as goal
 
 abbrev pub invariant-loop-i : goal.invariant-loop-i

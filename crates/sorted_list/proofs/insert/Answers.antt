@@ -1,4 +1,4 @@
-use borrow.Author.Rules.{rules}
+-- `sorted_list::insert` meets its contract: behind the last that is not above it there is room, where it is stored. Assumes nothing.
 use Rattle.sorted_list.proofs.Moves.{joins}
 use Rattle.sorted_list.proofs.insert.Goals as goal
 

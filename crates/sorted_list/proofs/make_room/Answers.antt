@@ -1,5 +1,6 @@
+-- `sorted_list::make_room` meets its contract: from the end on, each that is above x moves up by one. Assumes nothing.
 use native.Mathlib.Omega.{arith}
-use Rattle.sorted_list.proofs.Moves.{Making, making_none, making_one, made_some, made_all}
+use Rattle.sorted_list.proofs.Moves.{making_none, making_one, made_some, made_all}
 use Rattle.sorted_list.proofs.make_room.Goals as goal
 
 pub loop-i-init : goal.loop-i-init

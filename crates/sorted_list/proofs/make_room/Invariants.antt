@@ -1,5 +1,5 @@
-use native.Mathlib.Omega.{arith}
-use Rattle.sorted_list.proofs.Moves.{Making, making_none, making_one, made_some, made_all}
+-- `sorted_list::make_room` meets its contract: from the end on, each that is above x moves up by one. Assumes nothing.
+use Rattle.sorted_list.proofs.Moves.{Making}
 use Rattle.sorted_list.proofs.make_room.Given as goal
 
 abbrev pub invariant-loop-i : goal.invariant-loop-i

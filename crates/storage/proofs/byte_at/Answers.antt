@@ -1,3 +1,4 @@
+-- `storage::byte_at` meets its contract: a shift by 8 i bits is a division by 256 ^ i, and past the eighth byte there is none. Assumes nothing.
 use mathlib.Core.Path.{sym}
 use borrow.Author.Rules.{rules}
 use Rattle.storage.proofs.Bytes.{byte_shift, past}

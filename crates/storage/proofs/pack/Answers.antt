@@ -1,6 +1,6 @@
+-- `storage::pack` meets its contract, by how many bytes there are. Assumes nothing.
 use mathlib.Core.Path.{◌∙◌}
 use native.Mathlib.Omega.{arith}
-use borrow.Author.Rules.{rules}
 use lib.Seq.{take_all}
 use Rattle.storage.proofs.Bytes.{packed_short}
 use Rattle.storage.proofs.pack.Goals as goal

@@ -1,3 +1,4 @@
+-- `storage::pack_four` meets its contract: two runs of two bytes make one of four. Assumes nothing.
 use borrow.Author.Rules.{rules}
 use Rattle.storage.proofs.Bytes.{packing_join}
 use Rattle.storage.proofs.pack_four.Goals as goal

@@ -1,6 +1,6 @@
+-- `storage::pack_last` meets its contract, by how many bytes are left. Assumes nothing.
 use Prim.Native.Nat.{◌+◌}
 use native.Mathlib.Omega.{arith}
-use borrow.Author.Rules.{rules}
 use lib.ListN.{get_or}
 use Rattle.storage.proofs.Bytes.{AllBytes, packing_none, packing_one, packing_join, packing_last}
 use Rattle.storage.proofs.pack_last.Goals as goal

@@ -1,3 +1,4 @@
+-- `storage::pack_two` meets its contract: two bytes, one after the other, make one number. Assumes nothing.
 use Prim.Native.Nat.{◌+◌}
 use native.Mathlib.Omega.{arith}
 use borrow.Author.Rules.{rules}

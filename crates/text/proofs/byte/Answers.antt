@@ -1,4 +1,4 @@
-use borrow.Author.Rules.{rules}
+-- `byte` meets its contract: one store. Assumes nothing.
 use Rattle.text.proofs.Writing.{writing_one}
 use Rattle.text.proofs.byte.Goals as goal
 

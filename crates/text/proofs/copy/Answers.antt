@@ -1,10 +1,7 @@
-use mathlib.Core.Path.{◌≡◌}
-use Prim.Native.Nat.{◌+◌, ◌-◌, ◌≤◌}
+-- `copy` meets its contract. The invariant: the characters passed are written. Assumes nothing.
 use native.Mathlib.Omega.{arith}
 use borrow.Author.Rules.{rules}
-use lib.ListN.{length, take}
 use lib.Seq.{take_all}
-use Rattle.text.specs.Writing.{Writing}
 use Rattle.text.proofs.Writing.{writing_none, copy_more}
 use Rattle.text.proofs.copy.Goals as goal
 

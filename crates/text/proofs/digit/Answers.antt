@@ -1,4 +1,4 @@
-use borrow.Author.Rules.{rules}
+-- `digit` meets its contract: by the test on the way. Assumes nothing.
 use borrow.Author.Tests.{lt-ltb, le-ltb}
 use Rattle.text.specs.Digits.{hex_digit}
 use Rattle.text.proofs.digit.Goals as goal

@@ -1,3 +1,4 @@
+-- `eight_digits` meets its contract: four bytes, the most significant first. Assumes nothing.
 use native.Mathlib.Omega.{arith}
 use Rattle.text.specs.Digits.{hex_of}
 use Rattle.text.proofs.Writing.{writing_join}

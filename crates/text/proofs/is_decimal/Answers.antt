@@ -1,3 +1,4 @@
+-- `is_decimal` meets its contract: by the test on the way. Assumes nothing.
 use borrow.Author.Tests.{le-leb, lt-leb}
 use Rattle.text.proofs.is_decimal.Goals as goal
 

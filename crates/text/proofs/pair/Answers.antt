@@ -1,6 +1,5 @@
-use mathlib.Core.Path.{◌≡◌, sym}
+-- `pair` meets its contract: two digits, one after the other. Assumes nothing.
 use native.Mathlib.Omega.{arith}
-use borrow.Author.Rules.{rules}
 use Rattle.text.specs.Digits.{hex_of}
 use Rattle.text.proofs.Writing.{writing_join}
 use Rattle.text.proofs.Digits.{high_digit}

@@ -1,5 +1,4 @@
-use borrow.Author.Rules.{rules}
-use native.Mathlib.Omega.{arith}
+-- `value` meets its contract: by the tests on the way. Assumes nothing.
 use Rattle.text.proofs.Digits.{value_low, value_decimal, value_between, value_letter, value_high}
 use Rattle.text.proofs.value.Goals as goal
 

@@ -1,11 +1,8 @@
+-- `word` meets its contract. The invariant: the digits of the bytes passed are written. Assumes nothing.
 use mathlib.Core.Path.{◌≡◌}
-use Prim.Native.Nat.{◌+◌, ◌-◌, ◌*◌, ◌≤◌}
 use native.Mathlib.Omega.{arith}
 use borrow.Author.Rules.{rules}
-use lib.ListN.{length, take}
-use Rattle.storage.specs.Bytes.{bytes_of}
 use Rattle.text.specs.Digits.{hex_of}
-use Rattle.text.specs.Writing.{Writing}
 use Rattle.text.proofs.Writing.{writing_none}
 use Rattle.text.proofs.Digits.{hex_word_more}
 use Rattle.text.proofs.word.Goals as goal

@@ -1,3 +1,4 @@
+-- `frame` meets its contract. Assumes nothing.
 use Rattle.witness.proofs.Steps.{frame_step}
 use borrow.Author.Rules.{rules}
 use Rattle.witness.proofs.frame.Goals as goal

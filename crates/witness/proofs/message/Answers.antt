@@ -1,5 +1,5 @@
+-- `message` meets its contract. Assumes nothing.
 use Rattle.witness.proofs.Steps.{message_step}
-use borrow.Author.Rules.{rules}
 use Rattle.witness.proofs.message.Goals as goal
 
 pub returns : goal.returns

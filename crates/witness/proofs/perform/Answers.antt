@@ -1,4 +1,4 @@
-use borrow.Author.Rules.{rules}
+-- `perform` meets its contract: each kind is its call. Assumes nothing.
 use borrow.Author.Tests.{eq-eqb, ne_eqb}
 use Rattle.witness.specs.Encoding.{call_from}
 use Rattle.witness.proofs.perform.Goals as goal

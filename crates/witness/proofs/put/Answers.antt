@@ -1,9 +1,9 @@
+-- `put` meets its contract: twelve stores. Assumes nothing.
 use native.Mathlib.Omega.{arith}
 use lib.ListN.{length-set}
 use mathlib.Core.List.{[], ◌∷◌}
 use Rattle.witness.specs.Encoding.{padded}
 use Rattle.witness.proofs.Steps.{stored}
-use borrow.Author.Rules.{rules}
 use Rattle.witness.proofs.put.Goals as goal
 
 pub bounds-out-4 : goal.bounds-out-4

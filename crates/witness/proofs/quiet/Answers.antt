@@ -1,3 +1,4 @@
+-- `quiet` meets its contract. Assumes nothing.
 use Rattle.witness.proofs.Steps.{quiet_step}
 use borrow.Author.Rules.{rules}
 use Rattle.witness.proofs.quiet.Goals as goal

@@ -1,3 +1,4 @@
+-- `read_counts` meets its contract. Assumes nothing.
 use Rattle.witness.proofs.Steps.{counts_step}
 use borrow.Author.Rules.{rules}
 use Rattle.witness.proofs.read_counts.Goals as goal

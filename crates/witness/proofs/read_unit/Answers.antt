@@ -1,3 +1,4 @@
+-- `read_unit` meets its contract. Assumes nothing.
 use Rattle.witness.proofs.Steps.{unit_step}
 use borrow.Author.Rules.{rules}
 use Rattle.witness.proofs.read_unit.Goals as goal

@@ -1,6 +1,6 @@
+-- `replay` meets its contract: power-on makes the book fresh, and the calls follow it. Assumes nothing.
 use native.Mathlib.Omega.{arith}
 use Rattle.witness.proofs.Runs.{powered_long, not_replayed, replayed}
-use borrow.Author.Rules.{rules}
 use Rattle.witness.proofs.replay.Goals as goal
 
 pub returns-then-number-eq2 : goal.returns-then-number-eq2

@@ -1,10 +1,9 @@
+-- `run` meets its contract. The invariant: after i calls the record and the first i answers are the book's. Assumes nothing.
 use mathlib.Core.Path.{◌≡◌, refl, ◌∙◌}
-use Prim.Native.Nat.{◌-◌, ◌*◌, ◌≤◌}
+use Prim.Native.Nat.{◌*◌}
 use native.Mathlib.Omega.{arith}
-use lib.ListN.{length}
 use borrow.Author.Rules.{rules}
 use Rattle.storage.proofs.Parts.{range_size, length_back}
-use Rattle.witness.specs.Replay.{Running}
 use Rattle.witness.proofs.Runs.{running_start, running_step}
 use Rattle.witness.proofs.run.Goals as goal
 

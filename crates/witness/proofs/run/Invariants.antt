@@ -1,11 +1,8 @@
-use mathlib.Core.Path.{◌≡◌, refl, ◌∙◌}
-use Prim.Native.Nat.{◌-◌, ◌*◌, ◌≤◌}
-use native.Mathlib.Omega.{arith}
+-- `run` meets its contract. The invariant: after i calls the record and the first i answers are the book's. Assumes nothing.
+use mathlib.Core.Path.{◌≡◌}
+use Prim.Native.Nat.{◌-◌, ◌≤◌}
 use lib.ListN.{length}
-use borrow.Author.Rules.{rules}
-use Rattle.storage.proofs.Parts.{range_size, length_back}
 use Rattle.witness.specs.Replay.{Running}
-use Rattle.witness.proofs.Runs.{running_start, running_step}
 use Rattle.witness.proofs.run.Given as goal
 
 abbrev pub invariant-loop-i : goal.invariant-loop-i

@@ -1,3 +1,4 @@
+-- `start` meets its contract. Assumes nothing.
 use mathlib.Core.Path.{◌∙◌}
 use Rattle.witness.proofs.Steps.{start_step}
 use borrow.Author.Rules.{rules}

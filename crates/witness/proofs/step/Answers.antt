@@ -1,7 +1,7 @@
+-- `step` meets its contract: five words are a call. Assumes nothing.
 use Rattle.witness.specs.Encoding.{call_of}
 use Rattle.witness.proofs.Steps.{part_is}
 use lib.ListN.{get_or}
-use borrow.Author.Rules.{rules}
 use Rattle.witness.proofs.step.Goals as goal
 
 pub returns : goal.returns

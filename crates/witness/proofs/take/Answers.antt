@@ -1,3 +1,4 @@
+-- `take` meets its contract. Assumes nothing.
 use Rattle.witness.proofs.Steps.{take_step}
 use borrow.Author.Rules.{rules}
 use Rattle.witness.proofs.take.Goals as goal

@@ -1,9 +1,9 @@
+-- `write_counts` meets its contract: twelve stores. Assumes nothing.
 use native.Mathlib.Omega.{arith}
 use lib.ListN.{length-set}
 use Rattle.demand_3.specs.Demand3.{ToCounts}
 use Rattle.witness.specs.Encoding.{code}
 use Rattle.witness.proofs.Steps.{stored}
-use borrow.Author.Rules.{rules}
 use Rattle.witness.proofs.write_counts.Goals as goal
 
 pub bounds-out-4 : goal.bounds-out-4

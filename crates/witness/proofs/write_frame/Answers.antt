@@ -1,5 +1,5 @@
+-- `write_frame` meets its contract. Assumes nothing.
 use Rattle.witness.specs.Encoding.{code}
-use borrow.Author.Rules.{rules}
 use Rattle.witness.proofs.write_frame.Goals as goal
 
 pub returns : goal.returns

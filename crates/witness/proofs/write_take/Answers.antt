@@ -1,5 +1,5 @@
+-- `write_take` meets its contract: by cases of the answer. Assumes nothing.
 use Rattle.witness.specs.Encoding.{code}
-use borrow.Author.Rules.{rules}
 use Rattle.witness.proofs.write_take.Goals as goal
 
 pub returns-in-Refused : goal.returns-in-Refused

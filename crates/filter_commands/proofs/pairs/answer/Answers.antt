@@ -1,5 +1,5 @@
+-- `filter_commands::pairs::answer` meets its contract: by cases of the question. Assumes nothing.
 use Rattle.filter_commands.specs.Pairs.{holds_of}
-use borrow.Author.Rules.{rules}
 use Rattle.filter_commands.proofs.pairs.answer.Goals as goal
 
 pub returns-in-IsCleared : goal.returns-in-IsCleared

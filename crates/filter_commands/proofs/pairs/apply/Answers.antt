@@ -1,5 +1,5 @@
+-- `filter_commands::pairs::apply` meets its contract: by cases of the change. Assumes nothing.
 use Rattle.filter_commands.specs.Pairs.{may_of, change_of}
-use borrow.Author.Rules.{rules}
 use Rattle.filter_commands.proofs.pairs.apply.Goals as goal
 
 pub returns-in-Adds : goal.returns-in-Adds

@@ -1,7 +1,7 @@
-use mathlib.Core.Logic.{⊎_elim}
+-- `forwarding::Way::after` meets its contract, by what became of the frame. Assumes nothing.
 use native.Mathlib.Nat.{add-zero}
 use Rattle.forwarding.specs.Steps.{way_after}
-use borrow.Author.Rules.{rules}
+use Rattle.forwarding.proofs.Way.after.Goals.{in-Stopped, in-Joined, in-Lost}
 use Rattle.forwarding.proofs.Way.after.Goals as goal
 
 pub returns : goal.returns
@@ -9,7 +9,8 @@ unfolding way_after
 returns c = let args = c.args in
     let accepted = add-zero args.self.accepted in
     let lost = add-zero args.self.lost in
-    ⊎_elim
-    (λ w. rw (w.2, w.3, w.1.given.1, accepted, lost))
-    (λ w. ⊎_elim (λ w. rw (w.3, w.4, w.1.given.1, lost)) (λ w. rw (w.3, w.4, w.1.given.1, accepted)) w)
-    c.match-came.branch-raw
+    elim c.match-came.branch [
+      | in-Stopped w ↦ rw (w.accepted-is, w.lost-is, w.in-Stopped.is, accepted, lost)
+      | in-Joined w ↦ rw (w.accepted-is, w.lost-is, w.in-Joined.is, lost)
+      | in-Lost w ↦ rw (w.accepted-is, w.lost-is, w.in-Lost.is, accepted)
+    ]

@@ -1,6 +1,6 @@
+-- `forwarding::Way::past` meets its contract. Assumes nothing.
 use mathlib.Core.Path.{refl}
 use Rattle.forwarding.specs.Steps.{way_past}
-use borrow.Author.Rules.{rules}
 use Rattle.forwarding.proofs.Way.past.Goals as goal
 
 pub returns : goal.returns

@@ -1,3 +1,4 @@
+-- `network_message::judging::all_touch` meets its contract: by the tests on the way. Assumes nothing.
 use borrow.Author.Tests.{eq-eqb, ne_eqb}
 use Rattle.network_message.proofs.judging.all_touch.Goals as goal
 

@@ -1,6 +1,6 @@
+-- `network_message::judging::entries_end` meets its contract: by the length, and in 8 bytes by what stands after the first entry. Assumes nothing.
 use mathlib.Core.Path.{sym, ◌∙◌}
 use borrow.Author.Tests.{ne_eqb}
-use borrow.Author.Rules.{rules}
 use Rattle.network_message.specs.Decoding.{entries_end}
 use Rattle.network_message.proofs.Naming.{end_eight}
 use Rattle.network_message.proofs.judging.entries_end.Goals as goal

@@ -1,3 +1,4 @@
+-- `network_message::judging::entries_start` meets its contract: by the branch that the function takes. Assumes nothing.
 use native.Mathlib.Omega.{arith}
 use borrow.Author.Tests.{eq-eqb, ne_eqb}
 use Rattle.network_message.proofs.judging.entries_start.Goals as goal

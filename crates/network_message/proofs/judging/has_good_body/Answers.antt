@@ -1,3 +1,4 @@
+-- `network_message::judging::has_good_body` meets its contract: by the arm that the function takes. Assumes nothing.
 use mathlib.Core.Path.{◌≡◌}
 use mathlib.Core.Bool.{true}
 use mathlib.Core.Logic.{⊎_elim}
@@ -6,7 +7,6 @@ use borrow.Author.Tests.{ne_eqb}
 use Rattle.entries.specs.Entries.{listed}
 use Rattle.network_message.specs.Decoding.{has_entries, has_good_body}
 use Rattle.network_message.proofs.Keys.{entries_none, some_entries}
-use borrow.Author.Rules.{rules}
 use Rattle.network_message.proofs.judging.has_good_body.Goals as goal
 
 pub returns-in-7 : goal.returns-in-7

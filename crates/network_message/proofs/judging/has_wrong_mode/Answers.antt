@@ -1,5 +1,5 @@
+-- `network_message::judging::has_wrong_mode` meets its contract: by the test on the way. Assumes nothing.
 use borrow.Author.Tests.{eq-eqb, ne_eqb}
-use borrow.Author.Rules.{rules}
 use Rattle.network_message.specs.Decoding.{has_wrong_mode}
 use Rattle.network_message.proofs.judging.has_wrong_mode.Goals as goal
 

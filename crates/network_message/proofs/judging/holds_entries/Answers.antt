@@ -1,5 +1,5 @@
+-- `network_message::judging::holds_entries` meets its contract: the entries are a part of the payload. Assumes nothing.
 use native.Mathlib.Omega.{arith}
-use borrow.Author.Rules.{rules}
 use Rattle.network_message.specs.Decoding.{holds_entries}
 use Rattle.network_message.proofs.Naming.{end_bounds}
 use Rattle.network_message.proofs.judging.holds_entries.Goals as goal

@@ -1,6 +1,6 @@
+-- `network_message::judging::holds_parameter` meets its contract: by the arm that the function takes. Assumes nothing.
 use mathlib.Core.Path.{sym}
 use mathlib.Core.List.{[], ◌∷◌}
-use borrow.Author.Rules.{rules}
 use Rattle.network_message.specs.Decoding.{holds_parameter}
 use Rattle.network_message.proofs.Keys.{listed_one, listed_none, reset_held}
 use Rattle.network_message.proofs.judging.holds_parameter.Goals as goal

@@ -1,8 +1,8 @@
-use mathlib.Core.Path.{◌≡◌, refl, sym, ◌∙◌}
-use Prim.Native.Nat.{◌-◌, ◌≤◌}
+-- `network_message::judging::is_filling` meets its contract: the loop stops at the first byte that is no filling; those from i on decide. Assumes nothing.
+use mathlib.Core.Path.{refl, sym, ◌∙◌}
 use native.Mathlib.Omega.{arith}
 use borrow.Author.Tests.{eq-eqb, ne_eqb}
-use lib.ListN.{length, drop, drop_of_length-le}
+use lib.ListN.{drop_of_length-le}
 use Rattle.entries.specs.Entries.{every}
 use Rattle.network_message.specs.Decoding.{is_filling}
 use Rattle.network_message.proofs.Naming.{filling_next}

@@ -1,3 +1,4 @@
+-- `network_message::judging::is_held` meets its contract: by the arm that the parameter takes. Assumes nothing.
 use mathlib.Core.Path.{sym}
 use native.Mathlib.Omega.{arith}
 use Rattle.entries.specs.Entries.{listed}

@@ -1,3 +1,4 @@
+-- `network_message::judging::is_known` meets its contract: by the arm that the function takes. Assumes nothing.
 use mathlib.Core.Path.{sym}
 use borrow.Author.Tests.{ne_eqb}
 use Rattle.entries.specs.Entries.{listed}

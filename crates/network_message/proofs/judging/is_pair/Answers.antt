@@ -1,6 +1,6 @@
+-- `network_message::judging::is_pair` meets its contract: by the tests on the way. Assumes nothing.
 use mathlib.Core.Path.{sym, ◌∙◌}
-use borrow.Author.Tests.{ne_eqb, not-true, not-false}
-use borrow.Author.Rules.{rules}
+use borrow.Author.Tests.{ne_eqb}
 use Rattle.network_message.specs.Decoding.{is_pair}
 use Rattle.network_message.proofs.Naming.{pair_all}
 use Rattle.network_message.proofs.judging.is_pair.Goals as goal

@@ -1,4 +1,4 @@
-use borrow.Author.Rules.{rules}
+-- `network_message::judging::judge` meets its contract: by the tests on the way. Assumes nothing.
 use borrow.Author.Tests.{eq-eqb, ne_eqb}
 use Rattle.network_message.specs.Decoding.{refusal_of, judged}
 use Rattle.network_message.proofs.judging.judge.Goals as goal

@@ -1,8 +1,8 @@
+-- `network_message::judging::may_name` meets its contract: by the arm that the function takes. Assumes nothing.
 use mathlib.Core.Path.{sym}
 use mathlib.Core.List.{[], ◌∷◌}
 use mathlib.Core.Bool.{or-false}
 use borrow.Author.Tests.{eq-eqb, ne_eqb}
-use borrow.Author.Rules.{rules}
 use Rattle.entries.specs.Entries.{listed}
 use Rattle.network_message.specs.Decoding.{is_general, may_name}
 use Rattle.network_message.proofs.Keys.{listed_one, listed_none}

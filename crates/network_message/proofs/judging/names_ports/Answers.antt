@@ -1,6 +1,6 @@
+-- `network_message::judging::names_ports` meets its contract: by the arm that the function takes. Assumes nothing.
 use mathlib.Core.List.{[], ◌∷◌}
 use borrow.Author.Tests.{ne_eqb}
-use borrow.Author.Rules.{rules}
 use Rattle.entries.specs.Entries.{listed}
 use Rattle.network_message.specs.Decoding.{is_general, names_ports}
 use Rattle.network_message.proofs.Keys.{listed_one, listed_none}

@@ -1,5 +1,5 @@
+-- `network_message::judging::wrong_in` meets its contract: the entries are a part of the payload. Assumes nothing.
 use native.Mathlib.Omega.{arith}
-use borrow.Author.Rules.{rules}
 use Rattle.network_message.specs.Decoding.{wrong_in}
 use Rattle.network_message.proofs.Naming.{end_bounds}
 use Rattle.network_message.proofs.judging.wrong_in.Goals as goal

@@ -1,14 +1,8 @@
-use mathlib.Core.Logic.{⊎_elim}
-use mathlib.Core.Path.{refl, sym, ◌∙◌}
+-- `pgn_list::index::extend` meets its contract: the walk of `extend_by_search`, with an index that notes what joins the end. Assumes nothing.
 use Prim.Native.Nat.{◌-◌}
-use native.Mathlib.Omega.{arith}
-use borrow.Author.Rules.{rules}
-use borrow.Author.Tests.{not-true, not-false}
 use Rattle.entries.specs.Entries.{entries_of}
-use Rattle.storage.proofs.Walk.{left_all}
 use Rattle.pgn_list.specs.Slots.{Indexed}
-use Rattle.pgn_list.proofs.Slots.{indexed_none, indexed_new}
-use Rattle.pgn_list.proofs.Changes.{Held, held_listed, held_new, held_over, held_all}
+use Rattle.pgn_list.proofs.Changes.{Held}
 use Rattle.pgn_list.proofs.index.extend.Given as goal
 
 abbrev pub invariant-loop-i : goal.invariant-loop-i

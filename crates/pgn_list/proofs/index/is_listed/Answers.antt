@@ -1,6 +1,6 @@
+-- `pgn_list::index::is_listed` meets its contract: by its slot, by the place noted there, or by a search. Assumes nothing.
 use mathlib.Core.Path.{sym, ◌∙◌}
 use native.Mathlib.Omega.{arith}
-use borrow.Author.Rules.{rules}
 use Rattle.pgn_list.specs.Slots.{slot_of}
 use Rattle.pgn_list.proofs.Slots.{slot_free, slot_held}
 use Rattle.pgn_list.proofs.index.is_listed.Goals as goal

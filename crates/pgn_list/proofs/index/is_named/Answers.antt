@@ -1,6 +1,6 @@
+-- `pgn_list::index::is_named` meets its contract: by its slot, by the entry noted there, or by a look through the entries. Assumes nothing.
 use mathlib.Core.Path.{sym, ◌∙◌}
 use native.Mathlib.Omega.{arith}
-use borrow.Author.Rules.{rules}
 use Rattle.pgn_list.specs.Slots.{slot_of}
 use Rattle.pgn_list.proofs.Slots.{name_free, name_held}
 use Rattle.pgn_list.proofs.index.is_named.Goals as goal

@@ -1,11 +1,7 @@
-use mathlib.Core.Logic.{⊎_elim}
-use mathlib.Core.Path.{refl}
+-- `pgn_list::index::keep_others` meets its contract: the walk of `keep_others_by_search`, with an index of the entries. Assumes nothing.
 use Prim.Native.Nat.{◌-◌, ◌≤◌}
-use native.Mathlib.Omega.{arith}
-use borrow.Author.Tests.{not-true, not-false}
 use Rattle.entries.specs.Entries.{entries_of}
-use Rattle.pgn_list.proofs.Slots.{indexed_none}
-use Rattle.pgn_list.proofs.Changes.{Kept, kept_none, kept_not, kept_one, kept_all}
+use Rattle.pgn_list.proofs.Changes.{Kept}
 use Rattle.pgn_list.proofs.index.keep_others.Given as goal
 
 abbrev pub invariant-loop-i : goal.invariant-loop-i

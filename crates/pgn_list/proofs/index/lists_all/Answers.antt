@@ -1,11 +1,8 @@
+-- `pgn_list::index::lists_all` meets its contract: the walk of `lists_all_by_search`, with an index of the list. Assumes nothing.
 use mathlib.Core.Path.{refl, sym, ◌∙◌}
-use Prim.Native.Nat.{◌-◌}
 use native.Mathlib.Omega.{arith}
-use borrow.Author.Rules.{rules}
-use borrow.Author.Tests.{not-true, not-false}
-use lib.ListN.{take}
-use Rattle.entries.specs.Entries.{listed, every, entries_of}
-use Rattle.storage.proofs.Walk.{Left, left_all, left_none}
+use Rattle.entries.specs.Entries.{every}
+use Rattle.storage.proofs.Walk.{left_all, left_none}
 use Rattle.pgn_list.proofs.Slots.{indexed_none}
 use Rattle.pgn_list.proofs.Changes.{every_not, every_on}
 use Rattle.pgn_list.proofs.index.lists_all.Goals as goal

@@ -1,7 +1,7 @@
+-- `pgn_list::index::note` meets its contract: a slot is inside, and the number stored is a place that a slot holds. Assumes nothing.
 use mathlib.Core.Path.{◌≡◌}
 use Prim.Native.Nat.{min}
 use native.Mathlib.Omega.{arith}
-use borrow.Author.Rules.{rules}
 use Rattle.pgn_list.proofs.Slots.{slot_small}
 use Rattle.pgn_list.proofs.index.note.Goals as goal
 

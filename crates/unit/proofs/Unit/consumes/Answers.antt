@@ -1,4 +1,4 @@
-use borrow.Author.Rules.{rules}
+-- `Unit::consumes` meets its contract: by what the identifier's functions and `is_own` ensure. Assumes nothing.
 use Rattle.unit.specs.Own.{consumes}
 use Rattle.unit.proofs.Unit.consumes.Goals as goal
 

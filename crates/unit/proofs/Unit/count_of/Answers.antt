@@ -1,7 +1,7 @@
+-- `Unit::count_of` meets its contract: by the tests on the way. Assumes nothing.
 use Rattle.unit.proofs.Count.{too_few, too_many, count_four, count_same, counted}
 use native.Mathlib.Omega.{arith}
 use mathlib.Core.Path.{sym}
-use borrow.Author.Rules.{rules}
 use Rattle.unit.proofs.Unit.count_of.Goals as goal
 
 pub returns-then-count : goal.returns-then-count

@@ -1,4 +1,4 @@
-use borrow.Author.Rules.{rules}
+-- `Unit::is_own` meets its contract: by what `holds_address` ensures. Assumes nothing.
 use Rattle.unit.specs.Own.{is_own}
 use Rattle.unit.proofs.Unit.is_own.Goals as goal
 

@@ -1,7 +1,7 @@
+-- `Unit::power_on_ports` meets its contract: zeros, and the fresh unit stored. Assumes nothing.
 use Rattle.unit.proofs.Own.{powered, powered_with_four, not_powered}
 use mathlib.Core.Path.{◌≡◌, sym, ◌∙◌}
 use native.Mathlib.Omega.{arith}
-use borrow.Author.Rules.{rules}
 use Rattle.unit.proofs.Unit.power_on_ports.Goals as goal
 
 pub returns-then-words-record_length : goal.returns-then-words-record_length

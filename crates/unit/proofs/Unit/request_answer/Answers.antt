@@ -1,4 +1,4 @@
-use borrow.Author.Rules.{rules}
+-- `Unit::request_answer` meets its contract: by cases of the claim state. Assumes nothing.
 use Rattle.unit.proofs.Unit.request_answer.Goals as goal
 
 pub returns-in-Claiming : goal.returns-in-Claiming

@@ -1,4 +1,4 @@
-use borrow.Author.Rules.{rules}
+-- `Unit::start_refusal` meets its contract: by the tests on the way. Assumes nothing.
 use borrow.Author.Tests.{lt-ltb, le-ltb}
 use Rattle.unit.proofs.Unit.start_refusal.Goals as goal
 

@@ -1,9 +1,9 @@
+-- `words::ports_of` meets its contract: the fifth word, or none, which is no count. Assumes nothing.
 use Rattle.unit.proofs.Count.{too_few, count_four, counted}
 use Rattle.unit.specs.Count.{ports_of}
 use native.Mathlib.Omega.{arith}
 use lib.ListN.{get_or-eq_default}
 use mathlib.Core.Path.{sym}
-use borrow.Author.Rules.{rules}
 use Rattle.unit.proofs.words.ports_of.Goals as goal
 
 pub returns-then-words-lt5 : goal.returns-then-words-lt5

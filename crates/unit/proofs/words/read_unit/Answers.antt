@@ -1,5 +1,5 @@
+-- `words::read_unit` meets its contract: the own words are the record's first five. Assumes nothing.
 use Rattle.unit.proofs.Own.{own_read}
-use borrow.Author.Rules.{rules}
 use Rattle.unit.proofs.words.read_unit.Goals as goal
 
 pub returns : goal.returns

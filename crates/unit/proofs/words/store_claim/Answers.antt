@@ -1,5 +1,5 @@
+-- `words::store_claim` meets its contract: the first word is stored. Assumes nothing.
 use native.Mathlib.Omega.{arith}
-use borrow.Author.Rules.{rules}
 use Rattle.unit.proofs.Own.{claim_stored}
 use Rattle.unit.proofs.words.store_claim.Goals as goal
 

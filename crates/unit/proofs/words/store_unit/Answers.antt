@@ -1,7 +1,7 @@
+-- `words::store_unit` meets its contract: five stores are the own part that came back. Assumes nothing.
 use Rattle.unit.proofs.Own.{own_stored}
 use lib.ListN.{length-set}
 use native.Mathlib.Omega.{arith}
-use borrow.Author.Rules.{rules}
 use Rattle.unit.proofs.words.store_unit.Goals as goal
 
 pub bounds-words-1 : goal.bounds-words-1

@@ -1,10 +1,8 @@
-use mathlib.Core.Path.{◌≡◌, refl, ◌∙◌}
-use mathlib.Core.List.{◌++◌, append-nil}
+-- `words::wipe` meets its contract. The loop's invariant: zeros up to i, and the words as they were from there on. Assumes nothing.
+use mathlib.Core.Path.{◌≡◌}
+use mathlib.Core.List.{◌++◌}
 use Prim.Native.Nat.{◌≤◌, ◌-◌}
-use native.Mathlib.Omega.{arith}
-use borrow.Author.Fill.{fill_more}
-use lib.ListN.{length, drop, replicate, length-set}
-use lib.Seq.{drop-length}
+use lib.ListN.{length, drop, replicate}
 use Rattle.unit.proofs.words.wipe.Given as goal
 
 abbrev pub invariant-loop-i : goal.invariant-loop-i
