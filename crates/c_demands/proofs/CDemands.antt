@@ -24,10 +24,10 @@ use Rattle.c_demands.proofs.Unchanged.{unchanged_c}
 
 -- deorasaeng_power_on_ports is power-on, deorasaeng_power_on is power-on with four ports
 powers : {w u : List ℕ} {name preferred count r : ℕ} → Powered w name preferred count r u → made.Powered w name preferred count r u
-powers (powered κs w w' name preferred count r c) = made.powered κs w w' name preferred count r (λ _. c tt)
+powers (powered κs w w' name preferred count r c) = made.powered w.now w'.now name preferred count r (c tt)
 
 powers_four : {w u : List ℕ} {name preferred r : ℕ} → PoweredFour w name preferred r u → made.Powered w name preferred 4 r u
-powers_four (powered_four κs w w' name preferred r c) = made.powered κs w w' name preferred 4 r (λ _. c tt)
+powers_four (powered_four κs w w' name preferred r c) = made.powered w.now w'.now name preferred 4 r (c tt)
 
 -- a message by its contract, and as the bridge's
 message_call : {w payload reply answer w' back told : List ℕ} {port requester r : ℕ} → Handed w port requester payload reply answer r w' back told
@@ -37,7 +37,7 @@ message_call (handed κs w w' p p' b b' a a' port requester r f) = f tt
 as_handed : {w payload reply answer w' back told : List ℕ} {port requester r : ℕ} (H : Handed w port requester payload reply answer r w' back told) → length answer ≡ message_length
     → made.Handed w port requester payload reply (answered refl (message_call H)) w' back
 as_handed (handed κs w w' p p' b b' a a' port requester r f) e =
-    made.handed (κs.0, (κs.1.0, (κs.1.1.0, tt))) w w' p p' b b' port requester (answered refl (f tt)) (λ _. (f tt).called e)
+    made.handed w.now w'.now p.now b.now b'.now port requester (answered refl (f tt)) ((f tt).called e)
 
 private : {w other payload reply answer w' back told other' back₂ told₂ : List ℕ} {p requester r r₂ : ℕ}
     → 2 ≤ p → p ≤ ports_of w → ports_of w ≡ ports_of other → length w ≡ length other → SameTo p w other

@@ -292,7 +292,7 @@ is_call full (frame_made (arrived κs w w' b b' a a' port id r f)) l =
     let P = frame_framing refl F e in
     record {
       answer = ToFrame (frame_answer (ports_of w.now) (length w.now) (model_of (ports_of w.now) w.now) port id b.now);
-      made = demand_3.frame_made (made.arrived (κs.0, (κs.1.0, tt)) w w' b b' port id _ (λ _. P.0));
+      made = demand_3.frame_made (made.arrived w.now w'.now b.now port id _ P.0);
       tells = of_frame {port = port} {id = id} {bytes = b.now} {answer = a.now} {g = gave r a'.now []} (frame_answer (ports_of w.now) (length w.now) (model_of (ports_of w.now) w.now) port id b.now) (rw (F.tells, P.1, event_is _, old_name_is _));
     }
 is_call full (take_made (took_out κs w w' a a' b b' port r f)) l =
@@ -303,12 +303,12 @@ is_call full (take_made (took_out κs w w' a a' b b' port r f)) l =
     elim (ℕ_discrete r 0) [
       | yes z ↦ record {
         answer = ToTake (Took (found refl T e e'));
-        made = demand_3.take_made (made.took (κs.0, tt) w w' port _ (λ _. taking_is refl T e e' (sym (answer_found refl T e e' z))));
+        made = demand_3.take_made (made.took w.now w'.now port _ (taking_is refl T e e' (sym (answer_found refl T e e' z))));
         tells = found_tells refl T e e' z;
       }
       | no h ↦ record {
         answer = ToTake (Refused r);
-        made = demand_3.take_made (made.took (κs.0, tt) w w' port _ (λ _. taking_is refl T e e' (sym (answer_refused refl T e e' h))));
+        made = demand_3.take_made (made.took w.now w'.now port _ (taking_is refl T e e' (sym (answer_refused refl T e e' h))));
         tells = refused_tells refl T e e' h;
       }
     ]
@@ -317,7 +317,7 @@ is_call full (message_made (handed κs w w' p p' b b' a a' port requester r f)) 
     let e = eqb-true (length a.now) 5 l in
     record {
       answer = ToMessage (answered refl M) (take (answered refl M).length b'.now);
-      made = demand_3.message_made (made.handed (κs.0, (κs.1.0, (κs.1.1.0, tt))) w w' p p' b b' port requester (answered refl M) (λ _. M.called e));
+      made = demand_3.message_made (made.handed w.now w'.now p.now b.now b'.now port requester (answered refl M) (M.called e));
       tells = of_message {port = port} {requester = requester} {payload = p.now} {reply = b.now} {answer = a.now} {g = gave r a'.now b'.now} (answered refl M) (take (answered refl M).length b'.now) (message_given refl M e);
     }
 is_call full (start_made (started κs w w' a a' r f)) l =
@@ -326,23 +326,23 @@ is_call full (start_made (started κs w w' a a' r f)) l =
     let P = start_starting S e in
     record {
       answer = ToStart (start_answer (ports_of w.now) (length w.now) (model_of (ports_of w.now) w.now));
-      made = demand_3.start_made (made.started (κs.0, tt) w w' _ (λ _. P.0));
+      made = demand_3.start_made (made.started w.now w'.now _ P.0);
       tells = of_start {answer = a.now} {g = gave r a'.now []} (start_answer (ports_of w.now) (length w.now) (model_of (ports_of w.now) w.now)) (rw (S.tells, P.1, state_is _));
     }
 is_call full (quiet_made (quieted κs w w' r f)) l =
-    record { answer = ToQuiet r; made = demand_3.quiet_made (made.quieted κs w w' r (λ _. f tt)); tells = of_quiet {g = gave r [] []} r refl }
+    record { answer = ToQuiet r; made = demand_3.quiet_made (made.quieted w.now w'.now r (f tt)); tells = of_quiet {g = gave r [] []} r refl }
 is_call full (unit_made (told_unit κs w w' a a' r f)) l =
     let U = f tt in
     let e = eqb-true (length a.now) 5 l in
     elim (ℕ_discrete r 0) [
       | yes z ↦ record {
         answer = ToUnit (Told (model_of (ports_of w.now) w.now).rest.own);
-        made = demand_3.unit_made (made.told (κs.0, tt) w w _ (λ _. reading_is U e (unit_found U e z)));
+        made = demand_3.unit_made (made.told w.now _ (reading_is U e (unit_found U e z)));
         tells = of_unit_lem {answer = a.now} {g = gave r a'.now []} (model_of (ports_of w.now) w.now).rest.own (rw (U.tells, z, state_is (model_of (ports_of w.now) w.now).rest.own.claim));
       }
       | no h ↦ record {
         answer = ToUnit (UnitAnswer.Refused r);
-        made = demand_3.unit_made (made.told (κs.0, tt) w w _ (λ _. reading_is U e (unit_refused U e h)));
+        made = demand_3.unit_made (made.told w.now _ (reading_is U e (unit_refused U e h)));
         tells = of_refused_unit {answer = a.now} {g = gave r a'.now []} r h (rw (U.tells, ne_eqb r 0 h));
       }
     ]
@@ -352,7 +352,7 @@ is_call full (counts_made (told_counts κs w w' a a' port r f)) l =
     let P = counts_counting refl C e in
     record {
       answer = ToCounts (counts_answer (ports_of w.now) (length w.now) (model_of (ports_of w.now) w.now) port);
-      made = demand_3.counts_made (made.counted (κs.0, tt) w w port _ (λ _. P.0));
+      made = demand_3.counts_made (made.counted w.now port _ P.0);
       tells = of_counts {port = port} {answer = a.now} {g = gave r a'.now []} (counts_answer (ports_of w.now) (length w.now) (model_of (ports_of w.now) w.now) port) (rw (C.tells, P.1));
     }
 is_call full (queue_made (took_queue κs w w' port answer bytes r block told written p Q is)) l =
@@ -361,7 +361,7 @@ is_call full (queue_made (took_queue κs w w' port answer bytes r block told wri
     let e' = eqb-true (length bytes) 8 two.1 in
     record {
       answer = ToTake (Took (taken_from (block_of w.now port)));
-      made = demand_3.take_made (made.took κs w w' port (Took (taken_from (block_of w.now port))) (λ _. rw is (queue_taking (ports_of w.now) w.now port Q full p e e')));
+      made = demand_3.take_made (made.took w.now w'.now port (Took (taken_from (block_of w.now port))) (rw is (queue_taking (ports_of w.now) w.now port Q full p e e')));
       tells = of_queue {port = port} {answer = answer} {bytes = bytes} {g = gave r told written} (taken_from (block_of w.now port)) (queue_given (ports_of w.now) w.now port Q full p e e');
     }
 

@@ -4,3 +4,4 @@ pub mod Lists
 pub mod Unchanged
 pub mod CDemands
 pub mod Plans
+pub mod Clauses

@@ -1,6 +1,6 @@
 -- The contracts of the thirteen exported functions, each by the clauses of the code: nothing is required, and what is ensured is what Interface.antt and PlanCalls.antt of
--- `deorasaeng` say. A `requires` on one of them, or another clause, is refused here: each is proved by computing. And where C finds the fields of a link. Assumes nothing.
-use Rattle.std.specs.Prelude.{◌≡◌, refl, List, ℕ}
+-- `deorasaeng` say. A `requires` on one of them, or another clause, is refused: each is proved by computing, as `clauses` and `link_layout` in proofs/Clauses.antt. And where C finds the fields of a link. Assumes nothing.
+use Rattle.std.specs.Prelude.{◌≡◌, List, ℕ}
 use Rattle.std.proofs.Math.Option.{some}
 use contract.Lifetimes.{Lfts}
 use contract.Notation as N
@@ -35,88 +35,62 @@ use Rattle.deorasaeng.specs.contracts.deorasaeng_take_queue as queue
 use Rattle.deorasaeng.specs.contracts.deorasaeng_plan as plan
 use Rattle.deorasaeng.specs.contracts.deorasaeng_plan_links as links
 
-module _ {M : Type 1} {𝓤 : Ura M} (𝓛 : Logic 𝓤) (mem : Memory → SProp 𝓤) (run : Routine → Fun 𝓤) where
+module _ {M : Type 1} (𝓤 : Ura M) where
   -- nothing is required, and a fact is ensured
-  abbrev nothing : SProp 𝓤
+  abbrev pub nothing : SProp 𝓤
   nothing = (N.connectives 𝓤).⊤ₛ
 
-  abbrev fact : Type 0 → SProp 𝓤
+  abbrev pub fact : Type 0 → SProp 𝓤
   fact p = (N.connectives 𝓤).⌜◌⌝ p
 
-  pub version_clause : (κs : Lfts 0) → (version.clauses 𝓛 mem run κs tt).requires tt ≡ nothing
-  version_clause κs = refl
-
-  module _ (κs : Lfts 1) (w w' : MutBor (List ℕ)) (name preferred count r : ℕ) where
-    pub power_on_clause : ((power_on.clauses 𝓛 mem run κs (w, (name, (preferred, (count, tt))))).requires tt ≡ nothing)
-        × ((power_on.clauses 𝓛 mem run κs (w, (name, (preferred, (count, tt))))).ensures tt r (w', (name, (preferred, (count, tt)))) ≡ fact (PoweringOn count w.now w'.now name preferred r))
-    power_on_clause = (refl, refl)
-
-    pub power_on_four_clause : ((power_on_four.clauses 𝓛 mem run κs (w, (name, (preferred, tt)))).requires tt ≡ nothing)
-        × ((power_on_four.clauses 𝓛 mem run κs (w, (name, (preferred, tt)))).ensures tt r (w', (name, (preferred, tt))) ≡ fact (PoweringOn 4 w.now w'.now name preferred r))
-    power_on_four_clause = (refl, refl)
-
-    pub quiet_clause : ((quiet.clauses 𝓛 mem run κs (w, tt)).requires tt ≡ nothing)
-        × ((quiet.clauses 𝓛 mem run κs (w, tt)).ensures tt r (w', tt) ≡ fact (Quieting (ports_of w.now) w.now w'.now r))
-    quiet_clause = (refl, refl)
-
-  module _ (κs : Lfts 2) (w w' a a' : MutBor (List ℕ)) (r : ℕ) where
-    pub start_clause : ((start.clauses 𝓛 mem run κs (w, (a, tt))).requires tt ≡ nothing)
-        × ((start.clauses 𝓛 mem run κs (w, (a, tt))).ensures tt r (w', (a', tt)) ≡ fact (StartCall (ports_of w.now) w.now w'.now a.now a'.now r))
-    start_clause = (refl, refl)
-
-  module _ (κs : Lfts 2) (w w' : Bor (List ℕ)) (a a' : MutBor (List ℕ)) (port r : ℕ) where
-    pub unit_clause : ((unit.clauses 𝓛 mem run κs (w, (a, tt))).requires tt ≡ nothing)
-        × ((unit.clauses 𝓛 mem run κs (w, (a, tt))).ensures tt r (w', (a', tt)) ≡ fact (UnitCall (ports_of w.now) w.now a.now a'.now r))
-    unit_clause = (refl, refl)
-
-    pub counts_clause : ((counts.clauses 𝓛 mem run κs (w, (port, (a, tt)))).requires tt ≡ nothing)
-        × ((counts.clauses 𝓛 mem run κs (w, (port, (a, tt)))).ensures tt r (w', (port, (a', tt))) ≡ fact (CountsCall (ports_of w.now) w.now port a.now a'.now r))
-    counts_clause = (refl, refl)
-
-  module _ (κs : Lfts 3) (w w' a a' : MutBor (List ℕ)) (port id r : ℕ) where
-    pub frame_clause : (b b' : Bor (List ℕ))
-        → ((frame.clauses 𝓛 mem run κs (w, (port, (id, (b, (a, tt)))))).requires tt ≡ nothing)
-        × ((frame.clauses 𝓛 mem run κs (w, (port, (id, (b, (a, tt)))))).ensures tt r (w', (port, (id, (b', (a', tt)))))
-        ≡ fact (FrameCall (ports_of w.now) w.now w'.now port id b.now a.now a'.now r))
-    frame_clause b b' = (refl, refl)
-
-    pub take_clause : (b b' : MutBor (List ℕ))
-        → ((take_out.clauses 𝓛 mem run κs (w, (port, (a, (b, tt))))).requires tt ≡ nothing)
-        × ((take_out.clauses 𝓛 mem run κs (w, (port, (a, (b, tt))))).ensures tt r (w', (port, (a', (b', tt))))
-        ≡ fact (TakeCall (ports_of w.now) w.now w'.now port a.now a'.now b.now b'.now r))
-    take_clause b b' = (refl, refl)
-
+-- the clauses of the exported functions, for each of the toolchain's worlds
+pub record Clauses {M : Type 1} {𝓤 : Ura M} (𝓛 : Logic 𝓤) (mem : Memory → SProp 𝓤) (run : Routine → Fun 𝓤) : Type 2 where
+  pub version_clause : (κs : Lfts 0) → (version.clauses 𝓛 mem run κs tt).requires tt ≡ nothing 𝓤
+  pub power_on_clause : (κs : Lfts 1) (w w' : MutBor (List ℕ)) (name preferred count r : ℕ)
+      → ((power_on.clauses 𝓛 mem run κs (w, (name, (preferred, (count, tt))))).requires tt ≡ nothing 𝓤)
+      × ((power_on.clauses 𝓛 mem run κs (w, (name, (preferred, (count, tt))))).ensures tt r (w', (name, (preferred, (count, tt)))) ≡ fact 𝓤 (PoweringOn count w.now w'.now name preferred r))
+  pub power_on_four_clause : (κs : Lfts 1) (w w' : MutBor (List ℕ)) (name preferred count r : ℕ)
+      → ((power_on_four.clauses 𝓛 mem run κs (w, (name, (preferred, tt)))).requires tt ≡ nothing 𝓤)
+      × ((power_on_four.clauses 𝓛 mem run κs (w, (name, (preferred, tt)))).ensures tt r (w', (name, (preferred, tt))) ≡ fact 𝓤 (PoweringOn 4 w.now w'.now name preferred r))
+  pub quiet_clause : (κs : Lfts 1) (w w' : MutBor (List ℕ)) (name preferred count r : ℕ)
+      → ((quiet.clauses 𝓛 mem run κs (w, tt)).requires tt ≡ nothing 𝓤)
+      × ((quiet.clauses 𝓛 mem run κs (w, tt)).ensures tt r (w', tt) ≡ fact 𝓤 (Quieting (ports_of w.now) w.now w'.now r))
+  pub start_clause : (κs : Lfts 2) (w w' a a' : MutBor (List ℕ)) (r : ℕ)
+      → ((start.clauses 𝓛 mem run κs (w, (a, tt))).requires tt ≡ nothing 𝓤)
+      × ((start.clauses 𝓛 mem run κs (w, (a, tt))).ensures tt r (w', (a', tt)) ≡ fact 𝓤 (StartCall (ports_of w.now) w.now w'.now a.now a'.now r))
+  pub unit_clause : (κs : Lfts 2) (w w' : Bor (List ℕ)) (a a' : MutBor (List ℕ)) (port r : ℕ)
+      → ((unit.clauses 𝓛 mem run κs (w, (a, tt))).requires tt ≡ nothing 𝓤)
+      × ((unit.clauses 𝓛 mem run κs (w, (a, tt))).ensures tt r (w', (a', tt)) ≡ fact 𝓤 (UnitCall (ports_of w.now) w.now a.now a'.now r))
+  pub counts_clause : (κs : Lfts 2) (w w' : Bor (List ℕ)) (a a' : MutBor (List ℕ)) (port r : ℕ)
+      → ((counts.clauses 𝓛 mem run κs (w, (port, (a, tt)))).requires tt ≡ nothing 𝓤)
+      × ((counts.clauses 𝓛 mem run κs (w, (port, (a, tt)))).ensures tt r (w', (port, (a', tt))) ≡ fact 𝓤 (CountsCall (ports_of w.now) w.now port a.now a'.now r))
+  pub frame_clause : (κs : Lfts 3) (w w' a a' : MutBor (List ℕ)) (port id r : ℕ) (b b' : Bor (List ℕ))
+      → ((frame.clauses 𝓛 mem run κs (w, (port, (id, (b, (a, tt)))))).requires tt ≡ nothing 𝓤)
+      × ((frame.clauses 𝓛 mem run κs (w, (port, (id, (b, (a, tt)))))).ensures tt r (w', (port, (id, (b', (a', tt)))))
+      ≡ fact 𝓤 (FrameCall (ports_of w.now) w.now w'.now port id b.now a.now a'.now r))
+  pub take_clause : (κs : Lfts 3) (w w' a a' : MutBor (List ℕ)) (port id r : ℕ) (b b' : MutBor (List ℕ))
+      → ((take_out.clauses 𝓛 mem run κs (w, (port, (a, (b, tt))))).requires tt ≡ nothing 𝓤)
+      × ((take_out.clauses 𝓛 mem run κs (w, (port, (a, (b, tt))))).ensures tt r (w', (port, (a', (b', tt))))
+      ≡ fact 𝓤 (TakeCall (ports_of w.now) w.now w'.now port a.now a'.now b.now b'.now r))
   pub message_clause : (κs : Lfts 4) (w w' : MutBor (List ℕ)) (p p' : Bor (List ℕ)) (b b' a a' : MutBor (List ℕ)) (port requester r : ℕ)
-      → ((message.clauses 𝓛 mem run κs (w, (port, (requester, (p, (b, (a, tt))))))).requires tt ≡ nothing)
+      → ((message.clauses 𝓛 mem run κs (w, (port, (requester, (p, (b, (a, tt))))))).requires tt ≡ nothing 𝓤)
       × ((message.clauses 𝓛 mem run κs (w, (port, (requester, (p, (b, (a, tt))))))).ensures tt r (w', (port, (requester, (p', (b', (a', tt))))))
-      ≡ fact (MessageCall (ports_of w.now) w.now w'.now port requester p.now b.now b'.now a.now a'.now r))
-  message_clause κs w w' p p' b b' a a' port requester r = (refl, refl)
-
+      ≡ fact 𝓤 (MessageCall (ports_of w.now) w.now w'.now port requester p.now b.now b'.now a.now a'.now r))
   pub queue_clause : (κs : Lfts 3) (q q' : MutBor Queue) (a a' b b' : MutBor (List ℕ)) (r : ℕ)
-      → ((queue.clauses 𝓛 mem run κs (q, (a, (b, tt)))).requires tt ≡ nothing)
+      → ((queue.clauses 𝓛 mem run κs (q, (a, (b, tt)))).requires tt ≡ nothing 𝓤)
       × ((queue.clauses 𝓛 mem run κs (q, (a, (b, tt)))).ensures tt r (q', (a', (b', tt)))
-      ≡ fact (QueueCall q.now.words q'.now.words a.now a'.now b.now b'.now r))
-  queue_clause κs q q' a a' b b' r = (refl, refl)
-
-  module _ (κs : Lfts 3) (segments units first pgn r : ℕ) (ls ls' : Bor (List ℕ)) (a a' : MutBor (List ℕ)) where
-    pub plan_clause : (ps ps' : Bor (List ℕ))
-        → ((plan.clauses 𝓛 mem run κs (ps, (ls, (segments, (units, (first, (pgn, (a, tt)))))))).requires tt ≡ nothing)
-        × ((plan.clauses 𝓛 mem run κs (ps, (ls, (segments, (units, (first, (pgn, (a, tt)))))))).ensures tt r (ps', (ls', (segments, (units, (first, (pgn, (a', tt)))))))
-        ≡ fact (PlanCall ps.now ls.now segments units first pgn a.now a'.now r))
-    plan_clause ps ps' = (refl, refl)
-
-    pub links_clause : (ks ks' : Bor (List Link))
-        → ((links.clauses 𝓛 mem run κs (ks, (ls, (segments, (units, (first, (pgn, (a, tt)))))))).requires tt ≡ nothing)
-        × ((links.clauses 𝓛 mem run κs (ks, (ls, (segments, (units, (first, (pgn, (a, tt)))))))).ensures tt r (ks', (ls', (segments, (units, (first, (pgn, (a', tt)))))))
-        ≡ fact (LinksCall ks.now ls.now segments units first pgn a.now a'.now r))
-    links_clause ks ks' = (refl, refl)
+      ≡ fact 𝓤 (QueueCall q.now.words q'.now.words a.now a'.now b.now b'.now r))
+  pub plan_clause : (κs : Lfts 3) (segments units first pgn r : ℕ) (ls ls' : Bor (List ℕ)) (a a' : MutBor (List ℕ)) (ps ps' : Bor (List ℕ))
+      → ((plan.clauses 𝓛 mem run κs (ps, (ls, (segments, (units, (first, (pgn, (a, tt)))))))).requires tt ≡ nothing 𝓤)
+      × ((plan.clauses 𝓛 mem run κs (ps, (ls, (segments, (units, (first, (pgn, (a, tt)))))))).ensures tt r (ps', (ls', (segments, (units, (first, (pgn, (a', tt)))))))
+      ≡ fact 𝓤 (PlanCall ps.now ls.now segments units first pgn a.now a'.now r))
+  pub links_clause : (κs : Lfts 3) (segments units first pgn r : ℕ) (ls ls' : Bor (List ℕ)) (a a' : MutBor (List ℕ)) (ks ks' : Bor (List Link))
+      → ((links.clauses 𝓛 mem run κs (ks, (ls, (segments, (units, (first, (pgn, (a, tt)))))))).requires tt ≡ nothing 𝓤)
+      × ((links.clauses 𝓛 mem run κs (ks, (ls, (segments, (units, (first, (pgn, (a, tt)))))))).ensures tt r (ks', (ls', (segments, (units, (first, (pgn, (a', tt)))))))
+      ≡ fact 𝓤 (LinksCall ks.now ls.now segments units first pgn a.now a'.now r))
 
 -- "struct deorasaeng_link { uint32_t unit, port, segment; }": 12 bytes, with 32 bits each at 0, 4 and 8, in this order
-pub link_bytes : size link.mir ≡ 12
-link_bytes = refl
-
-pub link_offsets : (field_of link.mir 0 ≡ some (ty_int w32, 0)) × (field_of link.mir 1 ≡ some (ty_int w32, 4)) × (field_of link.mir 2 ≡ some (ty_int w32, 8))
-link_offsets = (refl, refl, refl)
-
-pub link_fields : (l : Link) → link.lowered l ≡ vstruct (vcons (vint w32 l.unit) (vcons (vint w32 l.port) (vcons (vint w32 l.segment) vnil)))
-link_fields l = refl
+pub record LinkLayout : Type 0 where
+  pub link_bytes : size link.mir ≡ 12
+  pub link_offsets : (field_of link.mir 0 ≡ some (ty_int w32, 0)) × (field_of link.mir 1 ≡ some (ty_int w32, 4)) × (field_of link.mir 2 ≡ some (ty_int w32, 8))
+  pub link_fields : (l : Link) → link.lowered l ≡ vstruct (vcons (vint w32 l.unit) (vcons (vint w32 l.port) (vcons (vint w32 l.segment) vnil)))

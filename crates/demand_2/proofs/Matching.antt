@@ -111,8 +111,8 @@ module _ (ports : ℕ) (words : List ℕ) (a : ℕ) where
   pub given : {name : ℕ} → sender ≡ some name → Gives words a name
   unfolding name_in place_from
   given {name} e = elim (dec_lt a 254) [
-    | yes h ↦ go h (eqb (get_or words (5 + 2 * a) 0) 0) refl (sym (sender_in h) ∙ e)
-    | no h ↦ let past = sender_past (omega arith) in let z : ◌≡◌ {A = ℕ} 0 1 = cc in absurd (omega arith)
+    | Prim.yes h ↦ go h (eqb (get_or words (5 + 2 * a) 0) 0) refl (sym (sender_in h) ∙ e)
+    | Prim.no h ↦ let past = sender_past (omega arith) in let z : ◌≡◌ {A = ℕ} 0 1 = cc in absurd (omega arith)
   ]
     where
       go : a < 254 → (b : Bool) → eqb (get_or words (5 + 2 * a) 0) 0 ≡ b → name_in (cond b Free (Held (get_or words (5 + 2 * a) 0) (get_or words (6 + 2 * a) 0))) ≡ some name → Gives words a name

@@ -43,7 +43,7 @@ module _ {A : Type 0} (test : A → Bool) where
             at = suc F.at;
             inside = omega (arith, F.inside);
             holds = F.holds;
-            before = λ j. elim j [
+            before = λ j. elim j as (λ (k : ℕ). k < suc F.at → test (get_or (y ∷ ys) k d) ≡ false) [
               | zero ↦ λ l. e
               | suc i ↦ λ l. F.before i (le_of_suc-le-suc l)
             ];
@@ -58,7 +58,7 @@ module _ {A : Type 0} (test : A → Bool) where
       go true e h ih = absurd (false≢true (sym h))
       go false e h ih =
           let N = ih h in (
-            (λ j. elim j [
+            (λ j. elim j as (λ (k : ℕ). k < suc (length ys) → test (get_or (y ∷ ys) k d) ≡ false) [
               | zero ↦ λ l. e
               | suc i ↦ λ l. N.0 i (le_of_suc-le-suc l)
             ]),

@@ -13,25 +13,25 @@ use Rattle.bridge.specs.Calls.{Framing, TakingOut, Messaging, Starting, Quieting
 use Rattle.made.specs.Made.{Powered, powered, Arrived, arrived, Took, took, Handed, handed, Started, started, Quieted, quieted, Told, told, Counted, counted}
 
 pub powering : {words after : List ℕ} {name preferred count r : ℕ} → Powered words name preferred count r after → PoweringOn count words after name preferred r
-powering (powered κs w w' name preferred count r c) = c tt
+powering (powered w w' name preferred count r c) = c
 
 pub framing : {words bytes after : List ℕ} {port id : ℕ} {r : FrameAnswer} → Arrived words port id bytes r after → Framing (ports_of words) words after port id bytes r
-framing (arrived κs w w' b b' port id r c) = c tt
+framing (arrived w w' b port id r c) = c
 
 pub taking : {words after : List ℕ} {port : ℕ} {r : TakeAnswer} → Took words port r after → TakingOut (ports_of words) words after port r
-taking (took κs w w' port r c) = c tt
+taking (took w w' port r c) = c
 
 pub messaging : {words payload lent after back : List ℕ} {port requester : ℕ} {r : MessageAnswer} → Handed words port requester payload lent r after back → Messaging (ports_of words) words after port requester payload lent back r
-messaging (handed κs w w' p p' b b' port requester r c) = c tt
+messaging (handed w w' p b b' port requester r c) = c
 
 pub starting : {words after : List ℕ} {r : StartAnswer} → Started words r after → Starting (ports_of words) words after r
-starting (started κs w w' r c) = c tt
+starting (started w w' r c) = c
 
 pub quieting : {words after : List ℕ} {r : ℕ} → Quieted words r after → Quieting (ports_of words) words after r
-quieting (quieted κs w w' r c) = c tt
+quieting (quieted w w' r c) = c
 
 pub reading : {words : List ℕ} {r : UnitAnswer} → Told words r → Reading (ports_of words) words r
-reading (told κs w w' r c) = c tt
+reading (told w r c) = c
 
 pub counting : {words : List ℕ} {port : ℕ} {r : CountsAnswer} → Counted words port r → Counting (ports_of words) words port r
-counting (counted κs w w' port r c) = c tt
+counting (counted w port r c) = c

@@ -1,70 +1,53 @@
--- A call that was made: the record as it was, the call's arguments, the answer, the record as it was left. Of each call the contract of the function is known,
--- `Pre → Post`, and nothing else: these are the clauses `requires` and `ensures` of the functions themselves, read off by the toolchain. As an implication,
--- so that a theorem over them has to prove each `Pre` itself. (a, (b, tt)) are a function's arguments; a lent slice is a reference, and `.now` what lies in it;
--- κs are lifetimes, which no contract reads.
+-- A call that was made: the record as it was, the call's arguments, the answer, the record as it was left. Of each call what its function ensures is known, and
+-- nothing else. No function requires anything: Cited.antt says that the clauses `requires` and `ensures` of the functions themselves, read off by the
+-- toolchain, give just this. Assumes nothing.
 use Rattle.std.specs.Prelude.{List, ℕ}
-use contract.Lifetimes.{Lfts}
-use Rattle.std.specs.Borrow.{Bor, MutBor}
 use Rattle.bridge.specs.declared.FrameAnswer.{FrameAnswer}
 use Rattle.bridge.specs.declared.TakeAnswer.{TakeAnswer}
 use Rattle.message_answers.specs.declared.MessageAnswer.{MessageAnswer}
 use Rattle.bridge.specs.declared.StartAnswer.{StartAnswer}
 use Rattle.bridge.specs.declared.UnitAnswer.{UnitAnswer}
 use Rattle.bridge.specs.declared.CountsAnswer.{CountsAnswer}
-use Rattle.unit.proofs.Unit.power_on_ports.Reads as power_on
-use Rattle.bridge.proofs.frame.Reads as frame
-use Rattle.bridge.proofs.take.Reads as take
-use Rattle.bridge.proofs.message.Reads as message
-use Rattle.bridge.proofs.start.Reads as start
-use Rattle.bridge.proofs.quiet.Reads as quiet
-use Rattle.bridge.proofs.unit.Reads as unit
-use Rattle.bridge.proofs.counts.Reads as counts
+use Rattle.unit.specs.Count.{ports_of}
+use Rattle.unit.specs.PowerOn.{PoweringOn}
+use Rattle.bridge.specs.Calls.{Framing, TakingOut, Messaging, Starting, Quieting, Reading, Counting}
 
 -- power-on, with a NAME, a preferred address and a count of ports
 pub data Powered : (words : List ℕ) (name preferred count r : ℕ) (after : List ℕ) → Type 0 where
-  powered : (κs : Lfts 1) (w w' : MutBor (List ℕ)) (name preferred count r : ℕ)
-      → (power_on.Pre κs (w, (name, (preferred, (count, tt)))) → power_on.Post κs (w, (name, (preferred, (count, tt)))) r (w', (name, (preferred, (count, tt)))))
-      → Powered w.now name preferred count r w'.now
+  powered : (w w' : List ℕ) (name preferred count r : ℕ) → PoweringOn count w w' name preferred r
+      → Powered w name preferred count r w'
 
 -- a frame arrived at a port
 pub data Arrived : (words : List ℕ) (port id : ℕ) (bytes : List ℕ) (r : FrameAnswer) (after : List ℕ) → Type 0 where
-  arrived : (κs : Lfts 2) (w w' : MutBor (List ℕ)) (b b' : Bor (List ℕ)) (port id : ℕ) (r : FrameAnswer)
-      → (frame.Pre κs (w, (port, (id, (b, tt)))) → frame.Post κs (w, (port, (id, (b, tt)))) r (w', (port, (id, (b', tt)))))
-      → Arrived w.now port id b.now r w'.now
+  arrived : (w w' b : List ℕ) (port id : ℕ) (r : FrameAnswer) → Framing (ports_of w) w w' port id b r
+      → Arrived w port id b r w'
 
 -- a take was made on a port
 pub data Took : (words : List ℕ) (port : ℕ) (r : TakeAnswer) (after : List ℕ) → Type 0 where
-  took : (κs : Lfts 1) (w w' : MutBor (List ℕ)) (port : ℕ) (r : TakeAnswer)
-      → (take.Pre κs (w, (port, tt)) → take.Post κs (w, (port, tt)) r (w', (port, tt)))
-      → Took w.now port r w'.now
+  took : (w w' : List ℕ) (port : ℕ) (r : TakeAnswer) → TakingOut (ports_of w) w w' port r
+      → Took w port r w'
 
 -- a message was handed in, with a reply buffer `lent` that was left as `back`
 pub data Handed : (words : List ℕ) (port requester : ℕ) (payload lent : List ℕ) (r : MessageAnswer) (after back : List ℕ) → Type 0 where
-  handed : (κs : Lfts 3) (w w' : MutBor (List ℕ)) (p p' : Bor (List ℕ)) (b b' : MutBor (List ℕ)) (port requester : ℕ) (r : MessageAnswer)
-      → (message.Pre κs (w, (port, (requester, (p, (b, tt)))))
-      → message.Post κs (w, (port, (requester, (p, (b, tt))))) r (w', (port, (requester, (p', (b', tt))))))
-      → Handed w.now port requester p.now b.now r w'.now b'.now
+  handed : (w w' p b b' : List ℕ) (port requester : ℕ) (r : MessageAnswer) → Messaging (ports_of w) w w' port requester p b b' r
+      → Handed w port requester p b r w' b'
 
 -- Start
 pub data Started : (words : List ℕ) (r : StartAnswer) (after : List ℕ) → Type 0 where
-  started : (κs : Lfts 1) (w w' : MutBor (List ℕ)) (r : StartAnswer)
-      → (start.Pre κs (w, tt) → start.Post κs (w, tt) r (w', tt))
-      → Started w.now r w'.now
+  started : (w w' : List ℕ) (r : StartAnswer) → Starting (ports_of w) w w' r
+      → Started w r w'
 
 -- Quiet
 pub data Quieted : (words : List ℕ) (r : ℕ) (after : List ℕ) → Type 0 where
-  quieted : (κs : Lfts 1) (w w' : MutBor (List ℕ)) (r : ℕ)
-      → (quiet.Pre κs (w, tt) → quiet.Post κs (w, tt) r (w', tt))
-      → Quieted w.now r w'.now
+  quieted : (w w' : List ℕ) (r : ℕ) → Quieting (ports_of w) w w' r
+      → Quieted w r w'
 
 -- the unit was read: the record is lent to be read alone, so it is left as it was
 pub data Told : (words : List ℕ) (r : UnitAnswer) → Type 0 where
-  told : (κs : Lfts 1) (w w' : Bor (List ℕ)) (r : UnitAnswer)
-      → (unit.Pre κs (w, tt) → unit.Post κs (w, tt) r (w', tt))
-      → Told w.now r
+  told : (w : List ℕ) (r : UnitAnswer) → Reading (ports_of w) w r
+      → Told w r
 
 -- so with the counts of a port
 pub data Counted : (words : List ℕ) (port : ℕ) (r : CountsAnswer) → Type 0 where
-  counted : (κs : Lfts 1) (w w' : Bor (List ℕ)) (port : ℕ) (r : CountsAnswer)
-      → (counts.Pre κs (w, (port, tt)) → counts.Post κs (w, (port, tt)) r (w', (port, tt)))
-      → Counted w.now port r
+  counted : (w : List ℕ) (port : ℕ) (r : CountsAnswer) → Counting (ports_of w) w port r
+      → Counted w port r

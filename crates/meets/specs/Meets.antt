@@ -1,6 +1,6 @@
--- The functions whose contracts Made.antt cites meet them: the theorems that the check of `bridge` proved, by name. And what is
--- cited there as `Post` is the contract that the code states: by computation. Assumes nothing.
-use Rattle.std.specs.Prelude.{◌≡◌, refl, ℕ, List}
+-- The functions whose contracts `made` cites meet them, and what is cited there as `Post` is the contract that the code states. Proved as `meets`,
+-- `is_cited` and `clauses` in proofs/Meets.antt. Assumes nothing.
+use Rattle.std.specs.Prelude.{◌≡◌, ℕ, List}
 use contract.Lifetimes.{Lfts}
 use Rattle.std.specs.Borrow.{Bor, MutBor}
 use contract.Notation as N
@@ -20,35 +20,27 @@ use Rattle.unit.specs.Count.{ports_of}
 use Rattle.unit.specs.PowerOn.{PoweringOn}
 use Rattle.bridge.specs.Calls.{Framing, TakingOut, Messaging, Starting, Quieting, Reading, Counting}
 use Rattle.unit.proofs.Unit.power_on_ports.Statement as power_on
-use Rattle.unit.proofs.Unit.power_on_ports.Met as power_on_met
 use Rattle.unit.proofs.Unit.power_on_ports.Reads as power_on_reads
 use Rattle.unit.specs.contracts.Unit.power_on_ports as power_on_contract
 use Rattle.bridge.proofs.frame.Statement as frame
-use Rattle.bridge.proofs.frame.Met as frame_met
 use Rattle.bridge.proofs.frame.Reads as frame_reads
 use Rattle.bridge.specs.contracts.frame as frame_contract
 use Rattle.bridge.proofs.take.Statement as take
-use Rattle.bridge.proofs.take.Met as take_met
 use Rattle.bridge.proofs.take.Reads as take_reads
 use Rattle.bridge.specs.contracts.take as take_contract
 use Rattle.bridge.proofs.message.Statement as message
-use Rattle.bridge.proofs.message.Met as message_met
 use Rattle.bridge.proofs.message.Reads as message_reads
 use Rattle.bridge.specs.contracts.message as message_contract
 use Rattle.bridge.proofs.start.Statement as start
-use Rattle.bridge.proofs.start.Met as start_met
 use Rattle.bridge.proofs.start.Reads as start_reads
 use Rattle.bridge.specs.contracts.start as start_contract
 use Rattle.bridge.proofs.quiet.Statement as quiet
-use Rattle.bridge.proofs.quiet.Met as quiet_met
 use Rattle.bridge.proofs.quiet.Reads as quiet_reads
 use Rattle.bridge.specs.contracts.quiet as quiet_contract
 use Rattle.bridge.proofs.unit.Statement as unit
-use Rattle.bridge.proofs.unit.Met as unit_met
 use Rattle.bridge.proofs.unit.Reads as unit_reads
 use Rattle.bridge.specs.contracts.unit as unit_contract
 use Rattle.bridge.proofs.counts.Statement as counts
-use Rattle.bridge.proofs.counts.Met as counts_met
 use Rattle.bridge.proofs.counts.Reads as counts_reads
 use Rattle.bridge.specs.contracts.counts as counts_contract
 
@@ -63,85 +55,41 @@ pub record Meets (M : Type 1) : Type 2 where
   pub tells : unit.statement M
   pub counted : counts.statement M
 
-pub meets : (M : Type 1) → Meets M
-meets M = record {
-  powers_on = power_on_met.met;
-  frames = frame_met.met;
-  takes = take_met.met;
-  messages = message_met.met;
-  starts = start_met.met;
-  quiets = quiet_met.met;
-  tells = unit_met.met;
-  counted = counts_met.met;
-}
-
 -- ---- what is cited is the contract
-module _ (w u : MutBor (List ℕ)) where
-  pub power_on_is : (κs : Lfts 1) (name preferred count r : ℕ)
+pub record IsCited : Type 1 where
+  pub power_on_is : (w u : MutBor (List ℕ)) (κs : Lfts 1) (name preferred count r : ℕ)
       → ◌≡◌ {A = Type 0} (power_on_reads.Post κs (w, (name, (preferred, (count, tt)))) r (u, (name, (preferred, (count, tt))))) (PoweringOn count w.now u.now name preferred r)
-  power_on_is κs name preferred count r = refl
-
-  pub frame_is : (κs : Lfts 2) (bytes bytes' : Bor (List ℕ)) (port id : ℕ) (r : FrameAnswer)
+  pub frame_is : (w u : MutBor (List ℕ)) (κs : Lfts 2) (bytes bytes' : Bor (List ℕ)) (port id : ℕ) (r : FrameAnswer)
       → ◌≡◌ {A = Type 0} (frame_reads.Post κs (w, (port, (id, (bytes, tt)))) r (u, (port, (id, (bytes', tt))))) (Framing (ports_of w.now) w.now u.now port id bytes.now r)
-  frame_is κs bytes bytes' port id r = refl
-
-  pub take_is : (κs : Lfts 1) (port : ℕ) (r : TakeAnswer)
+  pub take_is : (w u : MutBor (List ℕ)) (κs : Lfts 1) (port : ℕ) (r : TakeAnswer)
       → ◌≡◌ {A = Type 0} (take_reads.Post κs (w, (port, tt)) r (u, (port, tt))) (TakingOut (ports_of w.now) w.now u.now port r)
-  take_is κs port r = refl
-
-  pub message_is : (κs : Lfts 3) (payload payload' : Bor (List ℕ)) (reply reply' : MutBor (List ℕ)) (port requester : ℕ) (r : MessageAnswer)
+  pub message_is : (w u : MutBor (List ℕ)) (κs : Lfts 3) (payload payload' : Bor (List ℕ)) (reply reply' : MutBor (List ℕ)) (port requester : ℕ) (r : MessageAnswer)
       → ◌≡◌ {A = Type 0}
       (message_reads.Post κs (w, (port, (requester, (payload, (reply, tt))))) r (u, (port, (requester, (payload', (reply', tt))))))
       (Messaging (ports_of w.now) w.now u.now port requester payload.now reply.now reply'.now r)
-  message_is κs payload payload' reply reply' port requester r = refl
-
-  pub start_is : (κs : Lfts 1) (r : StartAnswer) → ◌≡◌ {A = Type 0} (start_reads.Post κs (w, tt) r (u, tt)) (Starting (ports_of w.now) w.now u.now r)
-  start_is κs r = refl
-
-  pub quiet_is : (κs : Lfts 1) (r : ℕ) → ◌≡◌ {A = Type 0} (quiet_reads.Post κs (w, tt) r (u, tt)) (Quieting (ports_of w.now) w.now u.now r)
-  quiet_is κs r = refl
-
-module _ (w u : Bor (List ℕ)) where
-  pub unit_is : (κs : Lfts 1) (r : UnitAnswer) → ◌≡◌ {A = Type 0} (unit_reads.Post κs (w, tt) r (u, tt)) (Reading (ports_of w.now) w.now r)
-  unit_is κs r = refl
-
-  pub counts_is : (κs : Lfts 1) (port : ℕ) (r : CountsAnswer) → ◌≡◌ {A = Type 0} (counts_reads.Post κs (w, (port, tt)) r (u, (port, tt))) (Counting (ports_of w.now) w.now port r)
-  counts_is κs port r = refl
+  pub start_is : (w u : MutBor (List ℕ)) (κs : Lfts 1) (r : StartAnswer) → ◌≡◌ {A = Type 0} (start_reads.Post κs (w, tt) r (u, tt)) (Starting (ports_of w.now) w.now u.now r)
+  pub quiet_is : (w u : MutBor (List ℕ)) (κs : Lfts 1) (r : ℕ) → ◌≡◌ {A = Type 0} (quiet_reads.Post κs (w, tt) r (u, tt)) (Quieting (ports_of w.now) w.now u.now r)
+  pub unit_is : (w u : Bor (List ℕ)) (κs : Lfts 1) (r : UnitAnswer) → ◌≡◌ {A = Type 0} (unit_reads.Post κs (w, tt) r (u, tt)) (Reading (ports_of w.now) w.now r)
+  pub counts_is : (w u : Bor (List ℕ)) (κs : Lfts 1) (port : ℕ) (r : CountsAnswer) → ◌≡◌ {A = Type 0} (counts_reads.Post κs (w, (port, tt)) r (u, (port, tt))) (Counting (ports_of w.now) w.now port r)
 
 -- and so is the clause inside each theorem of `Meets`
-module _ {M : Type 1} {𝓤 : Ura M} (𝓛 : Logic 𝓤) (mem : Memory → SProp 𝓤) (run : Routine → Fun 𝓤) (w u : MutBor (List ℕ)) where
-  pub power_on_clause : (κs : Lfts 1) (name preferred count r : ℕ)
+pub record Clauses {M : Type 1} {𝓤 : Ura M} (𝓛 : Logic 𝓤) (mem : Memory → SProp 𝓤) (run : Routine → Fun 𝓤) : Type 2 where
+  pub power_on_clause : (w u : MutBor (List ℕ)) (κs : Lfts 1) (name preferred count r : ℕ)
       → power_on_contract.ensures-1 𝓛 κs mem run w name preferred count (record { entry = w; exit = u }) (record { entry = name; exit = name }) (record { entry = preferred; exit = preferred }) (record { entry = count; exit = count }) r
       ≡ (N.connectives 𝓤).⌜◌⌝ (PoweringOn count w.now u.now name preferred r)
-  power_on_clause κs name preferred count r = refl
-
-  pub frame_clause : (κs : Lfts 2) (bytes bytes' : Bor (List ℕ)) (port id : ℕ) (r : FrameAnswer)
+  pub frame_clause : (w u : MutBor (List ℕ)) (κs : Lfts 2) (bytes bytes' : Bor (List ℕ)) (port id : ℕ) (r : FrameAnswer)
       → frame_contract.ensures-1 𝓛 κs mem run w port id bytes (record { entry = w; exit = u }) (record { entry = port; exit = port }) (record { entry = id; exit = id }) (record { entry = bytes; exit = bytes' }) r
       ≡ (N.connectives 𝓤).⌜◌⌝ (Framing (ports_of w.now) w.now u.now port id bytes.now r)
-  frame_clause κs bytes bytes' port id r = refl
-
-  pub take_clause : (κs : Lfts 1) (port : ℕ) (r : TakeAnswer)
+  pub take_clause : (w u : MutBor (List ℕ)) (κs : Lfts 1) (port : ℕ) (r : TakeAnswer)
       → take_contract.ensures-1 𝓛 κs mem run w port (record { entry = w; exit = u }) (record { entry = port; exit = port }) r ≡ (N.connectives 𝓤).⌜◌⌝ (TakingOut (ports_of w.now) w.now u.now port r)
-  take_clause κs port r = refl
-
-  pub message_clause : (κs : Lfts 3) (payload payload' : Bor (List ℕ)) (reply reply' : MutBor (List ℕ)) (port requester : ℕ) (r : MessageAnswer)
+  pub message_clause : (w u : MutBor (List ℕ)) (κs : Lfts 3) (payload payload' : Bor (List ℕ)) (reply reply' : MutBor (List ℕ)) (port requester : ℕ) (r : MessageAnswer)
       → message_contract.ensures-1 𝓛 κs mem run w port requester payload reply (record { entry = w; exit = u }) (record { entry = port; exit = port }) (record { entry = requester; exit = requester }) (record { entry = payload; exit = payload' }) (record { entry = reply; exit = reply' }) r
       ≡ (N.connectives 𝓤).⌜◌⌝ (Messaging (ports_of w.now) w.now u.now port requester payload.now reply.now reply'.now r)
-  message_clause κs payload payload' reply reply' port requester r = refl
-
-  pub start_clause : (κs : Lfts 1) (r : StartAnswer)
+  pub start_clause : (w u : MutBor (List ℕ)) (κs : Lfts 1) (r : StartAnswer)
       → start_contract.ensures-1 𝓛 κs mem run w (record { entry = w; exit = u }) r ≡ (N.connectives 𝓤).⌜◌⌝ (Starting (ports_of w.now) w.now u.now r)
-  start_clause κs r = refl
-
-  pub quiet_clause : (κs : Lfts 1) (r : ℕ)
+  pub quiet_clause : (w u : MutBor (List ℕ)) (κs : Lfts 1) (r : ℕ)
       → quiet_contract.ensures-1 𝓛 κs mem run w (record { entry = w; exit = u }) r ≡ (N.connectives 𝓤).⌜◌⌝ (Quieting (ports_of w.now) w.now u.now r)
-  quiet_clause κs r = refl
-
-module _ {M : Type 1} {𝓤 : Ura M} (𝓛 : Logic 𝓤) (mem : Memory → SProp 𝓤) (run : Routine → Fun 𝓤) (w u : Bor (List ℕ)) where
-  pub unit_clause : (κs : Lfts 1) (r : UnitAnswer)
+  pub unit_clause : (w u : Bor (List ℕ)) (κs : Lfts 1) (r : UnitAnswer)
       → unit_contract.ensures-1 𝓛 κs mem run w (record { entry = w; exit = u }) r ≡ (N.connectives 𝓤).⌜◌⌝ (Reading (ports_of w.now) w.now r)
-  unit_clause κs r = refl
-
-  pub counts_clause : (κs : Lfts 1) (port : ℕ) (r : CountsAnswer)
+  pub counts_clause : (w u : Bor (List ℕ)) (κs : Lfts 1) (port : ℕ) (r : CountsAnswer)
       → counts_contract.ensures-1 𝓛 κs mem run w port (record { entry = w; exit = u }) (record { entry = port; exit = port }) r ≡ (N.connectives 𝓤).⌜◌⌝ (Counting (ports_of w.now) w.now port r)
-  counts_clause κs port r = refl

@@ -2,7 +2,7 @@
 use Rattle.bench_log.proofs.put_take.Goals as goal
 
 pub returns-in-Refused : goal.returns-in-Refused
-returns-in-Refused c = rw c.in-Refused.is c.Put-refused.ensures
+returns-in-Refused c = rw c.in-Refused.is c.put_refused.ensures
 
 pub returns-in-Took : goal.returns-in-Took
 returns-in-Took c = rw c.in-Took.is c.put_taken.ensures

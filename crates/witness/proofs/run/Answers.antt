@@ -19,7 +19,7 @@ loop-i-preserved c = let at-loop = c.loop-i in
     let i = at-loop.i in (
       omega arith,
       search rules,
-      rw (range_size (12 * i) 12) (length_back (12 * i) 12 at-loop.answers c.step.new.reply.1.1.1.0 (omega arith) (omega arith) ∙ at-loop.invariant.2),
+      rw (range_size (12 * i) 12) (length_back (12 * i) 12 at-loop.answers c.step.new.answers (omega arith) (omega arith) ∙ at-loop.invariant.2),
       search rules,
       rw (range_size (12 * i) 12) (running_step at-loop.invariant.4 (rw (range_size (5 * i) 5, at-loop.invariant.3) at c.step.ensures)),
     )

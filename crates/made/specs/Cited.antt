@@ -1,0 +1,56 @@
+-- What was made is what the contracts of the functions give: of each call `Pre → Post`, the clauses `requires` and `ensures` of the functions themselves, read off
+-- by the toolchain, as an implication, so that whoever has it has to prove each `Pre` itself. (a, (b, tt)) are a function's arguments; a lent slice is a
+-- reference, and `.now` what lies in it; κs are lifetimes, which no contract reads. Proved as `cited` in proofs/Cited.antt. Assumes nothing.
+use Rattle.std.specs.Prelude.{List, ℕ}
+use contract.Lifetimes.{Lfts}
+use Rattle.std.specs.Borrow.{Bor, MutBor}
+use Rattle.bridge.specs.declared.FrameAnswer.{FrameAnswer}
+use Rattle.bridge.specs.declared.TakeAnswer.{TakeAnswer}
+use Rattle.message_answers.specs.declared.MessageAnswer.{MessageAnswer}
+use Rattle.bridge.specs.declared.StartAnswer.{StartAnswer}
+use Rattle.bridge.specs.declared.UnitAnswer.{UnitAnswer}
+use Rattle.bridge.specs.declared.CountsAnswer.{CountsAnswer}
+use Rattle.unit.proofs.Unit.power_on_ports.Reads as power_on
+use Rattle.bridge.proofs.frame.Reads as frame
+use Rattle.bridge.proofs.take.Reads as take
+use Rattle.bridge.proofs.message.Reads as message
+use Rattle.bridge.proofs.start.Reads as start
+use Rattle.bridge.proofs.quiet.Reads as quiet
+use Rattle.bridge.proofs.unit.Reads as unit
+use Rattle.bridge.proofs.counts.Reads as counts
+use Rattle.made.specs.Made.{Powered, Arrived, Took, Handed, Started, Quieted, Told, Counted}
+
+pub record Cited : Type 0 where
+  -- power-on, with a NAME, a preferred address and a count of ports
+  pub powered : (κs : Lfts 1) (w w' : MutBor (List ℕ)) (name preferred count r : ℕ)
+      → (power_on.Pre κs (w, (name, (preferred, (count, tt)))) → power_on.Post κs (w, (name, (preferred, (count, tt)))) r (w', (name, (preferred, (count, tt)))))
+      → Powered w.now name preferred count r w'.now
+  -- a frame arrived at a port
+  pub arrived : (κs : Lfts 2) (w w' : MutBor (List ℕ)) (b b' : Bor (List ℕ)) (port id : ℕ) (r : FrameAnswer)
+      → (frame.Pre κs (w, (port, (id, (b, tt)))) → frame.Post κs (w, (port, (id, (b, tt)))) r (w', (port, (id, (b', tt)))))
+      → Arrived w.now port id b.now r w'.now
+  -- a take was made on a port
+  pub took : (κs : Lfts 1) (w w' : MutBor (List ℕ)) (port : ℕ) (r : TakeAnswer)
+      → (take.Pre κs (w, (port, tt)) → take.Post κs (w, (port, tt)) r (w', (port, tt)))
+      → Took w.now port r w'.now
+  -- a message was handed in, with a reply buffer `lent` that was left as `back`
+  pub handed : (κs : Lfts 3) (w w' : MutBor (List ℕ)) (p p' : Bor (List ℕ)) (b b' : MutBor (List ℕ)) (port requester : ℕ) (r : MessageAnswer)
+      → (message.Pre κs (w, (port, (requester, (p, (b, tt)))))
+      → message.Post κs (w, (port, (requester, (p, (b, tt))))) r (w', (port, (requester, (p', (b', tt))))))
+      → Handed w.now port requester p.now b.now r w'.now b'.now
+  -- Start
+  pub started : (κs : Lfts 1) (w w' : MutBor (List ℕ)) (r : StartAnswer)
+      → (start.Pre κs (w, tt) → start.Post κs (w, tt) r (w', tt))
+      → Started w.now r w'.now
+  -- Quiet
+  pub quieted : (κs : Lfts 1) (w w' : MutBor (List ℕ)) (r : ℕ)
+      → (quiet.Pre κs (w, tt) → quiet.Post κs (w, tt) r (w', tt))
+      → Quieted w.now r w'.now
+  -- the unit was read: the record is lent to be read alone, so it is left as it was
+  pub told : (κs : Lfts 1) (w w' : Bor (List ℕ)) (r : UnitAnswer)
+      → (unit.Pre κs (w, tt) → unit.Post κs (w, tt) r (w', tt))
+      → Told w.now r
+  -- so with the counts of a port
+  pub counted : (κs : Lfts 1) (w w' : Bor (List ℕ)) (port : ℕ) (r : CountsAnswer)
+      → (counts.Pre κs (w, (port, tt)) → counts.Post κs (w, (port, tt)) r (w', (port, tt)))
+      → Counted w.now port r
