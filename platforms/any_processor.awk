@@ -1,6 +1,6 @@
 # Prints what could tie a module of LLVM's, as text, to a processor; nothing for one that is for any. It has a list of what may be there, so whatever is not known is told: instructions on integers, bytes
-# in memory that lie where the module itself counts them to, calls of its own functions and of three that every target has. Among what is not: conversions of pointers to integers and back, comparisons of pointers,
-# address spaces, inline assembly, intrinsics, vectors, floating point, wider integers, results in memory, calls through pointers, data.
+# in memory that lie where the module itself counts them to, a pointer compared with null, calls of its own functions and of three that every target has. Among what is not: conversions of pointers to integers and
+# back, other comparisons of pointers, address spaces, inline assembly, intrinsics, vectors, floating point, wider integers, results in memory, calls through pointers, data.
 # A place for one pointer may be read and written as a pointer alone, for it has 4 bytes where pointers have 32 bits.
 
 function tell(why) {
@@ -44,7 +44,7 @@ BEGIN {
 
 /^attributes / {
     line = $0
-    gsub(/"(probe-stack|target-cpu)"="[^"]*"/, "", line)
+    gsub(/"(probe-stack|stack-probe-size|target-cpu)"="[^"]*"/, "", line)
     if (line ~ /"/)
         tell("an attribute")
     next
@@ -69,8 +69,8 @@ BEGIN {
         tell("an instruction of another kind")
     else if (name == "getelementptr" && line !~ /getelementptr (inbounds )?(nuw )?i8, ptr NAME, i64 (NAME|[0-9]+)$/)
         tell("an address that is no sum of a pointer and a number")
-    else if (name == "icmp" && line !~ /icmp [a-z]+ i(1|8|16|32|64) /)
-        tell("a comparison of other things than integers")
+    else if (name == "icmp" && line !~ /icmp ([a-z]+ i(1|8|16|32|64) |eq ptr NAME, null$)/)
+        tell("a comparison of other things than integers, or a pointer and null")
     else if (name == "call" && line !~ /call (noundef )?(zeroext )?(void|ptr|i1|i8|i32|i64) (NAME)?\(/)
         tell("a call of another kind")
     else if (name == "call" && $0 !~ /call [a-z0-9 ]*@/)

@@ -1,5 +1,5 @@
-// The C interface of the unit: exported functions over numbers and slices alone. Each gives 0 for done or the number that refuses the call, and requires
-// nothing: a wrong length is refused with 2.
+// The C interface of the unit: functions over numbers and slices alone, which `deorasaeng_c` exports under the same names. Each gives 0 for done or the number
+// that refuses the call, and requires nothing: a wrong length is refused with 2.
 #![tactic(auto)]
 
 ghost use Rattle.std.specs.Prelude.{◌≡◌};
@@ -44,37 +44,28 @@ fn lent_refusal(words: &[u64], port: u32) -> u32
 }
 
 // The version of the interface that this library has; the header has the one that a caller was compiled with.
-#[unsafe(no_mangle)]
-pub extern "C" fn deorasaeng_version() -> u64
+pub fn deorasaeng_version() -> u64
     ensures { result ≡ VERSION }
 {
     VERSION
 }
 
 // Power-on: the record becomes that of a fresh unit of four ports.
-#[unsafe(no_mangle)]
-pub extern "C" fn deorasaeng_power_on(words: &mut [u64], name: u64, preferred: u32) -> u32
+pub fn deorasaeng_power_on(words: &mut [u64], name: u64, preferred: u32) -> u32
     ensures { PoweringOn 4 words.old words.new name preferred result }
 {
     Unit::power_on(words, name, preferred)
 }
 
 // Power-on with a number of ports, 2 to 8.
-#[unsafe(no_mangle)]
-pub extern "C" fn deorasaeng_power_on_ports(
-    words: &mut [u64],
-    name: u64,
-    preferred: u32,
-    ports: u32,
-) -> u32
+pub fn deorasaeng_power_on_ports(words: &mut [u64], name: u64, preferred: u32, ports: u32) -> u32
     ensures { PoweringOn ports words.old words.new name preferred result }
 {
     Unit::power_on_ports(words, name, preferred, ports)
 }
 
 // A frame arrived at a port.
-#[unsafe(no_mangle)]
-pub extern "C" fn deorasaeng_frame(
+pub fn deorasaeng_frame(
     words: &mut [u64],
     port: u32,
     id: u32,
@@ -96,13 +87,7 @@ pub extern "C" fn deorasaeng_frame(
 }
 
 // A port is ready to send its next frame.
-#[unsafe(no_mangle)]
-pub extern "C" fn deorasaeng_take(
-    words: &mut [u64],
-    port: u32,
-    answer: &mut [u64],
-    bytes: &mut [u8],
-) -> u32
+pub fn deorasaeng_take(words: &mut [u64], port: u32, answer: &mut [u64], bytes: &mut [u8]) -> u32
     ensures { TakeCall (ports_of words.old) words.old words.new port answer.old answer.new bytes.old bytes.new result }
 {
     if answer.len() != TAKE_WORDS {
@@ -119,8 +104,7 @@ pub extern "C" fn deorasaeng_take(
 }
 
 // A network message to the unit, handed in whole, with a buffer for what is to be sent back.
-#[unsafe(no_mangle)]
-pub extern "C" fn deorasaeng_message(
+pub fn deorasaeng_message(
     words: &mut [u64],
     port: u32,
     requester: u32,
@@ -143,8 +127,7 @@ pub extern "C" fn deorasaeng_message(
 }
 
 // The unit claims its preferred address.
-#[unsafe(no_mangle)]
-pub extern "C" fn deorasaeng_start(words: &mut [u64], answer: &mut [u64]) -> u32
+pub fn deorasaeng_start(words: &mut [u64], answer: &mut [u64]) -> u32
     ensures { StartCall (ports_of words.old) words.old words.new answer.old answer.new result }
 {
     if answer.len() != START_WORDS {
@@ -162,16 +145,14 @@ pub extern "C" fn deorasaeng_start(words: &mut [u64], answer: &mut [u64]) -> u32
 }
 
 // The 250 ms after the unit's claim are over.
-#[unsafe(no_mangle)]
-pub extern "C" fn deorasaeng_quiet(words: &mut [u64]) -> u32
+pub fn deorasaeng_quiet(words: &mut [u64]) -> u32
     ensures { Quieting (ports_of words.old) words.old words.new result }
 {
     bridge::quiet(words)
 }
 
 // The unit is read: its claim state, its addresses, its NAME, and how many ports it has.
-#[unsafe(no_mangle)]
-pub extern "C" fn deorasaeng_unit(words: &[u64], answer: &mut [u64]) -> u32
+pub fn deorasaeng_unit(words: &[u64], answer: &mut [u64]) -> u32
     ensures { UnitCall (ports_of words.now) words.now answer.old answer.new result }
 {
     let told = bridge::unit(words);
@@ -185,8 +166,7 @@ pub extern "C" fn deorasaeng_unit(words: &[u64], answer: &mut [u64]) -> u32
 }
 
 // The counts of a port are read: the frames that wait, by their priority, and those accepted and taken since power-on.
-#[unsafe(no_mangle)]
-pub extern "C" fn deorasaeng_counts(words: &[u64], port: u32, answer: &mut [u64]) -> u32
+pub fn deorasaeng_counts(words: &[u64], port: u32, answer: &mut [u64]) -> u32
     ensures { CountsCall (ports_of words.now) words.now port answer.old answer.new result }
 {
     if answer.len() != COUNTS_WORDS {
@@ -229,12 +209,7 @@ fn take_told(queue: Queue, answer: &mut [u64], bytes: &mut [u8]) -> AfterTold
 }
 
 // The take on a queue that is lent, which is all that the transmit routine of one port is handed.
-#[unsafe(no_mangle)]
-pub extern "C" fn deorasaeng_take_queue(
-    queue: &mut Queue,
-    answer: &mut [u64],
-    bytes: &mut [u8],
-) -> u32
+pub fn deorasaeng_take_queue(queue: &mut Queue, answer: &mut [u64], bytes: &mut [u8]) -> u32
     ensures { QueueCall queue.old.words queue.new.words answer.old answer.new bytes.old bytes.new result }
 {
     let t = take_told(*queue, answer, bytes);
@@ -259,8 +234,7 @@ fn tell_plan(planned: Planned, answer: &mut [u64]) -> u32
 }
 
 // Which segments of a plan hear a PGN that is sent on the first one.
-#[unsafe(no_mangle)]
-pub extern "C" fn deorasaeng_plan(
+pub fn deorasaeng_plan(
     ports: &[u64],
     lists: &[u64],
     segments: u32,
@@ -276,8 +250,7 @@ pub extern "C" fn deorasaeng_plan(
 }
 
 // The same by the plan's links.
-#[unsafe(no_mangle)]
-pub extern "C" fn deorasaeng_plan_links(
+pub fn deorasaeng_plan_links(
     links: &[Link],
     lists: &[u64],
     segments: u32,
