@@ -1,4 +1,5 @@
 -- Assumes nothing.
+use Rattle.made.proofs.Cited.{cited}
 use Rattle.demand_1.proofs.Demand1.{demand_1}
 use Rattle.demand_1.proofs.Literals.{literals}
 use Rattle.demand_1.proofs.Parameters.{parameters}
@@ -9,9 +10,12 @@ use Rattle.loss_counts.proofs.LossCounts.{every_loss}
 use Rattle.old_layout.proofs.Same.{same_answers}
 use Rattle.assurance.specs.Assurance.{Assurance}
 use Rattle.assurance.proofs.Examples.{examples}
+use Rattle.assurance.proofs.Given.{given}
 
 pub assurance : Assurance
 assurance = record {
+  cited = cited;
+  given = given;
   demand_1 = demand_1;
   demand_2 = demand_2;
   demand_3 = demand_3;

@@ -1,6 +1,7 @@
 -- What is promised, whole: the customer's three demands, the numbers of docs/RULES.md in their literals, and its examples. Proved in proofs/Assurance.antt.
 use Rattle.std.specs.Prelude.{◌≡◌, List, ℕ}
 use Rattle.made.specs.Made.{Powered}
+use Rattle.made.specs.Cited.{Cited}
 use Rattle.demand_1.specs.Demand1.{Demand1}
 use Rattle.demand_1.specs.Literals.{Literals}
 use Rattle.demand_1.specs.Parameters.{Parameters}
@@ -10,8 +11,12 @@ use Rattle.tallies.specs.Tallies.{EveryCount}
 use Rattle.loss_counts.specs.LossCounts.{EveryLoss}
 use Rattle.old_layout.specs.Same.{SameAnswers}
 use Rattle.assurance.specs.Examples.{Examples}
+use Rattle.assurance.specs.Given.{Given}
 
 pub record Assurance : Type 0 where
+  -- the calls that are spoken of are those of the functions' contracts, as the toolchain reads them off the code
+  pub cited : Cited
+  pub given : Given
   pub demand_1 : Demand1
   pub demand_2 : Demand2
   -- power-on was called on the words w, whatever they held, with any NAME, preferred address and count of ports, was answered r and left u

@@ -1,15 +1,9 @@
 -- The clauses of the exported functions and where C finds the fields of a link: by computing. Assumes nothing.
 use Rattle.std.specs.Prelude.{refl}
-use base.Logic.{SProp}
-use contract.Monad.{Fun}
-use prog.Memory.{Memory}
-use prog.Routine.{Routine}
-use seplogic.Ra.Ura.{Ura}
-use types.Logic.{Logic}
-use Rattle.c_demands.specs.Clauses.{Clauses, LinkLayout}
+use Rattle.c_demands.specs.Clauses.{EveryClause, LinkLayout}
 
-pub clauses : {M : Type 1} {𝓤 : Ura M} (𝓛 : Logic 𝓤) (mem : Memory → SProp 𝓤) (run : Routine → Fun 𝓤) → Clauses 𝓛 mem run
-clauses 𝓛 mem run = record {
+pub clauses : EveryClause
+clauses M 𝓤 𝓛 mem run = record {
   version_clause = λ κs. refl;
   power_on_clause = λ κs w w' name preferred count r. (refl, refl);
   power_on_four_clause = λ κs w w' name preferred count r. (refl, refl);

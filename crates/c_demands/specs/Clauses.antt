@@ -1,4 +1,4 @@
--- The contracts of the thirteen exported functions, each by the clauses of the code: nothing is required, and what is ensured is what Interface.antt and PlanCalls.antt of
+-- The contracts of the thirteen functions of `deorasaeng`, which `deorasaeng_c` exports with the same clauses, each by the clauses of the code: nothing is required, and what is ensured is what Interface.antt and PlanCalls.antt of
 -- `deorasaeng` say. A `requires` on one of them, or another clause, is refused: each is proved by computing, as `clauses` and `link_layout` in proofs/Clauses.antt. And where C finds the fields of a link. Assumes nothing.
 use Rattle.std.specs.Prelude.{◌≡◌, List, ℕ}
 use Rattle.std.proofs.Math.Option.{some}
@@ -43,7 +43,7 @@ module _ {M : Type 1} (𝓤 : Ura M) where
   abbrev pub fact : Type 0 → SProp 𝓤
   fact p = (N.connectives 𝓤).⌜◌⌝ p
 
--- the clauses of the exported functions, for each of the toolchain's worlds
+-- the clauses of the functions that are exported
 pub record Clauses {M : Type 1} {𝓤 : Ura M} (𝓛 : Logic 𝓤) (mem : Memory → SProp 𝓤) (run : Routine → Fun 𝓤) : Type 2 where
   pub version_clause : (κs : Lfts 0) → (version.clauses 𝓛 mem run κs tt).requires tt ≡ nothing 𝓤
   pub power_on_clause : (κs : Lfts 1) (w w' : MutBor (List ℕ)) (name preferred count r : ℕ)
@@ -88,6 +88,9 @@ pub record Clauses {M : Type 1} {𝓤 : Ura M} (𝓛 : Logic 𝓤) (mem : Memory
       → ((links.clauses 𝓛 mem run κs (ks, (ls, (segments, (units, (first, (pgn, (a, tt)))))))).requires tt ≡ nothing 𝓤)
       × ((links.clauses 𝓛 mem run κs (ks, (ls, (segments, (units, (first, (pgn, (a, tt)))))))).ensures tt r (ks', (ls', (segments, (units, (first, (pgn, (a', tt)))))))
       ≡ fact 𝓤 (LinksCall ks.now ls.now segments units first pgn a.now a'.now r))
+
+abbrev pub EveryClause : Type 2
+EveryClause = (M : Type 1) (𝓤 : Ura M) (𝓛 : Logic 𝓤) (mem : Memory → SProp 𝓤) (run : Routine → Fun 𝓤) → Clauses 𝓛 mem run
 
 -- "struct deorasaeng_link { uint32_t unit, port, segment; }": 12 bytes, with 32 bits each at 0, 4 and 8, in this order
 pub record LinkLayout : Type 0 where

@@ -1,11 +1,5 @@
 -- The code meets the contracts that are cited: the theorems that the check of `bridge` proved, by name, and by computation. Assumes nothing.
 use Rattle.std.specs.Prelude.{refl}
-use base.Logic.{SProp}
-use contract.Monad.{Fun}
-use prog.Memory.{Memory}
-use prog.Routine.{Routine}
-use seplogic.Ra.Ura.{Ura}
-use types.Logic.{Logic}
 use Rattle.unit.proofs.Unit.power_on_ports.Met as power_on_met
 use Rattle.bridge.proofs.frame.Met as frame_met
 use Rattle.bridge.proofs.take.Met as take_met
@@ -14,9 +8,9 @@ use Rattle.bridge.proofs.start.Met as start_met
 use Rattle.bridge.proofs.quiet.Met as quiet_met
 use Rattle.bridge.proofs.unit.Met as unit_met
 use Rattle.bridge.proofs.counts.Met as counts_met
-use Rattle.meets.specs.Meets.{Meets, IsCited, Clauses}
+use Rattle.meets.specs.Meets.{EveryMeets, IsCited, EveryClause}
 
-pub meets : (M : Type 1) → Meets M
+pub meets : EveryMeets
 meets M = record {
   powers_on = power_on_met.met;
   frames = frame_met.met;
@@ -40,8 +34,8 @@ is_cited = record {
   counts_is = λ w u κs port r. refl;
 }
 
-pub clauses : {M : Type 1} {𝓤 : Ura M} (𝓛 : Logic 𝓤) (mem : Memory → SProp 𝓤) (run : Routine → Fun 𝓤) → Clauses 𝓛 mem run
-clauses 𝓛 mem run = record {
+pub clauses : EveryClause
+clauses M 𝓤 𝓛 mem run = record {
   power_on_clause = λ w u κs name preferred count r. refl;
   frame_clause = λ w u κs bytes bytes' port id r. refl;
   take_clause = λ w u κs port r. refl;

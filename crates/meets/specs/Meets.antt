@@ -55,6 +55,9 @@ pub record Meets (M : Type 1) : Type 2 where
   pub tells : unit.statement M
   pub counted : counts.statement M
 
+abbrev pub EveryMeets : Type 2
+EveryMeets = (M : Type 1) → Meets M
+
 -- ---- what is cited is the contract
 pub record IsCited : Type 1 where
   pub power_on_is : (w u : MutBor (List ℕ)) (κs : Lfts 1) (name preferred count r : ℕ)
@@ -93,3 +96,6 @@ pub record Clauses {M : Type 1} {𝓤 : Ura M} (𝓛 : Logic 𝓤) (mem : Memory
       → unit_contract.ensures-1 𝓛 κs mem run w (record { entry = w; exit = u }) r ≡ (N.connectives 𝓤).⌜◌⌝ (Reading (ports_of w.now) w.now r)
   pub counts_clause : (w u : Bor (List ℕ)) (κs : Lfts 1) (port : ℕ) (r : CountsAnswer)
       → counts_contract.ensures-1 𝓛 κs mem run w port (record { entry = w; exit = u }) (record { entry = port; exit = port }) r ≡ (N.connectives 𝓤).⌜◌⌝ (Counting (ports_of w.now) w.now port r)
+
+abbrev pub EveryClause : Type 2
+EveryClause = (M : Type 1) (𝓤 : Ura M) (𝓛 : Logic 𝓤) (mem : Memory → SProp 𝓤) (run : Routine → Fun 𝓤) → Clauses 𝓛 mem run

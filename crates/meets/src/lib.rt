@@ -1,2 +1,2 @@
-// The code meets the contracts that the demands cite. The theorems stand in specs/; there is no code here.
+// The code meets the contracts that the demands cite. What is proved stands in specs/, the proofs in proofs/; there is no code here.
 #![tactic(auto)]
