@@ -1,4 +1,4 @@
-// Standard input by blocks, standard output, and what is told on standard error, for the programs of the bench log.
+// Standard input by blocks, standard output, and what is told on standard error, for the programs.
 #![tactic(auto)]
 
 ghost use Rattle.std.specs.Prelude.{true, ◌≡◌, ◌+◌, ◌≤◌, ◌<◌, length};
@@ -33,6 +33,25 @@ pub fn refill(rt: &impl Eprint, input: &mut impl Read, buffer: &mut [u8], left: 
             }
         }
     }
+}
+
+// Reads until a buffer is full, the input ends or a read fails: how many bytes stand at its start.
+pub fn read_full(input: &mut impl Read, buffer: &mut [u8]) -> usize
+    ensures { result ≤ length buffer.old }
+{
+    let mut done = 0;
+    while done < buffer.len() {
+        match input.read(&mut buffer[done..]) {
+            Ok(n) => {
+                if n == 0 {
+                    return done;
+                }
+                done += n;
+            }
+            Err(_) => return done,
+        }
+    }
+    done
 }
 
 // The bytes from a place up to an end, moved to the front; the answer is how many they are.

@@ -7,12 +7,10 @@ ghost use Rattle.std.specs.Prelude.{◌≡◌, ◌<◌, ◌≤◌, length};
 use bench_records::{FRAME_SIZE, TAKE_SIZE};
 use bridge::{FrameAnswer, Unit};
 use queue::Frame;
-use std::io;
-use std::io::Read;
 use unit::Sent;
 
 // The most bytes that are read.
-const MOST: u64 = 65536;
+const MOST: usize = 65536;
 
 const NAME: u64 = 0xA000000000000050;
 
@@ -396,18 +394,17 @@ fn mornings(rt: &impl Print, log: &[u8]) {
     with_ports(rt, log, 8);
 }
 
-fn main(rt: HostRuntime) -> io::Result<()> {
-    let mut log = Vec::new(rt.alloc());
-    rt.stdin().take(MOST).read_to_end(&mut log)?;
+fn main(rt: HostRuntime) {
+    let mut log = [0u8; MOST];
+    let n = bench_io::read_full(&mut rt.stdin(), &mut log);
     text(
         &rt,
         b"ports; frames consumed, accepted, lost, with an event, taking over, own lost, compared, with reasons; all, refused, DIFFERENT BY PARTS\n",
     );
-    mornings(&rt, &log);
+    mornings(&rt, &log[..n]);
     text(
         &rt,
         b"from, to, identifier, length; refused by ask, join, act, announce, arrive, the whole call; on a record, then on one that is a word short\n",
     );
     refusals(&rt);
-    Ok(())
 }

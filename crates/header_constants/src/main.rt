@@ -8,12 +8,10 @@ use address_claims::Event;
 use bridge::FrameAnswer;
 use filter::Reason;
 use queue::{Frame, Taken, Tally};
-use std::io;
-use std::io::Read;
 use unit::{Claim, Unit};
 
 // The most bytes that are read.
-const MOST: u64 = 65536;
+const MOST: usize = 65536;
 
 // What stands for a number.
 const MARK: u8 = b'@';
@@ -464,9 +462,8 @@ fn write_header(rt: &impl Print, text: &[u8]) {
     let _ = rt.write_all(&text[at..]);
 }
 
-fn main(rt: HostRuntime) -> io::Result<()> {
-    let mut text = Vec::new(rt.alloc());
-    rt.stdin().take(MOST).read_to_end(&mut text)?;
-    write_header(&rt, &text);
-    Ok(())
+fn main(rt: HostRuntime) {
+    let mut text = [0u8; MOST];
+    let n = bench_io::read_full(&mut rt.stdin(), &mut text);
+    write_header(&rt, &text[..n]);
 }

@@ -5,11 +5,9 @@ ghost use Rattle.std.specs.Prelude.{◌≤◌, ◌<◌, length};
 
 use plan_draft::{counts, names};
 use plan_shape::{LISTS_LENGTH, PORTS_LENGTH};
-use std::io;
-use std::io::Read;
 
 // The most bytes that are read.
-const MOST: u64 = 65536;
+const MOST: usize = 65536;
 
 // One text.
 fn run(rt: &(impl Print + Eprint), text: &[u8]) {
@@ -54,9 +52,8 @@ fn run_all(rt: &(impl Print + Eprint), texts: &[u8]) {
     }
 }
 
-fn main(rt: HostRuntime) -> io::Result<()> {
-    let mut texts = Vec::new(rt.alloc());
-    rt.stdin().take(MOST).read_to_end(&mut texts)?;
-    run_all(&rt, &texts);
-    Ok(())
+fn main(rt: HostRuntime) {
+    let mut texts = [0u8; MOST];
+    let n = bench_io::read_full(&mut rt.stdin(), &mut texts);
+    run_all(&rt, &texts[..n]);
 }

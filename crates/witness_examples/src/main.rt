@@ -5,13 +5,11 @@
 
 ghost use Rattle.std.specs.Prelude.{◌+◌, ◌*◌, ◌≤◌, length};
 
-use std::io;
-use std::io::Read;
 use unit::Unit;
 use witness::ANSWER_WORDS;
 
 // The most bytes that are read.
-const MOST: u64 = 65536;
+const MOST: usize = 65536;
 
 // How many numbers, bytes and calls there is room for.
 const NUMBERS: usize = 32768;
@@ -246,16 +244,18 @@ fn run(rt: &impl Print, numbers: &[u64])
     print_record(rt, words, ports);
 }
 
-fn main(rt: HostRuntime) -> io::Result<()> {
-    let mut text = Vec::new(rt.alloc());
-    rt.stdin().take(MOST).read_to_end(&mut text)?;
+fn main(rt: HostRuntime) {
+    let mut text = [0u8; MOST];
+    let n = bench_io::read_full(&mut rt.stdin(), &mut text);
     let mut space = [0u64; NUMBERS];
     let numbers: &mut [u64] = &mut space;
-    let count = read_numbers(&text, numbers);
+    let count = read_numbers(&text[..n], numbers);
     if count < HEAD {
-        return rt.println("a NAME, a preferred address, a number of ports and of calls come first");
+        let _ = rt.println(
+            "a NAME, a preferred address, a number of ports and of calls come first",
+        );
+        return;
     }
     let read = &numbers[..];
     run(&rt, &read[0..count]);
-    Ok(())
 }
