@@ -16,11 +16,5 @@ event_number Beaten = 7
 
 -- "TookOver, naming the old NAME"
 abbrev pub old_name : Event → ℕ
-old_name Nothing = 0
-old_name Withdrew = 0
-old_name Defended = 0
-old_name Displaced = 0
-old_name Recorded = 0
-old_name Refreshed = 0
 old_name (TookOver old) = old
-old_name Beaten = 0
+old_name _ = 0

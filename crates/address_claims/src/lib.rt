@@ -7,10 +7,11 @@ ghost use Rattle.address_claims.specs.Claims.{settled, contest_event};
 ghost use Rattle.address_claims.specs.Events.{event_number, old_name};
 ghost use Rattle.address_claims.specs.Calls.{Dropping, Claiming, Withdrawing};
 
-use addresses::{PLACES, Place};
+use addresses::{Held, PLACES};
+use std::cmp::Ordering;
 
 // What came of a claim. Defended and Displaced are the unit's to give: they are of a claim of its own address.
-#[derive(Clone, Copy)]
+#[derive(Clone, Copy, PartialEq, Eq, Debug)]
 pub enum Event {
     Nothing,
     Withdrew,
@@ -39,19 +40,13 @@ impl Event {
         }
     }
 
-    // The NAME that was taken over from, 0 for every other event.
+    // The NAME that was taken over from, 0 for every other event: a word of what C is given (`old_name`), so a number and no Option.
     pub fn old_name(self) -> u64
         ensures { result ≡ old_name self }
     {
         match self {
-            Event::Nothing => 0,
-            Event::Withdrew => 0,
-            Event::Defended => 0,
-            Event::Displaced => 0,
-            Event::Recorded => 0,
-            Event::Refreshed => 0,
             Event::TookOver(old) => old,
-            Event::Beaten => 0,
+            _ => 0,
         }
     }
 }
@@ -64,11 +59,9 @@ pub fn drop_others(table: &mut [u64], name: u64, keep: usize) -> bool
     let mut dropped = false;
     let mut address = addresses::past_others(table, addresses::NAME, 0, name);
     while address < PLACES {
-        if addresses::is_held_by(table, address, name) {
-            if address != keep {
-                addresses::release(table, address);
-                dropped = true;
-            }
+        if address != keep && addresses::is_held_by(table, address, name) {
+            addresses::release(table, address);
+            dropped = true;
         }
         address = addresses::past_others(table, addresses::NAME, address + 1, name);
     }
@@ -85,23 +78,16 @@ pub fn settle(table: &mut [u64], port: u64, address: usize, name: u64)
 }
 
 // What comes of a NAME's claim of a place.
-fn contest(place: Place, name: u64) -> Event
+fn contest(place: Option<Held>, name: u64) -> Event
     ensures { result ≡ contest_event name place }
 {
-    match place {
-        Place::Free => Event::Recorded,
-        Place::Held {
-            port: _,
-            name: holder,
-        } => {
-            if name == holder {
-                return Event::Refreshed;
-            }
-            if name < holder {
-                return Event::TookOver(holder);
-            }
-            Event::Beaten
-        }
+    let Some(holder) = place else {
+        return Event::Recorded;
+    };
+    match name.cmp(&holder.name) {
+        Ordering::Less => Event::TookOver(holder.name),
+        Ordering::Equal => Event::Refreshed,
+        Ordering::Greater => Event::Beaten,
     }
 }
 
@@ -112,16 +98,12 @@ pub fn claim(table: &mut [u64], port: u64, address: usize, name: u64) -> Event
     ensures { Claiming table.old table.new port address name result }
 {
     let event = contest(addresses::holder(table, address), name);
-    match event {
-        Event::Beaten => {
-            drop_others(table, name, address);
-            event
-        }
-        _ => {
-            settle(table, port, address, name);
-            event
-        }
+    if event == Event::Beaten {
+        drop_others(table, name, address);
+    } else {
+        settle(table, port, address, name);
     }
+    event
 }
 
 // A claim from SA 254: the NAME leaves the table, if it held an address.

@@ -1,16 +1,15 @@
 -- The tables of the ports, one after the other. Assumes nothing.
-use mathlib.Core.Path.{◌≡◌, refl, sym, ◌∙◌}
-use mathlib.Core.Bool.{true, false, ◌||◌}
-use mathlib.Core.List.{List, []}
-use Prim.Native.Nat.{ℕ, ◌+◌, ◌*◌, ◌/◌, ◌≤◌, ◌<◌}
-use native.Mathlib.Numerals.{add-one}
+use mathlib.Core.Path.{◌≡◌, refl, ◌∙◌}
+use mathlib.Core.List.{List, [], ◌∷◌}
+use Prim.Native.Nat.{ℕ, ◌+◌, ◌*◌, ◌/◌, ◌≤◌}
 use native.Mathlib.Omega.{arith}
-use lib.ListN.{length, get_or, set, take, drop, drop_of_length-le}
-use lib.Seq.{drop-cons}
+use lib.ListN.{length, get_or, set, take, drop}
+use Rattle.std.proofs.Common.{map}
+use Rattle.std.specs.List.{list_any}
 use Rattle.storage.specs.Blocks.{block_at}
 use Rattle.storage.proofs.Parts.{back, length_back}
 use Rattle.storage.proofs.Blocks.{length_blocks, blocks_at, blocks_set}
-use Rattle.address_pairs.specs.AddressPairs.{AddressPair, outer_side, stands, any_outer, pairs_length, pairs_of, tables_of}
+use Rattle.address_pairs.specs.AddressPairs.{outer_side, stands, any_outer, pairs_length, pairs_of, tables_of}
 
 pub table_count : (words : List ℕ) → length (tables_of words) ≡ length words / pairs_length
 unfolding tables_of
@@ -34,25 +33,7 @@ table_set words ys i h long =
     (rw z at (blocks_set 0 pairs_length words ys i long (omega arith) pairs_of (length words / pairs_length) (omega arith)))
 
 -- ---- one table after the other
-pub record Going (tables : List (List AddressPair)) (address i : ℕ) : Type 0 where
-  pub value : any_outer tables address ≡ any_outer (drop i tables) address
-  pub inside : i ≤ length tables
-
-pub start : (tables : List (List AddressPair)) (address : ℕ) → Going tables address 0
-start tables address = record { value = refl; inside = omega arith }
-
-module _ {tables : List (List AddressPair)} {address i : ℕ} (G : Going tables address i) where
-  module _ (turn : i < length tables) where
-    left : any_outer (drop i tables) address ≡ (stands outer_side (get_or tables i []) address || any_outer (drop (i + 1) tables) address)
-    unfolding any_outer
-    left = rw (drop-cons tables i [] turn, add-one i)
-
-    pub other : stands outer_side (get_or tables i []) address ≡ false → Going tables address (i + 1)
-    other f = record { value = G.value ∙ rw f at left; inside = omega arith }
-
-    pub found : stands outer_side (get_or tables i []) address ≡ true → true ≡ any_outer tables address
-    found h = sym (G.value ∙ rw h at left)
-
-  pub done : length tables ≤ i → false ≡ any_outer tables address
-  unfolding any_outer
-  done h = sym (G.value ∙ rw (drop_of_length-le tables {i = i} h))
+pub any_is : (address : ℕ) (ps : List (List ℕ)) → list_any (λ p. stands outer_side (pairs_of p) address) ps ≡ any_outer (map pairs_of ps) address
+unfolding any_outer
+any_is address [] = refl
+any_is address (p ∷ ps) = rw (any_is address ps)

@@ -3,7 +3,7 @@ use mathlib.Core.Path.{◌≡◌, refl, sym, ap, ◌∙◌}
 use mathlib.Core.Logic.{◌⊎◌, inl, inr, ⊎_elim}
 use mathlib.Core.Bool.{Bool, true, false, cond, not, ◌||◌, true≢false}
 use mathlib.Core.List.{List, [], ◌∷◌, ◌++◌}
-use mathlib.Core.Option.{Option, some}
+use Rattle.std.specs.Prelude.{Option, Some}
 use Prim.Native.Nat.{ℕ, zero, suc, ◌-◌, ◌/◌, ◌<◌}
 use native.Mathlib.Decide.{ℕ_discrete}
 use native.Mathlib.Omega.{arith}
@@ -28,18 +28,18 @@ never e f = absurd (true≢false (sym e ∙ f))
 
 -- ---- in one table
 -- what a look-up gives stands on the other side
-lands : (from to : ℕ) (ps : List AddressPair) (a o : ℕ) → look_up from to ps a ≡ some o → stands to ps o ≡ true
+lands : (from to : ℕ) (ps : List AddressPair) (a o : ℕ) → look_up from to ps a ≡ Some o → stands to ps o ≡ true
 unfolding look_up stands
 lands from to [] a o e = cc
 lands from to (p ∷ ps) a o e = go (eqb (side from p) a) e (lands from to ps a o)
   where
-    go : (b : Bool) → cond b (some (side to p)) (look_up from to ps a) ≡ some o → (look_up from to ps a ≡ some o → stands to ps o ≡ true)
+    go : (b : Bool) → cond b (Some (side to p)) (look_up from to ps a) ≡ Some o → (look_up from to ps a ≡ Some o → stands to ps o ≡ true)
         → (eqb (side to p) o || stands to ps o) ≡ true
     go true e later = let s : side to p ≡ o = cc in or_left (stands to ps o) (eq-eqb (side to p) o s)
     go false e later = or_right (eqb (side to p) o) (later e)
 
 -- where no address stands twice on that side, it is turned back
-turned_back : (from to : ℕ) (ps : List AddressPair) (a o : ℕ) → once to ps ≡ true → look_up from to ps a ≡ some o → look_up to from ps o ≡ some a
+turned_back : (from to : ℕ) (ps : List AddressPair) (a o : ℕ) → once to ps ≡ true → look_up from to ps a ≡ Some o → look_up to from ps o ≡ Some a
 unfolding look_up once
 turned_back from to [] a o u e = cc
 turned_back from to (p ∷ ps) a o u e = go (eqb (side from p) a) refl e (turned_back from to ps a o apart.1)
@@ -47,12 +47,12 @@ turned_back from to (p ∷ ps) a o u e = go (eqb (side from p) a) refl e (turned
     apart : (not (stands to ps (side to p)) ≡ true) × (once to ps ≡ true)
     apart = both (not (stands to ps (side to p))) (once to ps) u
 
-    go : (b : Bool) → eqb (side from p) a ≡ b → cond b (some (side to p)) (look_up from to ps a) ≡ some o
-        → (look_up from to ps a ≡ some o → look_up to from ps o ≡ some a)
-        → cond (eqb (side to p) o) (some (side from p)) (look_up to from ps o) ≡ some a
+    go : (b : Bool) → eqb (side from p) a ≡ b → cond b (Some (side to p)) (look_up from to ps a) ≡ Some o
+        → (look_up from to ps a ≡ Some o → look_up to from ps o ≡ Some a)
+        → cond (eqb (side to p) o) (Some (side from p)) (look_up to from ps o) ≡ Some a
     go true h e later =
         let s : side to p ≡ o = cc in
-        rw (eq-eqb (side to p) o s) (ap {B = Option ℕ} some (eqb-true (side from p) a h))
+        rw (eq-eqb (side to p) o s) (ap {B = Option ℕ} Some (eqb-true (side from p) a h))
     go false h e later =
         let l : stands to ps o ≡ true = lands from to ps a o e in
         rw (ne_eqb (side to p) o (λ z. never l (rw z at (not-true (stands to ps (side to p)) apart.0))))

@@ -1,8 +1,7 @@
 -- Ticket 14, "For each port other than 1 a table of up to 16 address pairs, outer and inner": what the words of the tables mean, what is asked of them, and
 -- what an entry that is added is refused with.
 -- Assumes nothing.
-use Rattle.std.specs.Prelude.{ℕ, zero, suc, ◌+◌, ◌-◌, ◌*◌, ◌/◌, ◌%◌, min, Bool, true, false, cond, not, ◌&&◌, ◌||◌, ◌≡◌, List, [], ◌∷◌, ◌++◌, length, get_or, set, drop, eqb, leb, ltb}
-use Rattle.std.proofs.Math.Option.{Option, none, some}
+use Rattle.std.specs.Prelude.{ℕ, zero, suc, ◌+◌, ◌-◌, ◌/◌, ◌%◌, min, Bool, true, false, cond, not, ◌&&◌, ◌||◌, List, [], ◌∷◌, ◌++◌, length, get_or, set, drop, eqb, leb, ltb, Option, None, Some}
 use Rattle.storage.specs.Blocks.{blocks_of}
 use Rattle.checks.specs.Checks.{check, first}
 
@@ -28,8 +27,8 @@ side (suc s) p = p.inner
 -- ---- what is asked of a table
 -- the other side of the first pair that has an address on one side
 unfoldable pub look_up : ℕ → ℕ → List AddressPair → ℕ → Option ℕ
-look_up from to [] address = none
-look_up from to (p ∷ ps) address = cond (eqb (side from p) address) (some (side to p)) (look_up from to ps address)
+look_up from to [] address = None
+look_up from to (p ∷ ps) address = cond (eqb (side from p) address) (Some (side to p)) (look_up from to ps address)
 
 -- "Towards port 1 the SA turns from inner to outer."
 abbrev pub out_of : List AddressPair → ℕ → Option ℕ

@@ -1,8 +1,7 @@
 -- Ticket 14, "No inner address occurs twice in a table and no outer one twice in the unit, so an address turned there and back is the same."
 -- Proved as `there_and_back` in proofs/ThereAndBack.antt.
 -- Assumes nothing.
-use Rattle.std.specs.Prelude.{ℕ, ◌-◌, ◌/◌, ◌<◌, true, ◌≡◌, List, [], length, get_or, replicate}
-use Rattle.std.proofs.Math.Option.{some}
+use Rattle.std.specs.Prelude.{ℕ, ◌-◌, ◌/◌, ◌<◌, true, ◌≡◌, List, [], length, get_or, replicate, Some}
 use Rattle.address_pairs.specs.AddressPairs.{AddressPair, inner_side, outer_side, out_of, in_to, stands, once, pairs_length, tables_of, table_of, refusal_of, added}
 
 -- the rule of the tables
@@ -20,6 +19,6 @@ pub record ThereAndBack : Type 0 where
   -- an entry that is not refused keeps it
   pub kept : (tables : List (List AddressPair)) (port outer inner : ℕ) → port - 2 < length tables → OnceEach tables → refusal_of tables port outer inner ≡ 0 → OnceEach (added tables port outer inner)
   -- "so an address turned there and back is the same"
-  pub back : (tables : List (List AddressPair)) → OnceEach tables → (port a o : ℕ) → (out_of (table_of tables port) a ≡ some o → in_to (table_of tables port) o ≡ some a) × (in_to (table_of tables port) o ≡ some a → out_of (table_of tables port) a ≡ some o)
+  pub back : (tables : List (List AddressPair)) → OnceEach tables → (port a o : ℕ) → (out_of (table_of tables port) a ≡ Some o → in_to (table_of tables port) o ≡ Some a) × (in_to (table_of tables port) o ≡ Some a → out_of (table_of tables port) a ≡ Some o)
   -- and no other table has that outer address
-  pub alone : (tables : List (List AddressPair)) → OnceEach tables → (i j a o : ℕ) → out_of (get_or tables i []) a ≡ some o → stands outer_side (get_or tables j []) o ≡ true → i ≡ j
+  pub alone : (tables : List (List AddressPair)) → OnceEach tables → (i j a o : ℕ) → out_of (get_or tables i []) a ≡ Some o → stands outer_side (get_or tables j []) o ≡ true → i ≡ j

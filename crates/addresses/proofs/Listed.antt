@@ -1,5 +1,6 @@
 -- The address list: it rises, holds exactly the addresses on that port but the one left out, and depends on which places are held on that port alone.
 -- Assumes nothing.
+use Rattle.std.specs.Prelude.{None}
 use mathlib.Core.Path.{◌≡◌, refl, sym, ◌∙◌}
 use mathlib.Core.Logic.{◌⊎◌, inl, inr, ⊎_elim}
 use mathlib.Core.Bool.{Bool, true, false, cond, and-true}
@@ -11,9 +12,7 @@ use native.Mathlib.Omega.{arith}
 use borrow.Author.Tests.{ne_eqb}
 use lib.ListN.{length, get_or, length-append, get_or-append}
 use lib.Seq.{get_or_at}
-use Rattle.addresses.specs.declared.Place.{Place}
-use Rattle.addresses.specs.declared.Place.TheVariants.{Free}
-use Rattle.addresses.specs.Table.{places, held_on, below, is_listed, addresses_on}
+use Rattle.addresses.specs.Table.{places, held_on, below, is_listed, addresses_on, Place}
 
 -- ---- the numbers below n that pass a test
 -- they depend on the test alone
@@ -88,17 +87,17 @@ below_tells test other n same x h = both_ways (test x) (other x) (passes_too tes
 
 -- ---- the addresses on a port
 -- where no address is left out, the list tells which places are held on the port
-pub list_tells : (port : ℕ) (table other : List Place) → addresses_on port places table ≡ addresses_on port places other → (i : ℕ) → i < places → held_on port (get_or table i Free) ≡ held_on port (get_or other i Free)
+pub list_tells : (port : ℕ) (table other : List Place) → addresses_on port places table ≡ addresses_on port places other → (i : ℕ) → i < places → held_on port (get_or table i None) ≡ held_on port (get_or other i None)
 unfolding addresses_on is_listed
 list_tells port table other same i h =
     sym (all table) ∙ below_tells (is_listed port places table) (is_listed port places other) places same i h ∙ all other
   where
-    all : (table : List Place) → is_listed port places table i ≡ held_on port (get_or table i Free)
-    all table = rw (ne_eqb i places (λ e. omega arith)) (and-true (held_on port (get_or table i Free)))
+    all : (table : List Place) → is_listed port places table i ≡ held_on port (get_or table i None)
+    all table = rw (ne_eqb i places (λ e. omega arith)) (and-true (held_on port (get_or table i None)))
 
 module _ (port except : ℕ) where
   -- they depend on which places are held on that port alone
-  pub list_same : (table other : List Place) → ((i : ℕ) → i < places → held_on port (get_or table i Free) ≡ held_on port (get_or other i Free)) → addresses_on port except table ≡ addresses_on port except other
+  pub list_same : (table other : List Place) → ((i : ℕ) → i < places → held_on port (get_or table i None) ≡ held_on port (get_or other i None)) → addresses_on port except table ≡ addresses_on port except other
   unfolding addresses_on is_listed
   list_same table other same = below_same (is_listed port except table) (is_listed port except other) places (λ i h. rw (same i h))
 

@@ -1,4 +1,5 @@
 -- The address list, as a loop writes it: the addresses passed are listed, and what follows them in the buffer is as it was. Assumes nothing.
+use Rattle.std.specs.Prelude.{None}
 use mathlib.Core.Path.{◌≡◌, refl, sym, ◌∙◌}
 use mathlib.Core.Bool.{Bool, true, false, and-false}
 use mathlib.Core.List.{List, [], ◌∷◌, ◌++◌, append-nil, append_assoc}
@@ -8,7 +9,6 @@ use native.Mathlib.Numerals.{add-one}
 use borrow.Author.Tests.{eq-eqb, ne_eqb}
 use lib.ListN.{length, get_or, set, drop, length-append, length-set}
 use lib.Seq.{drop-cons, set_at}
-use Rattle.addresses.specs.declared.Place.TheVariants.{Free}
 use Rattle.addresses.specs.Table.{places, table_of, held_on, below, is_listed, addresses_on}
 use Rattle.addresses.specs.Calls.{Listing}
 use Rattle.addresses.specs.Steps.{Skipping}
@@ -61,9 +61,9 @@ module _ {words : List ℕ} {port except : ℕ} {before : List ℕ} where
 
     pub written_except : i ≡ except → Written words port except before after n (i + 1)
     unfolding is_listed
-    written_except e = passed (rw (eq-eqb i except e) (and-false (held_on port (get_or (table_of words) i Free))))
+    written_except e = passed (rw (eq-eqb i except e) (and-false (held_on port (get_or (table_of words) i None))))
 
-    module _ {r : Bool} (asked : r ≡ held_on port (get_or (table_of words) i Free)) where
+    module _ {r : Bool} (asked : r ≡ held_on port (get_or (table_of words) i None)) where
       pub written_not : r ≡ false → Written words port except before after n (i + 1)
       unfolding is_listed
       written_not f = passed (rw (← asked, f))

@@ -1,4 +1,5 @@
 -- Whom an address goes to when one more claims, or the same claim in another order. Assumes nothing.
+use Rattle.addresses.specs.Table.{Place}
 use mathlib.Core.Path.{◌≡◌, refl, ◌∙◌}
 use mathlib.Core.Logic.{◌⊎◌, inl, inr, ⊎_elim}
 use mathlib.Core.Bool.{Bool, true, false}
@@ -7,7 +8,6 @@ use mathlib.Core.List.Permᴰ
 use mathlib.Core.List.{List, [], ◌∷◌, ◌++◌, Memᴰ, Permᴰ}
 use Prim.Native.Nat.{ℕ, ◌≤◌}
 use native.Mathlib.Omega.{arith}
-use Rattle.addresses.specs.declared.Place.{Place}
 use Rattle.any_order.specs.Claimants.{Claimant, the_unit, with_unit, recorded, Lowest, GoesTo, nobody, lowest, Same}
 
 -- ---- one more claimant

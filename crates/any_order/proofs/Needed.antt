@@ -1,4 +1,5 @@
 -- Each premise is needed: the other premises are tested, and the tables computed from the book. Assumes nothing.
+use Rattle.std.specs.Prelude.{None, Some}
 use mathlib.Core.Path.{◌≡◌, refl, sym, ap, ◌∙◌}
 use mathlib.Core.List.Memᴰ
 use mathlib.Core.List.Permᴰ
@@ -8,9 +9,7 @@ use native.Mathlib.Omega.{arith}
 use lib.ListN.{get_or}
 use Rattle.storage.specs.Bytes.{packed}
 use Rattle.identifier.specs.Identifier.{pgn_of, wrong_source, sent_without_address}
-use Rattle.addresses.specs.declared.Place.{Place}
-use Rattle.addresses.specs.declared.Place.TheVariants.{Free, Held}
-use Rattle.addresses.specs.Table.{place_from, held_by}
+use Rattle.addresses.specs.Table.{place_from, held_by, Place, held}
 use Rattle.address_claims.proofs.Claims.{placed}
 use Rattle.address_claims.specs.Claims.{without, withdrawn, moved_to, contested}
 use Rattle.unit.specs.Own.{is_own}
@@ -30,20 +29,25 @@ use Rattle.any_order.proofs.Tests.{test, all, but, place, tested_but, all_tested
 
 -- what the table holds at an address after a morning
 found : {name preferred : ℕ} {ks : List Call} {v : List ℕ} (a : ℕ) (p : Place) → Morning ports name preferred ks v
-    → get_or (model_after ports name preferred ks).rest.table a Free ≡ p → get_or (table_in ports v) a Free ≡ p
-found a p M e = ap (λ r. get_or r.table a Free) (rest_in_lem M) ∙ e
+    → get_or (model_after ports name preferred ks).rest.table a None ≡ p → get_or (table_in ports v) a None ≡ p
+found a p M e = ap (λ r. get_or r.table a None) (rest_in_lem M) ∙ e
 
 module _ {name preferred : ℕ} {ks ks' : List Call} {v v' : List ℕ} (a : ℕ) {p p' : Place} where
   -- two places that differ
-  differ : get_or (model_after ports name preferred ks).rest.table a Free ≡ p → get_or (model_after ports name preferred ks').rest.table a Free ≡ p' → (p ≡ p' → ⊥)
+  differ : get_or (model_after ports name preferred ks).rest.table a None ≡ p → get_or (model_after ports name preferred ks').rest.table a None ≡ p' → (p ≡ p' → ⊥)
       → Morning ports name preferred ks v → Morning ports name preferred ks' v' → table_in ports v ≡ table_in ports v' → ⊥
-  differ e e' ne M M' same = ne (sym (found a p M e) ∙ ap (λ t. get_or t a Free) same ∙ found a p' M' e')
+  differ e e' ne M M' same = ne (sym (found a p M e) ∙ ap (λ t. get_or t a None) same ∙ found a p' M' e')
 
-free_held : (port name : ℕ) → Free ≡ Held port name → ⊥
+-- the port that a place is held on
+abbrev port_in : Place → ℕ
+port_in None = 0
+port_in (Some held) = held.port
+
+free_held : (port name : ℕ) → None ≡ held port name → ⊥
 free_held port name e = let z : ◌≡◌ {A = ℕ} 0 1 = cc in omega arith
 
 -- an address that one claimant claims, from a port, is not free
-not_free : (c : Claimant) {p : Place} → 0 < c.port → GoesTo (c ∷ []) c.address p → p ≡ Free → ⊥
+not_free : (c : Claimant) {p : Place} → 0 < c.port → GoesTo (c ∷ []) c.address p → p ≡ None → ⊥
 not_free c real (nobody n) e = n c (Memᴰ.head refl) refl
 not_free c real (lowest d L) e =
     let s : d ≡ c = Memᴰ.eq_of_singleton L.among in
@@ -57,40 +61,40 @@ needed = record {
     premises' = tested_but Unrefused ports 8 wide refl;
     begin = refl;
     order = Permᴰ.cons refl Permᴰ.nil;
-    tables = differ 5 {p = Held 2 9} {p' = Free} refl refl (λ e. free_held 2 9 (sym e));
+    tables = differ 5 {p = held 2 9} {p' = None} refl refl (λ e. free_held 2 9 (sym e));
   };
   unrefused_misses = record {
     premises = tested_but Unrefused ports 8 from_port5 refl;
-    outcome = λ M O. not_free (record { port = 5; address = 5; name = 9 }) (omega arith) (O.table 5 (omega arith)) (found 5 Free M refl);
+    outcome = λ M O. not_free (record { port = 5; address = 5; name = 9 }) (omega arith) (O.table 5 (omega arith)) (found 5 None M refl);
   };
   one_address = record {
     premises = tested_but OneAddress ports 8 five_then_six refl;
     premises' = tested_but OneAddress ports 8 six_then_five refl;
     begin = refl;
     order = Permᴰ.swap refl refl;
-    tables = differ 5 {p = Free} {p' = Held 2 9} refl refl (free_held 2 9);
+    tables = differ 5 {p = None} {p' = held 2 9} refl refl (free_held 2 9);
   };
   one_port = record {
     premises = tested_but OnePort ports 8 port2_then3 refl;
     premises' = tested_but OnePort ports 8 port3_then2 refl;
     begin = refl;
     order = Permᴰ.swap refl refl;
-    tables = differ 5 {p = Held 3 9} {p' = Held 2 9} refl refl (λ e. let z : ◌≡◌ {A = ℕ} 3 2 = cc in omega arith);
+    tables = differ 5 {p = held 3 9} {p' = held 2 9} refl refl (λ e. let z : ◌≡◌ {A = ℕ} 3 2 = ap port_in e in omega arith);
   };
   none_withdraws = record {
     premises = tested_but NoneWithdraws ports 8 claims_then_withdraws refl;
     premises' = tested_but NoneWithdraws ports 8 withdraws_then_claims refl;
     begin = refl;
     order = Permᴰ.swap refl refl;
-    tables = differ 5 {p = Free} {p' = Held 2 9} refl refl (free_held 2 9);
+    tables = differ 5 {p = None} {p' = held 2 9} refl refl (free_held 2 9);
   };
   none_is_the_unit = record {
     premises = tested_but NoneIsTheUnit ports 8 units_name refl;
-    outcome = λ M O. not_free (record { port = 2; address = 5; name = 8 }) (omega arith) (O.table 5 (omega arith)) (found 5 Free M refl);
+    outcome = λ M O. not_free (record { port = 2; address = 5; name = 8 }) (omega arith) (O.table 5 (omega arith)) (found 5 None M refl);
   };
   begin = (
     all_tested ports 8 unstarted_unit refl,
     all_tested ports 8 started_unit refl,
-    differ 7 {p = Held 2 9} {p' = Free} refl refl (λ e. free_held 2 9 (sym e)),
+    differ 7 {p = held 2 9} {p' = None} refl refl (λ e. free_held 2 9 (sym e)),
   );
 }

@@ -1,4 +1,5 @@
 -- The table and the unit after some claims: each address has gone to its lowest claimant. And what one more claim makes of them, case by case. Assumes nothing.
+use Rattle.std.specs.Prelude.{None}
 use mathlib.Core.Path.{◌≡◌, refl, sym, ap, ◌∙◌}
 use mathlib.Core.Logic.{⊎_elim}
 use mathlib.Core.Bool.{Bool, true, false, true≢false}
@@ -8,9 +9,7 @@ use Prim.Native.Nat.{ℕ, ◌≤◌, ◌<◌}
 use native.Mathlib.Decide.{ℕ_discrete}
 use native.Mathlib.Omega.{arith}
 use lib.ListN.{length, get_or}
-use Rattle.addresses.specs.declared.Place.{Place}
-use Rattle.addresses.specs.declared.Place.TheVariants.{Free}
-use Rattle.addresses.specs.Table.{places}
+use Rattle.addresses.specs.Table.{places, Place}
 use Rattle.address_claims.specs.Claims.{moved_to}
 use Rattle.address_claims.proofs.Places.{moved_here, moved_other}
 use Rattle.unit.specs.declared.Claim.{Claim}
@@ -23,7 +22,7 @@ use Rattle.any_order.proofs.Places.{left_alone, beaten_goes}
 
 pub record Settled (b : Bool) (name preferred : ℕ) (cs : List Claimant) (own : Unit) (table : List Place) : Type 0 where
   pub long : length table ≡ places
-  pub goes : (a : ℕ) → a < places → GoesTo (with_unit b name preferred cs) a (get_or table a Free)
+  pub goes : (a : ℕ) → a < places → GoesTo (with_unit b name preferred cs) a (get_or table a None)
   pub called : own.name ≡ name
   pub wants : own.preferred ≡ preferred
   pub stands : Stands name preferred cs b own.claim own.address
@@ -40,8 +39,8 @@ pub record Comes (name : ℕ) (cs : List Claimant) (c : Claimant) : Type 0 where
 -- ---- the table after a claim, by what becomes of its address
 module _ {cs cs' : List Claimant} {c : Claimant} (g : Grown cs c cs') (p : Place) (table : List Place) (long : length table ≡ places) (small : c.address < places) where
   pub table_goes : ((d : Claimant) → Memᴰ d cs → d.name ≡ c.name → d.address ≡ c.address)
-      → ((a : ℕ) → a < places → GoesTo cs a (get_or table a Free)) → GoesTo cs' c.address p
-      → (a : ℕ) → a < places → GoesTo cs' a (get_or (moved_to c.name c.address p table) a Free)
+      → ((a : ℕ) → a < places → GoesTo cs a (get_or table a None)) → GoesTo cs' c.address p
+      → (a : ℕ) → a < places → GoesTo cs' a (get_or (moved_to c.name c.address p table) a None)
   table_goes one goes here a h =
       elim (ℕ_discrete a c.address) [
         | yes e ↦ rw (e, moved_here c.name c.address p table (omega arith)) here

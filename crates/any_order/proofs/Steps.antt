@@ -1,4 +1,5 @@
 -- A claim that is acted on, Start and Quiet: each address still goes to its lowest claimant. Assumes nothing.
+use Rattle.std.specs.Prelude.{None}
 use mathlib.Core.Path.{◌≡◌, refl, sym, ◌∙◌}
 use mathlib.Core.Logic.{⊎_elim}
 use mathlib.Core.Bool.{Bool, true, false, cond, true≢false, ◌&&◌}
@@ -13,9 +14,7 @@ use lib.ListN.{get_or, set, length-set, replicate, length-replicate, get_or-repl
 use lib.Seq.{get_or-set_same, get_or-set_other}
 use Rattle.identifier.specs.Identifier.{sa_of}
 use Rattle.queue.specs.declared.Frame.{Frame}
-use Rattle.addresses.specs.declared.Place.{Place}
-use Rattle.addresses.specs.declared.Place.TheVariants.{Free}
-use Rattle.addresses.specs.Table.{places, place_from}
+use Rattle.addresses.specs.Table.{places, place_from, Place}
 use Rattle.address_claims.specs.Claims.{moved_to, others_dropped, settled, claimed, contested}
 use Rattle.address_claims.proofs.Places.{moved_length}
 use Rattle.unit.specs.declared.Claim.{Claim}
@@ -66,14 +65,14 @@ module _ {b : Bool} {name preferred : ℕ} {cs cs' : List Claimant} (rest : Rest
 
   -- the table, if its address becomes the place p
   table_then : (p : Place) → GoesTo (with_unit b name preferred cs') (sa_of f.id) p → (a : ℕ) → a < places
-      → GoesTo (with_unit b name preferred cs') a (get_or (moved_to f.bytes (sa_of f.id) p rest.table) a Free)
+      → GoesTo (with_unit b name preferred cs') a (get_or (moved_to f.bytes (sa_of f.id) p rest.table) a None)
   table_then p G =
       table_goes (grown_with_unit b name preferred g) p rest.table S.long C.small (one_with_unit b name preferred C) S.goes G
 
   -- not of the unit's address
   plain : is_own rest.own (sa_of f.id) ≡ false → Settled b name preferred cs' rest.own (claimed port (sa_of f.id) f.bytes rest.table)
   plain n =
-      let p = get_or rest.table (sa_of f.id) Free in
+      let p = get_or rest.table (sa_of f.id) None in
       let free = own_false rest.own (sa_of f.id) n in
       record {
         long = moved_length f.bytes (sa_of f.id) (contested port f.bytes p) rest.table ∙ S.long;
@@ -91,7 +90,7 @@ module _ {b : Bool} {name preferred : ℕ} {cs cs' : List Claimant} (rest : Rest
   defends : is_own rest.own (sa_of f.id) ≡ true → rest.own.name < f.bytes
       → Settled b name preferred cs' rest.own (others_dropped f.bytes (sa_of f.id) rest.table)
   defends t low =
-      let p = get_or rest.table (sa_of f.id) Free in
+      let p = get_or rest.table (sa_of f.id) None in
       let mine = own_true rest.own (sa_of f.id) t in
       let lower = S.called in
       record {
@@ -142,9 +141,9 @@ module _ {name preferred : ℕ} {cs : List Claimant} (rest : Rest) (good : prefe
   by_unit = grown_by_unit name preferred cs
 
   -- its address is held under a lower NAME
-  starts_lost : held_under rest.own.name (get_or rest.table rest.own.preferred Free) ≡ true → Settled true name preferred cs (moved rest.own Lost 254) rest.table
+  starts_lost : held_under rest.own.name (get_or rest.table rest.own.preferred None) ≡ true → Settled true name preferred cs (moved rest.own Lost 254) rest.table
   starts_lost h =
-      let under : held_under name (get_or rest.table preferred Free) ≡ true = rw (S.called, S.wants) at h in
+      let under : held_under name (get_or rest.table preferred None) ≡ true = rw (S.called, S.wants) at h in
       let d = under_lower name under (S.goes preferred good) in
       record {
         long = S.long;
@@ -161,19 +160,19 @@ module _ {name preferred : ℕ} {cs : List Claimant} (rest : Rest) (good : prefe
       }
 
   -- it is free, or its holder is dropped
-  starts_claiming : held_under rest.own.name (get_or rest.table rest.own.preferred Free) ≡ false
-      → Settled true name preferred cs (moved rest.own Claiming rest.own.preferred) (set rest.table rest.own.preferred Free)
+  starts_claiming : held_under rest.own.name (get_or rest.table rest.own.preferred None) ≡ false
+      → Settled true name preferred cs (moved rest.own Claiming rest.own.preferred) (set rest.table rest.own.preferred None)
   starts_claiming h =
-      let free : held_under name (get_or rest.table preferred Free) ≡ false = rw (S.called, S.wants) at h in
+      let free : held_under name (get_or rest.table preferred None) ≡ false = rw (S.called, S.wants) at h in
       let low = not_under name S.real free (S.goes preferred good) in
       let long = S.long in
       rw S.wants
       record {
-        long = length-set rest.table preferred Free ∙ S.long;
+        long = length-set rest.table preferred None ∙ S.long;
         goes = λ a small.
             elim (ℕ_discrete a preferred) [
-              | yes e ↦ rw (e, get_or-set_same rest.table preferred Free Free (omega arith), ← (unit_free name preferred)) (lower by_unit refl low)
-              | no ne ↦ rw (get_or-set_other rest.table preferred a Free Free ne) (elsewhere by_unit (λ e. ne (sym e)) (S.goes a small))
+              | yes e ↦ rw (e, get_or-set_same rest.table preferred None None (omega arith), ← (unit_free name preferred)) (lower by_unit refl low)
+              | no ne ↦ rw (get_or-set_other rest.table preferred a None None ne) (elsewhere by_unit (λ e. ne (sym e)) (S.goes a small))
             ];
         called = S.called;
         wants = refl;
@@ -185,7 +184,7 @@ module _ {name preferred : ℕ} {cs : List Claimant} (rest : Rest) (good : prefe
   pub start_settles : SettledIn true name preferred cs (started rest).rest
   unfolding started
   start_settles =
-      by_test (SettledIn true name preferred cs) (held_under rest.own.name (get_or rest.table rest.own.preferred Free)) _ _ starts_lost starts_claiming
+      by_test (SettledIn true name preferred cs) (held_under rest.own.name (get_or rest.table rest.own.preferred None)) _ _ starts_lost starts_claiming
 
 -- ---- Quiet: nothing but the claim state moves
 quieter : {b : Bool} {name preferred : ℕ} {cs : List Claimant} {claim : Claim} {address : ℕ} → is_claiming claim ≡ true → Stands name preferred cs b claim address
@@ -200,10 +199,10 @@ quiet_settles rest h S =
     record { long = S.long; goes = S.goes; called = S.called; wants = S.wants; stands = quieter h S.stands; real = S.real; inside = S.inside }
 
 -- ---- power-on
-pub fresh_settled : (ports name preferred : ℕ) → Settled false name preferred [] (fresh_unit name preferred ports) (replicate places Free)
+pub fresh_settled : (ports name preferred : ℕ) → Settled false name preferred [] (fresh_unit name preferred ports) (replicate places None)
 fresh_settled ports name preferred = record {
-  long = length-replicate places Free;
-  goes = λ a small. rw (get_or-replicate places a Free Free small) (nobody (λ c m at. Memᴰ.not-nil m));
+  long = length-replicate {A = Place} places None;
+  goes = λ a small. rw (get_or-replicate {A = Place} places a None None small) (nobody (λ c m at. Memᴰ.not-nil m));
   called = refl;
   wants = refl;
   stands = unstarted;

@@ -1,4 +1,5 @@
 -- Two settled tables of the same claims are one table, and the unit stands alike in both. Assumes nothing.
+use Rattle.std.specs.Prelude.{None}
 use mathlib.Core.Path.{◌≡◌, refl, sym, ap, ◌∙◌}
 use mathlib.Core.Logic.{⊎_elim}
 use mathlib.Core.Bool.{Bool, true, false, true≢false}
@@ -8,9 +9,7 @@ use Prim.Native.Nat.{ℕ, ◌<◌}
 use native.Mathlib.Omega.{arith}
 use lib.ListN.{length, get_or}
 use lib.Seq.{ext_get_or}
-use Rattle.addresses.specs.declared.Place.{Place}
-use Rattle.addresses.specs.declared.Place.TheVariants.{Free}
-use Rattle.addresses.specs.Table.{places}
+use Rattle.addresses.specs.Table.{places, Place}
 use Rattle.unit.specs.declared.Claim.{Claim}
 use Rattle.unit.specs.declared.Claim.TheVariants.{Unstarted, Claiming, Claimed, Lost}
 use Rattle.unit.specs.Own.{holds_address}
@@ -43,10 +42,10 @@ module _ (name preferred : ℕ) (cs : List Claimant) (one_port : (c d : Claimant
       rw (e, same_port b c d L.among M.among e)
 
   pub one_table : (b : Bool) {cs' : List Claimant} (t t' : List Place) → Same cs' cs → length t ≡ places → length t' ≡ places
-      → ((a : ℕ) → a < places → GoesTo (with_unit b name preferred cs) a (get_or t a Free))
-      → ((a : ℕ) → a < places → GoesTo (with_unit b name preferred cs') a (get_or t' a Free)) → t ≡ t'
+      → ((a : ℕ) → a < places → GoesTo (with_unit b name preferred cs) a (get_or t a None))
+      → ((a : ℕ) → a < places → GoesTo (with_unit b name preferred cs') a (get_or t' a None)) → t ≡ t'
   one_table b t t' s long long' goes goes' =
-      ext_get_or Free t t' (long ∙ sym long')
+      ext_get_or None t t' (long ∙ sym long')
       (λ a h. one_place b (goes a (omega arith)) (same_goes (same_with_unit b name preferred s) (goes' a (omega arith))))
 
 -- ---- the unit

@@ -1,11 +1,9 @@
 -- docs/RULES.md, "Claims in any order": "At key-on the claims come in a different order every morning. Prove: .. the final table is the same for every order
 -- of the same claims." And what that table holds at each address, said without an order. `any_order` of proofs/AnyOrder.antt proves `AnyOrder`. Words in
 -- quotes are ticket 12's. Assumes nothing.
-use Rattle.std.specs.Prelude.{ℕ, ◌≤◌, ◌<◌, Bool, true, false, ◌≡◌, get_or}
+use Rattle.std.specs.Prelude.{ℕ, ◌≤◌, ◌<◌, Bool, true, false, ◌≡◌, get_or, None}
 use mathlib.Core.List.{List, [], ◌∷◌, ◌++◌, Memᴰ, Permᴰ}
-use Rattle.addresses.specs.declared.Place.{Place}
-use Rattle.addresses.specs.declared.Place.TheVariants.{Free}
-use Rattle.addresses.specs.Table.{places}
+use Rattle.addresses.specs.Table.{places, Place}
 use Rattle.unit.specs.declared.Claim.{Claim}
 use Rattle.unit.specs.declared.Claim.TheVariants.{Unstarted, Claiming, Claimed, Lost}
 use Rattle.unit.specs.declared.Unit.{Unit}
@@ -38,7 +36,7 @@ unit_in ports v = (model_of ports v).rest.own
 -- ---- "Each address goes to its lowest claimant, the unit counted as one where it has started."
 pub record Outcome (ports name preferred : ℕ) (ks : List Call) (v : List ℕ) : Type 0 where
   pub table : (address : ℕ) → address < places
-      → GoesTo (with_unit (has_started preferred ks) name preferred (claimants ks)) address (get_or (table_in ports v) address Free)
+      → GoesTo (with_unit (has_started preferred ks) name preferred (claimants ks)) address (get_or (table_in ports v) address None)
   pub unit : Stands name preferred (claimants ks) (has_started preferred ks) (unit_in ports v).claim (unit_in ports v).address
 
 -- ---- "the final table is the same for every order of the same claims"

@@ -1,10 +1,8 @@
 -- Claims without an order: who claims which address, and whom it goes to (docs/RULES.md, "Claims in any order").
 -- Assumes nothing.
-use Rattle.std.specs.Prelude.{ℕ, ◌≤◌, ◌<◌, Bool, true, false, cond, ◌≡◌}
+use Rattle.std.specs.Prelude.{ℕ, ◌≤◌, ◌<◌, Bool, true, false, cond, ◌≡◌, None}
 use mathlib.Core.List.{List, ◌∷◌, Memᴰ}
-use Rattle.addresses.specs.declared.Place.{Place}
-use Rattle.addresses.specs.declared.Place.TheVariants.{Free}
-use Rattle.addresses.specs.Table.{place_from}
+use Rattle.addresses.specs.Table.{place_from, Place}
 use Rattle.unit.specs.declared.Claim.{Claim}
 use Rattle.unit.specs.declared.Claim.TheVariants.{Unstarted, Lost}
 use Rattle.unit.specs.Own.{holds_address}
@@ -40,7 +38,7 @@ pub record Lowest (cs : List Claimant) (address : ℕ) (c : Claimant) : Type 0 w
 
 -- "Each address goes to its lowest claimant": what the table holds there
 pub data GoesTo (cs : List Claimant) (address : ℕ) : Place → Type 0 where
-  nobody : ((c : Claimant) → Memᴰ c cs → c.address ≡ address → ⊥) → GoesTo cs address Free
+  nobody : ((c : Claimant) → Memᴰ c cs → c.address ≡ address → ⊥) → GoesTo cs address None
   lowest : (c : Claimant) → Lowest cs address c → GoesTo cs address (recorded c)
 
 -- How the unit stands among the claims cs of others: its claim state and its address. It keeps its preferred address where it is the lowest claimant.

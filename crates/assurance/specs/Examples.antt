@@ -1,15 +1,12 @@
 -- docs/RULES.md, "Examples": P1 to P11, as one table, proved in proofs/Examples.antt.
-use Rattle.std.specs.Prelude.{◌≡◌, List, [], ◌∷◌, ℕ, drop, replicate}
+use Rattle.bridge.specs.Told.{FrameTold, Took}
+use Rattle.std.specs.Prelude.{◌≡◌, List, [], ◌∷◌, ℕ, drop, replicate, None, Some}
 use Rattle.delivery.specs.Calls.{answers_of}
 use Rattle.queue.specs.declared.Frame.{Frame}
-use Rattle.queue.specs.declared.Taken.TheVariants.{Given}
 use Rattle.queue.specs.Queue.{idle}
 use Rattle.filter.specs.Filter.{Filter, pass, clear}
-use Rattle.addresses.specs.declared.Place.TheVariants.{Free}
 use Rattle.unit.specs.declared.Claim.TheVariants.{Claimed}
 use Rattle.unit.specs.Model.{Model}
-use Rattle.bridge.specs.declared.FrameAnswer.{FrameAnswer}
-use Rattle.bridge.specs.declared.TakeAnswer.TheVariants.{Took}
 use Rattle.message_answers.specs.Messages.{Replied}
 use Rattle.bridge.specs.Calls.{Call, FrameIn, TakeOut, frame_answer, messaged}
 use Rattle.identifier.specs.Identifier.{priority_of, pgn_of, destination_of}
@@ -36,7 +33,7 @@ calls = FrameIn 1 0x18FEF121 [] ∷ FrameIn 1 0x18FEF122 [] ∷ FrameIn 1 0x0CF0
 -- "Before P5 the unit is Claimed at an address no example uses, all pairs are cleared and all queues empty"; nothing is lost yet
 abbrev pub with : List Filter → Model
 with pairs = record {
-  rest = record { own = record { claim = Claimed; address = 0x90; preferred = 0x90; name = 1; ports = 4 }; pairs = pairs; table = replicate 254 Free };
+  rest = record { own = record { claim = Claimed; address = 0x90; preferred = 0x90; name = 1; ports = 4 }; pairs = pairs; table = replicate 254 None };
   queues = replicate 4 idle;
   seen = record { losses = replicate 13 0 };
 }
@@ -49,7 +46,7 @@ abbrev pub after_p5 : Model
 after_p5 = with (record { mode = pass; entries = 65265 ∷ []; named = []; sorted = 65265 ∷ [] } ∷ replicate 11 clear)
 
 -- what a frame from port 1 with no bytes is answered
-abbrev pub frame_in : Model → ℕ → FrameAnswer
+abbrev pub frame_in : Model → ℕ → FrameTold
 frame_in m id = frame_answer 4 1918 m 1 id []
 
 -- "Unless said, the tool is on port 1 with requester 21 and the buffer is long enough"
@@ -92,4 +89,4 @@ pub record Examples : Type 0 where
       × ((frame_in after_p5 0x0CF00400).lost ≡ 0)
       × ((frame_in after_p5 0x0CF00400).compared ≡ 1)
   -- priorities 6, 6, 3 accepted; three takes: 3, first 6, second 6
-  pub p11 : drop 3 (answers_of (next 4) (answer 4) before_p5 calls) ≡ ToTake (Took (Given three)) ∷ ToTake (Took (Given six₁)) ∷ ToTake (Took (Given six₂)) ∷ []
+  pub p11 : drop 3 (answers_of (next 4) (answer 4) before_p5 calls) ≡ ToTake (Took (Some three)) ∷ ToTake (Took (Some six₁)) ∷ ToTake (Took (Some six₂)) ∷ []

@@ -1,38 +1,111 @@
-// Standard input by blocks, standard output, and what is told on standard error, for the programs.
+// Standard input by pieces, standard output, and what is told on standard error, for the programs.
 #![tactic(auto)]
 
-ghost use Rattle.std.specs.Prelude.{true, ◌≡◌, ◌+◌, ◌≤◌, ◌<◌, length};
+ghost use Rattle.std.specs.Prelude.{◌≤◌, length, IfOk, IfSome};
 
 use std::io::Read;
 
-// What a read left: where the bytes end, whether that was the last, whether it failed.
-#[derive(Clone, Copy)]
-pub struct Filled {
-    pub end: usize,
-    pub last: bool,
-    pub failed: bool,
+// What a program does with a piece of its input.
+pub trait Pieces {
+    // The bytes at the front of a piece that are done with, or none if all is over; `last` says that nothing follows the piece.
+    fn take(&mut self, piece: &[u8], last: bool) -> Option<usize>
+        ensures { IfSome result (λ n. n ≤ length piece.now) };
 }
 
-// One read behind what is left at the front of a buffer. A failure is told.
-pub fn refill(rt: &impl Eprint, input: &mut impl Read, buffer: &mut [u8], left: usize) -> Filled
-    requires { left ≤ length buffer.old }
-    ensures { (left ≤ result.end) × (result.end ≤ length buffer.old) }
-{
-    match input.read(&mut buffer[left..]) {
-        Ok(n) => Filled {
-            end: left + n,
-            last: n == 0,
-            failed: false,
-        },
-        Err(e) => {
-            let _ = eprintln!(rt; "cannot read standard input: {e}");
-            Filled {
-                end: left,
-                last: true,
-                failed: true,
+// All of the input, piece by piece; what is left of a piece stands at the front of the next. A failure is told. A proved loop has to end, and nothing says that the
+// input does: so the reads are counted, up to a number that no run comes to.
+pub fn read_pieces<P: Pieces>(
+    rt: &impl Eprint,
+    input: &mut impl Read,
+    buffer: &mut [u8],
+    program: &mut P,
+) {
+    let mut left = 0;
+    'reads: for _ in 0..u64::MAX {
+        let read = match input.read(&mut buffer[left..]) {
+            Ok(n) => n,
+            Err(e) => {
+                let _ = eprintln!(rt; "cannot read standard input: {e}");
+                return;
             }
+        };
+        let end = left + read;
+        let last = read == 0;
+        let Some(used) = program.take(&buffer[..end], last) else {
+            return;
+        };
+        if last {
+            return;
+        }
+        buffer.copy_within(used..end, 0);
+        left = end - used;
+    }
+}
+
+// What a turn over a piece came to: the bytes of it that were used, those of text that were written, whether all is over.
+#[derive(Clone, Copy)]
+pub struct Turn {
+    pub used: usize,
+    pub written: usize,
+    pub over: bool,
+}
+
+// What a program turns into text: as much of a piece as is whole and has room; a turn that uses nothing has run out of the piece.
+pub trait Turns {
+    fn turn(&mut self, piece: &[u8], last: bool, out: &mut [u8]) -> Turn
+        ensures { (result.used ≤ length piece.now) × (result.written ≤ length out.old) };
+}
+
+// All that a piece has, a buffer of text at a time, to standard output: how much of it was used, or none if all is over or the text can't be written.
+fn write_turns<T: Turns>(
+    rt: &(impl Print + Eprint),
+    piece: &[u8],
+    last: bool,
+    out: &mut [u8],
+    program: &mut T,
+) -> Option<usize>
+    ensures { IfSome result (λ n. n ≤ length piece.now) }
+{
+    let mut used = 0;
+    'turns: loop {
+        let turn = program.turn(&piece[used..], last, out);
+        let is_written = write(rt, &out[..turn.written]);
+        if turn.over || !is_written {
+            return None;
+        }
+        used += turn.used;
+        if turn.used == 0 {
+            return Some(used);
         }
     }
+}
+
+// The bytes of input, and of text, that are kept at a time.
+const BLOCK: usize = 65536;
+
+// A program that turns its input into text.
+#[derive(Drop)]
+struct Writer<'a, R: Print + Eprint, T: Turns> {
+    rt: &'a R,
+    program: &'a mut T,
+    text: [u8; BLOCK],
+}
+
+impl<R: Print + Eprint, T: Turns> Pieces for Writer<'_, R, T> {
+    fn take(&mut self, piece: &[u8], last: bool) -> Option<usize> {
+        write_turns(self.rt, piece, last, &mut self.text, self.program)
+    }
+}
+
+// All of the input turned into text on standard output.
+pub fn turn_input<R: Print + Eprint, T: Turns>(rt: &R, input: &mut impl Read, program: &mut T) {
+    let mut buffer = [0u8; BLOCK];
+    let mut writer = Writer {
+        rt,
+        program,
+        text: [0u8; BLOCK],
+    };
+    read_pieces(rt, input, &mut buffer, &mut writer);
 }
 
 // Reads until a buffer is full, the input ends or a read fails: how many bytes stand at its start.
@@ -42,30 +115,11 @@ pub fn read_full(input: &mut impl Read, buffer: &mut [u8]) -> usize
     let mut done = 0;
     while done < buffer.len() {
         match input.read(&mut buffer[done..]) {
-            Ok(n) => {
-                if n == 0 {
-                    return done;
-                }
-                done += n;
-            }
-            Err(_) => return done,
+            Ok(0) | Err(_) => break,
+            Ok(n) => done += n,
         }
     }
     done
-}
-
-// The bytes from a place up to an end, moved to the front; the answer is how many they are.
-pub fn move_front(buffer: &mut [u8], from: usize, end: usize) -> usize
-    requires { (from ≤ end) × (end ≤ length buffer.old) }
-    ensures { from + result ≤ length buffer.old }
-{
-    let n = end - from;
-    let mut i = 0;
-    while i < n {
-        buffer[i] = buffer[from + i];
-        i += 1;
-    }
-    n
 }
 
 // Writes bytes to standard output. A failure is told.
@@ -88,30 +142,4 @@ pub fn tell(err: &impl Print, words: &[u8], number: u64) {
 // What was refused: its place from 1 and its number.
 pub fn tell_refused(rt: &impl Eprint, place: u64, number: u32) {
     let _ = eprintln!(rt; "{place} {number}");
-}
-
-// A log is over where it says so, and where its text can't be written.
-pub fn is_over(over: bool, is_written: bool) -> bool {
-    if is_written {
-        return over;
-    }
-    true
-}
-
-// Whether to go on with a log: something of it was used, and it is not over.
-pub fn goes_on(used: usize, over: bool) -> bool
-    ensures { result ≡ true → 0 < used }
-{
-    if over {
-        return false;
-    }
-    0 < used
-}
-
-// Whether to read on.
-pub fn has_more(over: bool, last: bool) -> bool {
-    if over {
-        return false;
-    }
-    !last
 }

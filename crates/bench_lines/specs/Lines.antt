@@ -1,10 +1,9 @@
 -- docs/RULES.md, "The bench log": the lines that a run prints. Characters are their numbers. Assumes nothing.
-use Rattle.std.specs.Prelude.{ℕ, ◌+◌, ◌/◌, ◌%◌, ◌≤◌, cond, List, [], ◌∷◌, ◌++◌, eqb, take}
+use Rattle.std.specs.Prelude.{ℕ, ◌+◌, ◌/◌, ◌%◌, ◌≤◌, cond, List, [], ◌∷◌, ◌++◌, eqb, take, Option, Some, None}
 use Rattle.storage.specs.Bytes.{bytes_of}
 use Rattle.text.specs.Digits.{hex_of, four_bytes, decimal_of}
 use Rattle.text.specs.Writing.{Writing}
-use Rattle.queue.specs.declared.Taken.{Taken}
-use Rattle.queue.specs.declared.Taken.TheVariants.{Given, Nothing}
+use Rattle.queue.specs.declared.Frame.{Frame}
 
 -- text of at most so many characters was put at a place
 pub record Within (before after : List ℕ) (at : ℕ) (text : List ℕ) (r most : ℕ) : Type 0 where
@@ -47,6 +46,6 @@ id_text id = 84 ∷ 32 ∷ (hex_of (four_bytes id) ++ (32 ∷ []))
 unfoldable pub given_text : ℕ → ℕ → ℕ → List ℕ
 given_text id len bytes = 84 ∷ 32 ∷ (hex_of (four_bytes id) ++ (32 ∷ (decimal_of len ++ (data_text len bytes ++ (10 ∷ [])))))
 
-abbrev pub taken_text : Taken → List ℕ
-taken_text (Given f) = given_text f.id f.len f.bytes
-taken_text Nothing = 84 ∷ 32 ∷ 45 ∷ 10 ∷ []
+abbrev pub taken_text : Option Frame → List ℕ
+taken_text (Some f) = given_text f.id f.len f.bytes
+taken_text None = 84 ∷ 32 ∷ 45 ∷ 10 ∷ []

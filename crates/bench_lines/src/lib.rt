@@ -6,7 +6,7 @@ ghost use Rattle.text.specs.Digits.{hex_of, four_bytes, decimal_of};
 ghost use Rattle.text.specs.Writing.{Writing};
 ghost use Rattle.bench_lines.specs.Lines.{line_room, refused_text, digit_if, ports_text, passed_text, data_text, id_text, given_text, taken_text, Within};
 
-use queue::Taken;
+use queue::Frame;
 
 // R and the number.
 pub fn put_refused(out: &mut [u8], number: u32) -> usize
@@ -93,12 +93,12 @@ fn put_given(out: &mut [u8], id: u32, len: u32, bytes: u64) -> usize
 }
 
 // What a take gave.
-pub fn put_taken(out: &mut [u8], taken: Taken) -> usize
+pub fn put_taken(out: &mut [u8], taken: Option<Frame>) -> usize
     requires { line_room ≤ length out.old }
     ensures { Writing out.old out.new 0 (taken_text taken) result }
 {
     match taken {
-        Taken::Given(f) => put_given(out, f.id, f.len, f.bytes),
-        Taken::Nothing => text::copy(out, 0, b"T -\n"),
+        Some(f) => put_given(out, f.id, f.len, f.bytes),
+        None => text::copy(out, 0, b"T -\n"),
     }
 }

@@ -164,6 +164,11 @@ module _ {w v u piece lent mid part : List ℕ} {last over : Bool} {used written
     words = t.long ∙ g.words;
   }
 
+-- it goes on, so it is not over
+pub going_on : {w v piece lent mid : List ℕ} {last over : Bool} {used written : ℕ} → Going w v piece last lent mid used written over true
+    → Going w v piece last lent mid used written false true
+going_on g = rw (g.on refl) at g
+
 pub going_done : {w v piece lent mid : List ℕ} {last over : Bool} {used written : ℕ} → Going w v piece last lent mid used written over false
     → Running w v piece last lent mid (record { used = used; written = written; over = over })
 going_done g = record {

@@ -10,8 +10,7 @@ use lib.ListN.{length, take, drop, get_or, replicate, length-append}
 use Rattle.text.specs.Writing.{put, Writing}
 use Rattle.unit.specs.Count.{ports_of}
 use Rattle.unit.specs.Model.{model_of}
-use Rattle.bridge.specs.declared.FrameAnswer.{FrameAnswer}
-use Rattle.bridge.specs.declared.TakeAnswer.{TakeAnswer}
+use Rattle.bridge.specs.Told.{FrameTold, TakeTold}
 use Rattle.bridge.specs.Calls.{FrameIn, TakeOut, Framing, TakingOut}
 use Rattle.bench_records.specs.Records.{kind_of, size_of, log_number, id_of}
 use Rattle.bench_lines.specs.Lines.{line_room, refused_text}
@@ -21,12 +20,12 @@ use Rattle.bench_log.specs.Step.{frame_text, take_text, call_text, Doing, Cuttin
 use Rattle.bench_records.proofs.Numbers.{size_least, record_whole, number_frame, number_take}
 
 -- a call's line
-pub frame_done_lem : {w v lent back bytes : List ℕ} {port id n : ℕ} {r : FrameAnswer} → Framing (ports_of w) w v port id bytes r → Writing lent back 0 (frame_text r) n
+pub frame_done_lem : {w v lent back bytes : List ℕ} {port id n : ℕ} {r : FrameTold} → Framing (ports_of w) w v port id bytes r → Writing lent back 0 (frame_text r) n
     → Doing (ports_of w) w v (FrameIn port id bytes) lent back n
 unfolding call_text
 frame_done_lem f l = record { call = f.call; line = rw f.answer at l }
 
-pub take_done : {w v lent back : List ℕ} {port n : ℕ} {r : TakeAnswer} → TakingOut (ports_of w) w v port r → Writing lent back 0 (take_text r) n → Doing (ports_of w) w v (TakeOut port) lent back n
+pub take_done : {w v lent back : List ℕ} {port n : ℕ} {r : TakeTold} → TakingOut (ports_of w) w v port r → Writing lent back 0 (take_text r) n → Doing (ports_of w) w v (TakeOut port) lent back n
 unfolding call_text
 take_done f l = record { call = f.call; line = rw f.answer at l }
 

@@ -1,7 +1,7 @@
 -- docs/RULES.md, "The bench log": a whole run. `run_text` of proofs/WholeRun.antt: whatever pieces a log is read in, and whatever room there is for text,
 -- the text is that of the log; `run_obeys`: the calls of a run obey demand 3. Assumes nothing.
 use Rattle.std.specs.Prelude.{ℕ, ◌+◌, ◌≤◌, ◌<◌, ◌⊎◌, Bool, true, false, cond, ◌≡◌, List, [], ◌∷◌, ◌++◌, eqb, length, take, drop}
-use Rattle.delivery.specs.Calls.{after_calls, answers_of}
+use Rattle.delivery.specs.Calls.{answers_of}
 use Rattle.unit.specs.Count.{ports_of}
 use Rattle.unit.specs.Model.{Model}
 use Rattle.demand_3.specs.Demand3.{Answer, ToFrame, ToTake, ToMessage, ToStart, ToQuiet, ToUnit, ToCounts, next, answer}

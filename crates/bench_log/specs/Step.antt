@@ -3,9 +3,7 @@ use Rattle.std.specs.Prelude.{ℕ, ◌≤◌, Bool, true, false, cond, ◌≡◌
 use Rattle.text.specs.Writing.{put, Writing}
 use Rattle.unit.specs.Count.{ports_of}
 use Rattle.unit.specs.Model.{Model, model_of}
-use Rattle.bridge.specs.declared.FrameAnswer.{FrameAnswer}
-use Rattle.bridge.specs.declared.TakeAnswer.{TakeAnswer}
-use Rattle.bridge.specs.declared.TakeAnswer.TheVariants.{Refused, Took}
+use Rattle.bridge.specs.Told.{FrameTold, TakeTold, Refused, Took}
 use Rattle.bridge.specs.Calls.{Call, FrameIn, TakeOut, Message, Start, Quiet, ReadUnit, ReadCounts, frame_answer, take_answer, refusal, next, Calling}
 use Rattle.bench_log.specs.declared.Stepped.{Stepped}
 use Rattle.bench_records.specs.Records.{kind_of, size_of, log_number}
@@ -13,10 +11,10 @@ use Rattle.bench_lines.specs.Lines.{line_room, refused_text, passed_text, taken_
 use Rattle.bench_log.specs.Log.{call_of}
 
 -- the lines that answers print
-abbrev pub frame_text : FrameAnswer → List ℕ
+abbrev pub frame_text : FrameTold → List ℕ
 frame_text r = cond (eqb r.refusal 0) (passed_text r.accepted r.lost) (refused_text r.refusal)
 
-abbrev pub take_text : TakeAnswer → List ℕ
+abbrev pub take_text : TakeTold → List ℕ
 take_text (Refused number) = refused_text number
 take_text (Took taken) = taken_text taken
 

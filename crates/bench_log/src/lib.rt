@@ -3,6 +3,7 @@
 
 ghost use Rattle.std.specs.Prelude.{◌≡◌, ◌≤◌, ◌<◌, length, get_or, replicate};
 ghost use Rattle.unit.specs.Count.{ports_of};
+ghost use Rattle.bridge.specs.Told.{frame_told, take_told};
 ghost use Rattle.bridge.specs.Calls.{FrameIn, TakeOut, Framing};
 ghost use Rattle.text.specs.Writing.{Writing};
 ghost use Rattle.bench_records.specs.Records.{id_of};
@@ -12,7 +13,9 @@ ghost use Rattle.bench_log.specs.Step.{frame_text, take_text, Doing, Cutting, St
 ghost use Rattle.bench_log.specs.Run.{Running};
 
 use bench_records::{FRAME_SIZE, TAKE_SIZE};
-use bridge::{FrameAnswer, TakeAnswer};
+use bridge::FrameAnswer;
+use checks::Refusal;
+use queue::Frame;
 
 // Room for the longest line.
 pub const LINE_ROOM: usize = 39;
@@ -26,31 +29,31 @@ pub struct Stepped {
 }
 
 // What a frame's call answered.
-fn put_frame(out: &mut [u8], r: FrameAnswer) -> usize
+fn put_frame(out: &mut [u8], r: Result<FrameAnswer, Refusal>) -> usize
     requires { line_room ≤ length out.old }
-    ensures { Writing out.old out.new 0 (frame_text r) result }
+    ensures { Writing out.old out.new 0 (frame_text (frame_told r)) result }
 {
-    if r.refusal == 0 {
-        return bench_lines::put_passed(out, r.accepted, r.lost);
+    match r {
+        Ok(a) => bench_lines::put_passed(out, a.accepted, a.lost),
+        Err(refusal) => bench_lines::put_refused(out, refusal.number()),
     }
-    bench_lines::put_refused(out, r.refusal)
 }
 
 // What a take's call answered.
-fn put_take(out: &mut [u8], r: TakeAnswer) -> usize
+fn put_take(out: &mut [u8], r: Result<Option<Frame>, Refusal>) -> usize
     requires { line_room ≤ length out.old }
-    ensures { Writing out.old out.new 0 (take_text r) result }
+    ensures { Writing out.old out.new 0 (take_text (take_told r)) result }
 {
     match r {
-        TakeAnswer::Refused(number) => bench_lines::put_refused(out, number),
-        TakeAnswer::Took(taken) => bench_lines::put_taken(out, taken),
+        Ok(taken) => bench_lines::put_taken(out, taken),
+        Err(refusal) => bench_lines::put_refused(out, refusal.number()),
     }
 }
 
 // The call of a frame that is said to be longer than eight bytes: none of a record's bytes is read.
-fn call_long(words: &mut [u64], port: u32, id: u32, len: usize) -> FrameAnswer
+fn call_long(words: &mut [u64], port: u32, id: u32, len: usize) -> Result<FrameAnswer, Refusal>
     requires { len ≤ 255 }
-    ensures { Framing (ports_of words.old) words.old words.new port id (replicate len 0) result }
+    ensures { Framing (ports_of words.old) words.old words.new port id (replicate len 0) (frame_told result) }
 {
     let none = [0u8; 255];
     let bytes: &[u8] = &none;
@@ -58,13 +61,13 @@ fn call_long(words: &mut [u64], port: u32, id: u32, len: usize) -> FrameAnswer
 }
 
 // The call of a frame's record, which is whole.
-fn call_frame(words: &mut [u64], log: &[u8]) -> FrameAnswer
+fn call_frame(words: &mut [u64], log: &[u8]) -> Result<FrameAnswer, Refusal>
     requires { 15 ≤ length log.now }
-    ensures { Framing (ports_of words.old) words.old words.new (get_or log.now 1 0) (id_of log.now) (bytes_in log.now) result }
+    ensures { Framing (ports_of words.old) words.old words.new (get_or log.now 1 0) (id_of log.now) (bytes_in log.now) (frame_told result) }
 {
-    let port = bench_records::wide(log[1]);
+    let port = u32::from(log[1]);
     let id = bench_records::id_of(log);
-    let len = bench_records::wide(log[6]) as usize;
+    let len = usize::from(log[6]);
     if 8 < len {
         return call_long(words, port, id, len);
     }
@@ -96,7 +99,7 @@ fn cut(last: bool, out: &mut [u8]) -> Stepped
     ensures { Cutting last out.old out.new result }
 {
     if last {
-        let written = bench_lines::put_refused(out, 25);
+        let written = bench_lines::put_refused(out, bench_records::Refusal::CutShort.number());
         return Stepped {
             used: 0,
             written,
@@ -134,7 +137,7 @@ fn step_take(words: &mut [u64], log: &[u8], last: bool, out: &mut [u8]) -> Stepp
     if log.len() < TAKE_SIZE {
         return cut(last, out);
     }
-    let port = bench_records::wide(log[1]);
+    let port = u32::from(log[1]);
     let written = do_take(words, port, out);
     Stepped {
         used: TAKE_SIZE,
@@ -169,7 +172,7 @@ pub fn step(words: &mut [u64], log: &[u8], last: bool, out: &mut [u8]) -> Steppe
     if kind == 2 {
         return step_take(words, log, last, out);
     }
-    let written = bench_lines::put_refused(out, 24);
+    let written = bench_lines::put_refused(out, bench_records::Refusal::UnknownKind.number());
     Stepped {
         used: 0,
         written,
@@ -183,18 +186,16 @@ pub fn run(words: &mut [u64], log: &[u8], last: bool, out: &mut [u8]) -> Stepped
 {
     let mut used = 0;
     let mut written = 0;
-    let mut over = false;
-    let mut going = true;
-    while going {
+    'steps: loop {
         let s = step(words, &log[used..], last, &mut out[written..]);
-        over = s.over;
-        going = 0 < s.used;
         used += s.used;
         written += s.written;
-    }
-    Stepped {
-        used,
-        written,
-        over,
+        if s.used == 0 {
+            return Stepped {
+                used,
+                written,
+                over: s.over,
+            };
+        }
     }
 }

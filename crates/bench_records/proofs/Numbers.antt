@@ -1,5 +1,5 @@
 -- The number of a log by its kind and its length, and what stands at its front. Assumes nothing.
-use mathlib.Core.Path.{◌≡◌, refl}
+use mathlib.Core.Path.{◌≡◌, refl, sym}
 use mathlib.Core.Bool.{Bool, true, false, cond, ◌||◌}
 use mathlib.Core.List.{List, [], ◌∷◌}
 use Prim.Native.Nat.{ℕ, ◌≤◌, ◌<◌}
@@ -7,9 +7,11 @@ use native.Mathlib.Omega.{arith}
 use borrow.Author.Tests.{lt-ltb, le-ltb, ltb-false, ne_eqb, eqb-true}
 use lib.Dec.{eqb, ltb}
 use lib.ListN.{length}
-use Rattle.bench_records.specs.declared.Found.{Found}
+use Rattle.std.specs.Prelude.{Ok, Err}
+use Rattle.candump.specs.declared.refusal.Refusal.{Refusal}
+use Rattle.candump.specs.Refusals.{number}
 use Rattle.bench_records.specs.Records.{kind_of, size_of, log_number}
-use Rattle.bench_records.specs.Turning.{whole_in, Fronting}
+use Rattle.bench_records.specs.Turning.{Fronting}
 
 -- a size is 2 or 15
 pub size_least : (kind : ℕ) → 2 ≤ size_of kind
@@ -51,22 +53,17 @@ unfolding log_number
 number_unknown log m n = rw (ne_eqb (kind_of log) 1 m, ne_eqb (kind_of log) 2 n)
 
 -- ---- the front
-front_whole : {log : List ℕ} {n : ℕ} → size_of (kind_of log) ≡ n → (eqb (kind_of log) 1 || eqb (kind_of log) 2) ≡ true → {r : Found} → r ≡ whole_in (length log) n → Fronting log r
-unfolding log_number
-front_whole {log} {n} size known {r} e = by (ltb (length log) n) refl
-  where
-    by : (b : Bool) → ltb (length log) n ≡ b → Fronting log r
-    by true f = rw e (record { number = rw (known, size, f); size = rw (known, size, f); fits = rw f (omega arith) })
-    by false f = rw e (record { number = rw (known, size, f); size = rw (known, size, f); fits = rw f (ltb-false (length log) n f) })
+front_whole : {log : List ℕ} {n : ℕ} → log_number log ≡ 0 → size_of (kind_of log) ≡ n → n ≤ length log → Fronting log (Ok n)
+front_whole z e h = record { number = sym z; size = sym e; fits = h }
 
-pub front_frame : {log : List ℕ} {r : Found} → kind_of log ≡ 1 → r ≡ whole_in (length log) 15 → Fronting log r
-front_frame k e = front_whole (rw k) (rw k) e
+pub front_frame : {log : List ℕ} → kind_of log ≡ 1 → 15 ≤ length log → Fronting log (Ok 15)
+front_frame {log} k h = front_whole (number_frame log k h) (rw k) h
 
-pub front_take : {log : List ℕ} {r : Found} → kind_of log ≡ 2 → r ≡ whole_in (length log) 2 → Fronting log r
-front_take k e = front_whole (rw k) (rw k) e
+pub front_take : {log : List ℕ} → kind_of log ≡ 2 → 2 ≤ length log → Fronting log (Ok 2)
+front_take {log} k h = front_whole (number_take log k h) (rw k) h
 
-pub front_unknown : {log : List ℕ} → log_number log ≡ 24 → Fronting log (record { number = 24; size = 0 })
-front_unknown e = record { number = rw e; size = rw e; fits = omega arith }
+pub front_refused : {log : List ℕ} {e : Refusal} → log_number log ≡ number e → Fronting log (Err e)
+front_refused h = record { number = sym h; size = tt; fits = tt }
 
 pub empty_unknown : (log : List ℕ) → length log ≡ 0 → log_number log ≡ 24
 unfolding log_number

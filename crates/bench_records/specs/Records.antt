@@ -1,6 +1,6 @@
 -- docs/RULES.md, "The bench log": the records of our log. Kind 1 is a frame (arrival port, identifier most significant first, length, eight bytes, those
 -- unused written 0 and not read), kind 2 a take (the port). Assumes nothing.
-use Rattle.std.specs.Prelude.{ℕ, Bool, cond, ◌||◌, List, [], ◌∷◌, ◌++◌, eqb, ltb, length, take, drop, get_or}
+use Rattle.std.specs.Prelude.{ℕ, cond, ◌||◌, List, ◌∷◌, ◌++◌, eqb, ltb, length, take, drop, get_or}
 use Rattle.storage.specs.Bytes.{packed, bytes_of}
 use Rattle.text.specs.Digits.{four_bytes, from_four}
 use Rattle.candump.specs.declared.Arrival.{Arrival}

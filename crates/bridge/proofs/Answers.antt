@@ -6,16 +6,16 @@ use Prim.Native.Nat.{ℕ, ◌-◌}
 use native.Mathlib.Omega.{arith}
 use borrow.Author.Tests.{eq-eqb, ne_eqb}
 use lib.ListN.{length}
-use Rattle.queue.specs.declared.Taken.{Taken}
+use Rattle.queue.specs.declared.Frame.{Frame}
 use Rattle.queue.specs.declared.Tally.{Tally}
 use Rattle.queue.specs.Queue.{taking, idle}
 use Rattle.unit.specs.declared.Claim.TheVariants.{Claimed}
 use Rattle.unit.specs.declared.Unit.{Unit}
-use Rattle.bridge.specs.declared.TakeAnswer.{TakeAnswer}
-use Rattle.bridge.specs.declared.UnitAnswer.{UnitAnswer}
 use Rattle.unit.specs.Model.{Model, model_of, queue_on, record_length, with_own, with_rest}
 use Rattle.unit.specs.Own.{consumes, is_claiming, moved}
 use Rattle.refusals.specs.Refusals.{length_refusal, take_refusal, quiet_refusal}
+use Rattle.std.specs.Prelude.{Option}
+use Rattle.bridge.specs.Told.{TakeTold, UnitTold}
 use Rattle.bridge.specs.Calls.{Call, FrameIn, TakeOut, Message, Start, Quiet, ReadUnit, ReadCounts, frame_of, refusal, rest_after, losses_after, asks, sends, performed, next, take_answer, unit_answer, counts_refused, counts_answer, Calling, TakingOut, Quieting, Reading, Counting}
 use Rattle.record.specs.Steps.{RowTaking}
 use Rattle.unit.proofs.Own.{own_ports}
@@ -57,7 +57,7 @@ module _ {ports : ℕ} {words : List ℕ} {k : Call} where
 
 -- ---- take
 module _ {ports : ℕ} {words : List ℕ} {port n : ℕ} (e : n ≡ take_refusal ports (length words) port) where
-  pub take_refused : (n ≡ 0 → ⊥) → TakingOut ports words words port (TakeAnswer.Refused n)
+  pub take_refused : (n ≡ 0 → ⊥) → TakingOut ports words words port (TakeTold.Refused n)
   unfolding take_answer refusal
   take_refused h = record {
     call = call_refused (λ z. h (e ∙ z));
@@ -66,7 +66,7 @@ module _ {ports : ℕ} {words : List ℕ} {port n : ℕ} (e : n ≡ take_refusal
     behind = refl;
   }
 
-  pub taken : {after : List ℕ} {r : Taken} → length after ≡ length words → n ≡ 0 → RowTaking ports words after (port - 1) r → TakingOut ports words after port (TakeAnswer.Took r)
+  pub taken : {after : List ℕ} {r : Option Frame} → length after ≡ length words → n ≡ 0 → RowTaking ports words after (port - 1) r → TakingOut ports words after port (TakeTold.Took r)
   unfolding take_answer refusal performed rest_after losses_after asks sends
   taken long z T =
       let goes = take_goes ports (length words) port (sym e ∙ z) in
@@ -76,7 +76,7 @@ module _ {ports : ℕ} {words : List ℕ} {port n : ℕ} (e : n ≡ take_refusal
             (T.state
             ∙ ap (λ queues. record { rest = (model_of ports words).rest; queues = queues; seen = (model_of ports words).seen })
             (sym (each_one taking (port - 1) ports (model_of ports words).queues idle (omega (arith, goes.1, goes.2)) (omega (arith, goes.1, goes.2, queues_long ports words)))));
-        answer = rw (← e, eq-eqb n 0 z) (ap TakeAnswer.Took T.answer);
+        answer = rw (← e, eq-eqb n 0 z) (ap TakeTold.Took T.answer);
         ahead = T.ahead;
         behind = T.behind;
       }
@@ -117,7 +117,7 @@ module _ {ports : ℕ} {words : List ℕ} where
 
 -- ---- the unit is read
 module _ {ports : ℕ} {words : List ℕ} where
-  pub unit_short : (length words ≡ record_length ports → ⊥) → Reading ports words (UnitAnswer.Refused 2)
+  pub unit_short : (length words ≡ record_length ports → ⊥) → Reading ports words (UnitTold.Refused 2)
   unfolding length_refusal unit_answer refusal
   unit_short h =
       let e : 2 ≡ length_refusal ports (length words) = rw (ne_eqb (length words) (record_length ports) h) in
@@ -126,7 +126,7 @@ module _ {ports : ℕ} {words : List ℕ} where
       two : ◌≡◌ {A = ℕ} 2 0 → ⊥
       two z = omega arith
 
-  pub unit_read : {own : Unit} → length words ≡ record_length ports → own ≡ (model_of ports words).rest.own → Reading ports words (UnitAnswer.Told own)
+  pub unit_read : {own : Unit} → length words ≡ record_length ports → own ≡ (model_of ports words).rest.own → Reading ports words (UnitTold.Told own)
   unfolding length_refusal unit_answer refusal performed rest_after losses_after asks sends
   unit_read full o =
       let e : 0 ≡ length_refusal ports (length words) = rw (eq-eqb (length words) (record_length ports) full) in

@@ -5,11 +5,10 @@ use Prim.Native.Nat.{ℕ}
 use native.Mathlib.Decide.{ℕ_discrete}
 use borrow.Author.Tests.{eq-eqb, ne_eqb}
 use lib.ListN.{length}
-use Rattle.network_message.specs.declared.Command.{Command}
+use Rattle.network_message.specs.Asked.{Asked}
 use Rattle.network_message.specs.Decoding.{decoded}
-use Rattle.message_answers.specs.declared.MessageAnswer.{MessageAnswer}
 use Rattle.unit.specs.Model.{model_of}
-use Rattle.message_answers.specs.Messages.{Replied, performed_by, Untouched}
+use Rattle.message_answers.specs.Messages.{Replied, MessageTold, performed_by, Untouched}
 use Rattle.message_answers.specs.Messages.{nothing_told}
 use Rattle.bridge.specs.Calls.{silent_reply, messaged, Message, refusal, rest_after, losses_after, asks, sends, performed, Calling, Messaging}
 use Rattle.refusals.specs.Refusals.{message_refusal}
@@ -22,11 +21,11 @@ module _ (ports : ℕ) (words lent : List ℕ) (port requester : ℕ) (payload :
   abbrev outcome : Replied
   outcome = messaged ports (length words) (length lent) (model_of ports words).rest port requester payload
 
-  done : {after back : List ℕ} {Still : ℕ → Type 0} {r : MessageAnswer} → outcome.number ≡ 0 → length after ≡ length words → Replying ports words after lent back outcome Still r → Calling ports words after (Message port requester payload (length lent))
+  done : {after back : List ℕ} {Still : ℕ → Type 0} {r : MessageTold} → outcome.number ≡ 0 → length after ≡ length words → Replying ports words after lent back outcome Still r → Calling ports words after (Message port requester payload (length lent))
   unfolding refusal performed rest_after losses_after asks sends
   done z long S = call_done z long (S.state ∙ rw (each_none ports (model_of ports words).queues))
 
-  undone : {after back : List ℕ} {Still : ℕ → Type 0} {r : MessageAnswer} → (outcome.number ≡ 0 → ⊥) → Replying ports words after lent back outcome Still r → Calling ports words after (Message port requester payload (length lent))
+  undone : {after back : List ℕ} {Still : ℕ → Type 0} {r : MessageTold} → (outcome.number ≡ 0 → ⊥) → Replying ports words after lent back outcome Still r → Calling ports words after (Message port requester payload (length lent))
   unfolding refusal
   undone h S = rw (S.refused h) (call_refused h)
 
@@ -44,18 +43,18 @@ module _ (ports : ℕ) (words lent : List ℕ) (port requester : ℕ) (payload :
       others = λ _ _. refl;
     }
 
-    outcome_is : {command : Command} → n ≡ 0 → command ≡ decoded ports port payload → outcome ≡ performed_by ports (model_of ports words).rest requester payload command
+    outcome_is : {command : Asked} → n ≡ 0 → command ≡ decoded ports port payload → outcome ≡ performed_by ports (model_of ports words).rest requester payload command
     unfolding messaged
     outcome_is z c = rw (← e, eq-eqb n 0 z, c)
 
-    called : {after back : List ℕ} {Still : ℕ → Type 0} {r : MessageAnswer} → length after ≡ length words → Replying ports words after lent back outcome Still r → Calling ports words after (Message port requester payload (length lent))
+    called : {after back : List ℕ} {Still : ℕ → Type 0} {r : MessageTold} → length after ≡ length words → Replying ports words after lent back outcome Still r → Calling ports words after (Message port requester payload (length lent))
     called long S =
         elim (ℕ_discrete outcome.number 0) [
           | yes z ↦ done z long S
           | no h ↦ undone h S
         ]
 
-    pub message_done : {after back : List ℕ} {command : Command} {r : MessageAnswer} → n ≡ 0 → command ≡ decoded ports port payload → length after ≡ length words
+    pub message_done : {after back : List ℕ} {command : Asked} {r : MessageTold} → n ≡ 0 → command ≡ decoded ports port payload → length after ≡ length words
         → Replying ports words after lent back (performed_by ports (model_of ports words).rest requester payload command) (Untouched ports command) r → Messaging ports words after port requester payload lent back r
     message_done z c long R =
         let S = rw (← (outcome_is z c)) at R in

@@ -11,9 +11,7 @@ use Rattle.delivery.specs.Unit.{join_all}
 use Rattle.queue.specs.declared.Frame.{Frame}
 use Rattle.queue.specs.Queue.{size, Queued, sent_all, idle}
 use Rattle.queue.proofs.Rows.{row_sent, sent_append}
-use Rattle.bridge.specs.declared.FrameAnswer.{FrameAnswer}
 use Rattle.bridge.specs.declared.Response.{Response}
-use Rattle.bridge.specs.declared.StartAnswer.{StartAnswer}
 use Rattle.unit.specs.declared.Unit.{Unit}
 use Rattle.forwarding.specs.declared.Share.{Share}
 use Rattle.claims.specs.declared.Acted.{Acted as Done}
@@ -22,6 +20,7 @@ use Rattle.unit.specs.Model.{Model, model_of, record_length, queue_on, row_at}
 use Rattle.unit.specs.Own.{start_checks, consumes, frames_sent}
 use Rattle.refusals.specs.Refusals.{frame_refusal, start_refusal}
 use Rattle.checks.specs.Checks.{first}
+use Rattle.bridge.specs.Told.{FrameTold, StartTold}
 use Rattle.bridge.specs.Calls.{frame_of, offered, refusal, rest_after, losses_after, asks, sends, performed, frame_refused, frame_passed, frame_answer, start_refused, start_answer, Framing, Starting}
 use Rattle.forwarding.specs.Forwarding.{verdict, sent_if, loses, loses_own, lost_from, lost_own}
 use Rattle.claims.specs.Claims.{Acted, frame_acted, started}
@@ -139,14 +138,14 @@ passed port f false s r h S R = carried port f r (sym h) (S.sent refl) R
 
 -- ---- the call of a frame
 module _ {ports : ℕ} {words : List ℕ} (port id : ℕ) (bytes : List ℕ) {n : ℕ} (e : n ≡ frame_refusal ports (length words) port id (length bytes)) where
-  pub frame_refused_lem : {r : FrameAnswer} → (n ≡ 0 → ⊥) → r ≡ frame_refused n → Framing ports words words port id bytes r
+  pub frame_refused_lem : {r : FrameTold} → (n ≡ 0 → ⊥) → r ≡ frame_refused n → Framing ports words words port id bytes r
   unfolding frame_answer refusal
   frame_refused_lem h s = record {
     call = call_refused (λ z. h (e ∙ z));
     answer = rw (← e, ne_eqb n 0 h) s;
   }
 
-  pub frame_passed_lem : {after : List ℕ} {f : Frame} {r : FrameAnswer} → n ≡ 0 → length after ≡ length words → f ≡ frame_of id bytes → Passing ports words after port f r → Framing ports words after port id bytes r
+  pub frame_passed_lem : {after : List ℕ} {f : Frame} {r : FrameTold} → n ≡ 0 → length after ≡ length words → f ≡ frame_of id bytes → Passing ports words after port f r → Framing ports words after port id bytes r
   unfolding frame_answer refusal performed rest_after losses_after asks sends
   frame_passed_lem z long g P = record {
     call = call_done (sym e ∙ z) long (rw g at P.state);
@@ -155,7 +154,7 @@ module _ {ports : ℕ} {words : List ℕ} (port id : ℕ) (bytes : List ℕ) {n 
 
 -- ---- the call of Start
 module _ (ports : ℕ) (words : List ℕ) where
-  pub start_short : {r : StartAnswer} → (length words ≡ record_length ports → ⊥) → r ≡ start_refused 2 → Starting ports words words r
+  pub start_short : {r : StartTold} → (length words ≡ record_length ports → ⊥) → r ≡ start_refused 2 → Starting ports words words r
   unfolding start_answer start_refusal refusal
   start_short h s = record {
     call = call_refused (λ z. two (rw (ne_eqb (length words) (record_length ports) h) at z));
@@ -170,7 +169,7 @@ module _ (ports : ℕ) (words : List ℕ) where
     unfolding start_refusal
     number = rw (eq-eqb (length words) (record_length ports) full) (sym e)
 
-    pub start_refused_lem : {r : StartAnswer} → (n ≡ 0 → ⊥) → r ≡ start_refused n → Starting ports words words r
+    pub start_refused_lem : {r : StartTold} → (n ≡ 0 → ⊥) → r ≡ start_refused n → Starting ports words words r
     unfolding start_answer refusal
     start_refused_lem h s = record {
       call = call_refused (λ z. h (sym number ∙ z));

@@ -1,16 +1,14 @@
 -- The calls: what each does to the model, what it answers, and the contracts of the functions.
 -- `next` is fed the calls' arguments alone. `lent` is the length of the record that was lent.
 -- Assumes nothing.
-use Rattle.std.specs.Prelude.{ℕ, ◌+◌, ◌-◌, ◌*◌, Bool, false, cond, ◌≡◌, List, [], ◌++◌, length, get_or, take, drop, eqb}
-use Rattle.std.proofs.Math.Option.{Option, none, some}
+use Rattle.std.specs.Prelude.{ℕ, ◌+◌, ◌-◌, ◌*◌, Bool, false, cond, ◌≡◌, List, [], ◌++◌, length, get_or, take, drop, eqb, Option, None, Some}
 use Rattle.identifier.specs.Identifier.{pgn_of, sa_of}
 use Rattle.delivery.specs.Row.{pull, given}
 use Rattle.delivery.specs.Unit.{join_all}
 use Rattle.filter.specs.declared.Asked.{Asked}
 use Rattle.filter.specs.Filter.{Filter, reason_number}
 use Rattle.queue.specs.declared.Frame.{Frame}
-use Rattle.queue.specs.declared.Taken.{Taken}
-use Rattle.queue.specs.Queue.{size, priority, taken_of, queue_next, idle, block_length as queue_length}
+use Rattle.queue.specs.Queue.{size, priority, queue_next, idle, block_length as queue_length}
 use Rattle.address_claims.specs.declared.Event.{Event}
 use Rattle.network_message.specs.Decoding.{decoded}
 use Rattle.unit.specs.declared.Claim.TheVariants.{Unstarted, Claimed}
@@ -21,14 +19,9 @@ use Rattle.unit.specs.Own.{consumes, moved, frames_sent}
 use Rattle.forwarding.specs.Forwarding.{sent_if, accepts, loses, loses_own, lost_from, lost_own, silent, verdict}
 use Rattle.claims.specs.Claims.{Acted, frame_acted, started}
 pub use Rattle.claims.specs.Claims.{frame_of}
-use Rattle.message_answers.specs.declared.MessageAnswer.{MessageAnswer}
-use Rattle.message_answers.specs.Messages.{Replied, nothing_told, message_answer, performed_by, Untouched}
+use Rattle.message_answers.specs.Messages.{Replied, MessageTold, nothing_told, message_answer, performed_by, Untouched}
+pub use Rattle.bridge.specs.Told.{FrameTold, frame_refused, TakeTold, take_number, gave, StartTold, start_refused, UnitTold, read_number, CountsTold, counts_refused}
 use Rattle.refusals.specs.Refusals.{frame_refusal, take_refusal, start_refusal, quiet_refusal, length_refusal, message_refusal}
-use Rattle.bridge.specs.declared.FrameAnswer.{FrameAnswer}
-use Rattle.bridge.specs.declared.TakeAnswer.{TakeAnswer}
-use Rattle.bridge.specs.declared.StartAnswer.{StartAnswer}
-use Rattle.bridge.specs.declared.UnitAnswer.{UnitAnswer}
-use Rattle.bridge.specs.declared.CountsAnswer.{CountsAnswer}
 
 -- a call, by its arguments
 pub data Call : Type 0 where
@@ -83,13 +76,13 @@ rest_after ports lent rest (ReadCounts port) = rest
 
 -- the port that a take is made on
 unfoldable pub asks : Call → Option ℕ
-asks (FrameIn port id bytes) = none
-asks (TakeOut port) = some (port - 1)
-asks (Message port requester payload lentReply) = none
-asks Start = none
-asks Quiet = none
-asks ReadUnit = none
-asks (ReadCounts port) = none
+asks (FrameIn port id bytes) = None
+asks (TakeOut port) = Some (port - 1)
+asks (Message port requester payload lentReply) = None
+asks Start = None
+asks Quiet = None
+asks ReadUnit = None
+asks (ReadCounts port) = None
 
 -- the frames sent to port q, in order: the forwarded, then the unit's own
 abbrev pub frame_sends : ℕ → Rest → ℕ → Frame → ℕ → List Frame
@@ -143,21 +136,8 @@ unfoldable pub next : ℕ → ℕ → Model → Call → Model
 next ports lent m k = cond (eqb (refusal ports lent m.rest k) 0) (performed ports lent m k) m
 
 -- ---- what a call answers
--- "A refused frame has no ports, no event, is not consumed and compares 0."; no pair was asked
-abbrev pub frame_refused : ℕ → FrameAnswer
-frame_refused number = record {
-  refusal = number;
-  consumed = false;
-  accepted = 0;
-  lost = 0;
-  event = Event.Nothing;
-  unsent = 0;
-  compared = 0;
-  reasons = 0;
-}
-
 -- "Accepted ports, lost ports and the ports where the unit's own frame was lost are those rule 3 names."
-unfoldable pub frame_passed : ℕ → Model → ℕ → Frame → FrameAnswer
+unfoldable pub frame_passed : ℕ → Model → ℕ → Frame → FrameTold
 frame_passed ports m port f = record {
   refusal = 0;
   consumed = consumes m.rest.own f.id;
@@ -169,53 +149,31 @@ frame_passed ports m port f = record {
   reasons = digits (λ q. reason_number (offered ports m.rest (port - 1) f.id q).reason) ports;
 }
 
-unfoldable pub frame_answer : ℕ → ℕ → Model → ℕ → ℕ → List ℕ → FrameAnswer
+unfoldable pub frame_answer : ℕ → ℕ → Model → ℕ → ℕ → List ℕ → FrameTold
 frame_answer ports lent m port id bytes =
     cond (eqb (frame_refusal ports lent port id (length bytes)) 0)
     (frame_passed ports m port (frame_of id bytes))
     (frame_refused (frame_refusal ports lent port id (length bytes)))
 
-unfoldable pub take_answer : ℕ → ℕ → Model → ℕ → TakeAnswer
+unfoldable pub take_answer : ℕ → ℕ → Model → ℕ → TakeTold
 take_answer ports lent m port =
     cond (eqb (take_refusal ports lent port) 0)
-    (TakeAnswer.Took (taken_of (given (pull priority (row_at m (port - 1))))))
-    (TakeAnswer.Refused (take_refusal ports lent port))
-
--- a take's answer in the words of the rules: the number that refused it, 0 for none, and what it gave
-abbrev pub take_number : TakeAnswer → ℕ
-take_number (TakeAnswer.Refused number) = number
-take_number (TakeAnswer.Took taken) = 0
-
-abbrev pub gave : TakeAnswer → Taken
-gave (TakeAnswer.Refused number) = Taken.Nothing
-gave (TakeAnswer.Took taken) = taken
-
--- a refused Start tells nothing: no port, and Unstarted
-abbrev pub start_refused : ℕ → StartAnswer
-start_refused number = record { refusal = number; unsent = 0; claim = Unstarted }
+    (TakeTold.Took (given (pull priority (row_at m (port - 1)))))
+    (TakeTold.Refused (take_refusal ports lent port))
 
 -- what became of the unit, and the ports where its own frame was lost
-unfoldable pub start_answer : ℕ → ℕ → Model → StartAnswer
+unfoldable pub start_answer : ℕ → ℕ → Model → StartTold
 start_answer ports lent m =
     cond (eqb (start_refusal ports lent m.rest.own) 0)
     (record { refusal = 0; unsent = mask (λ q. start_unsent_at m q) ports; claim = (started m.rest).rest.own.claim })
     (start_refused (start_refusal ports lent m.rest.own))
 
 -- the unit, its number of ports among the rest
-unfoldable pub unit_answer : ℕ → ℕ → Model → UnitAnswer
+unfoldable pub unit_answer : ℕ → ℕ → Model → UnitTold
 unit_answer ports lent m =
-    cond (eqb (length_refusal ports lent) 0) (UnitAnswer.Told m.rest.own) (UnitAnswer.Refused (length_refusal ports lent))
+    cond (eqb (length_refusal ports lent) 0) (UnitTold.Told m.rest.own) (UnitTold.Refused (length_refusal ports lent))
 
--- the number that refused it, 0 for none
-abbrev pub read_number : UnitAnswer → ℕ
-read_number (UnitAnswer.Refused number) = number
-read_number (UnitAnswer.Told own) = 0
-
--- docs/RULES.md, "How full a queue is": what is counted at a port; refused, nothing is told
-abbrev pub counts_refused : ℕ → CountsAnswer
-counts_refused number = record { refusal = number; tally = idle.tally }
-
-unfoldable pub counts_answer : ℕ → ℕ → Model → ℕ → CountsAnswer
+unfoldable pub counts_answer : ℕ → ℕ → Model → ℕ → CountsTold
 counts_answer ports lent m port =
     cond (eqb (take_refusal ports lent port) 0) (record { refusal = 0; tally = (queue_on m (port - 1)).tally }) (counts_refused (take_refusal ports lent port))
 
@@ -228,7 +186,7 @@ pub record Calling (ports : ℕ) (before after : List ℕ) (k : Call) : Type 0 w
   -- every word, those too that no rule reads
   pub refused : (refusal ports (length before) (model_of ports before).rest k ≡ 0 → ⊥) → after ≡ before
 
-pub record Framing (ports : ℕ) (before after : List ℕ) (port id : ℕ) (bytes : List ℕ) (r : FrameAnswer) : Type 0 where
+pub record Framing (ports : ℕ) (before after : List ℕ) (port id : ℕ) (bytes : List ℕ) (r : FrameTold) : Type 0 where
   pub call : Calling ports before after (FrameIn port id bytes)
   pub answer : r ≡ frame_answer ports (length before) (model_of ports before) port id bytes
 
@@ -237,13 +195,13 @@ abbrev pub queue_at : ℕ → ℕ
 queue_at port = rows_from + queue_length * (port - 1)
 
 -- "A take changes that port's queue only": every word before it and behind it is as it was
-pub record TakingOut (ports : ℕ) (before after : List ℕ) (port : ℕ) (r : TakeAnswer) : Type 0 where
+pub record TakingOut (ports : ℕ) (before after : List ℕ) (port : ℕ) (r : TakeTold) : Type 0 where
   pub call : Calling ports before after (TakeOut port)
   pub answer : r ≡ take_answer ports (length before) (model_of ports before) port
   pub ahead : take (queue_at port) after ≡ take (queue_at port) before
   pub behind : drop (queue_at port + queue_length) after ≡ drop (queue_at port + queue_length) before
 
-pub record Messaging (ports : ℕ) (before after : List ℕ) (port requester : ℕ) (payload lent back : List ℕ) (r : MessageAnswer) : Type 0 where
+pub record Messaging (ports : ℕ) (before after : List ℕ) (port requester : ℕ) (payload lent back : List ℕ) (r : MessageTold) : Type 0 where
   pub call : Calling ports before after (Message port requester payload (length lent))
   pub answer : r ≡ message_answer (messaged ports (length before) (length lent) (model_of ports before).rest port requester payload) (model_of ports before).seen
   pub written : back
@@ -252,7 +210,7 @@ pub record Messaging (ports : ℕ) (before after : List ℕ) (port requester : �
   -- every word outside the blocks of the pairs that a command changes is as it was
   pub others : (n : ℕ) → Untouched ports (decoded ports port payload) n → get_or after n 0 ≡ get_or before n 0
 
-pub record Starting (ports : ℕ) (before after : List ℕ) (r : StartAnswer) : Type 0 where
+pub record Starting (ports : ℕ) (before after : List ℕ) (r : StartTold) : Type 0 where
   pub call : Calling ports before after Start
   pub answer : r ≡ start_answer ports (length before) (model_of ports before)
 
@@ -261,11 +219,11 @@ pub record Quieting (ports : ℕ) (before after : List ℕ) (r : ℕ) : Type 0 w
   pub answer : r ≡ quiet_refusal ports (length before) (model_of ports before).rest.own
 
 -- the unit is read: no word changes
-pub record Reading (ports : ℕ) (words : List ℕ) (r : UnitAnswer) : Type 0 where
+pub record Reading (ports : ℕ) (words : List ℕ) (r : UnitTold) : Type 0 where
   pub call : Calling ports words words ReadUnit
   pub answer : r ≡ unit_answer ports (length words) (model_of ports words)
 
 -- so are the counts of a port
-pub record Counting (ports : ℕ) (words : List ℕ) (port : ℕ) (r : CountsAnswer) : Type 0 where
+pub record Counting (ports : ℕ) (words : List ℕ) (port : ℕ) (r : CountsTold) : Type 0 where
   pub call : Calling ports words words (ReadCounts port)
   pub answer : r ≡ counts_answer ports (length words) (model_of ports words) port

@@ -10,7 +10,7 @@ use Rattle.forwarding.specs.declared.Share.{Share}
 use Rattle.forwarding.specs.Forwarding.{verdict}
 use Rattle.forwarding.specs.Steps.{Forwarding, announced_to, unsent_to}
 use Rattle.claims.specs.Claims.{Acted}
-use Rattle.bridge.specs.declared.FrameAnswer.{FrameAnswer}
+use Rattle.bridge.specs.Told.{FrameTold}
 use Rattle.bridge.specs.declared.Response.{Response}
 use Rattle.bridge.specs.Calls.{frame_done, frame_sends, frame_losses, frame_passed}
 
@@ -33,6 +33,6 @@ framed ports m port f = record {
   seen = record { losses = frame_losses ports m port f };
 }
 
-pub record Passing (ports : ℕ) (before after : List ℕ) (port : ℕ) (f : Frame) (r : FrameAnswer) : Type 0 where
+pub record Passing (ports : ℕ) (before after : List ℕ) (port : ℕ) (f : Frame) (r : FrameTold) : Type 0 where
   pub answer : r ≡ frame_passed ports (model_of ports before) port f
   pub state : model_of ports after ≡ framed ports (model_of ports before) port f

@@ -1,5 +1,5 @@
-// The unit: a bridge of two to eight ports on one record that the caller lends. No function requires anything of its caller: what is wrong is refused by a
-// number, and a refusal changes nothing.
+// The unit: a bridge of two to eight ports on one record that the caller lends. No function requires anything of its caller: what is wrong is refused, and a
+// refusal changes nothing.
 #![tactic(auto)]
 
 ghost use Rattle.std.specs.Prelude.{◌≡◌, ℕ, ◌≤◌, ◌<◌, length};
@@ -8,22 +8,25 @@ ghost use Rattle.unit.specs.Count.{ports_of};
 ghost use Rattle.unit.specs.Model.{model_of, own_length, record_length};
 ghost use Rattle.unit.specs.Own.{consumes};
 ghost use Rattle.claims.specs.Claims.{frame_acted};
-ghost use Rattle.bridge.specs.Calls.{frame_refused, start_refused, counts_refused, Framing, TakingOut, Messaging, Starting, Quieting, Reading, Counting};
+ghost use Rattle.checks.specs.Refusals.{number_in};
+ghost use Rattle.message_answers.specs.Answers.{message_told};
+ghost use Rattle.bridge.specs.Told.{frame_done_told, frame_told, take_told, start_told, unit_told, counts_told};
+ghost use Rattle.bridge.specs.Calls.{Framing, TakingOut, Messaging, Starting, Quieting, Reading, Counting};
 ghost use Rattle.bridge.specs.Steps.{Responding, Sharing, Passing};
 
 use address_claims::Event;
+use checks::Refusal;
 use forwarding::Share;
 pub use list_commands::Absent;
 pub use message_answers::MessageAnswer;
-use queue::{Frame, Taken, Tally};
+use queue::{Frame, Tally};
 use unit::Claim;
 pub use unit::Unit;
 
 // What came of a frame. Ports are masks, bit p - 1 for port p. The reasons are those of each port's pair, four bits a port, port p's from bit 4(p - 1), by
-// `Reason::number`. A refusal of 0 is none; refused, the rest is empty.
-#[derive(Clone, Copy)]
+// `Reason::number`.
+#[derive(Clone, Copy, Debug, PartialEq, Eq)]
 pub struct FrameAnswer {
-    pub refusal: u32,
     pub consumed: bool,
     pub accepted: u32,
     pub lost: u32,
@@ -33,34 +36,11 @@ pub struct FrameAnswer {
     pub reasons: u64,
 }
 
-// What a take gave, or the number that refused it.
-#[derive(Clone, Copy)]
-pub enum TakeAnswer {
-    Refused(u32),
-    Took(Taken),
-}
-
-// The number that refused Start, or 0, the ports where the unit's own frame was lost, and what became of the unit: Claiming or Lost. Refused, the rest is
-// empty.
-#[derive(Clone, Copy)]
-pub struct StartAnswer {
-    pub refusal: u32,
+// What came of Start: the ports where the unit's own frame was lost, and what became of the unit: Claiming or Lost.
+#[derive(Clone, Copy, Debug, PartialEq, Eq)]
+pub struct Started {
     pub unsent: u32,
     pub claim: Claim,
-}
-
-// The unit as it is, or the number that refused the call.
-#[derive(Clone, Copy)]
-pub enum UnitAnswer {
-    Refused(u32),
-    Told(Unit),
-}
-
-// The number that refused the call, or 0, and what is counted at a port. Refused, the rest is 0.
-#[derive(Clone, Copy)]
-pub struct CountsAnswer {
-    pub refusal: u32,
-    pub tally: Tally,
 }
 
 // The claim event, and the ports where the unit's own frame was lost.
@@ -76,10 +56,11 @@ fn respond(words: &mut [u64], ports: u32, port: u64, consumed: bool, f: Frame) -
     ensures { Responding ports words.old words.new (frame_acted (model_of ports words.old).rest port consumed f) result }
 {
     let a = claims::act(words, port, consumed, f);
-    let event = a.event;
-    let sent = a.sent;
-    let unsent = forwarding::announce(words, ports as usize, sent);
-    Response { event, unsent }
+    let unsent = forwarding::announce(words, ports as usize, a.sent);
+    Response {
+        event: a.event,
+        unsent,
+    }
 }
 
 // Whether a frame is for the unit (rule 1). The unit is read only where the frame has a destination.
@@ -114,171 +95,97 @@ fn share(words: &mut [u64], ports: u32, port: u32, consumed: bool, f: Frame) -> 
 // A frame that is not refused. It is acted on in one place, so that its fields stay in registers.
 fn pass(words: &mut [u64], ports: u32, port: u32, f: Frame) -> FrameAnswer
     requires { (ports ≤ 8) × (length words.old ≡ record_length ports) × (1 ≤ port) × (port ≤ ports) × (sa_of f.id < 255) }
-    ensures { Passing ports words.old words.new port f result }
+    ensures { Passing ports words.old words.new port f (frame_done_told result) }
 {
     let consumed = is_for_unit(words, f.id);
     let s = share(words, ports, port, consumed, f);
     let r = respond(words, ports, port as u64, consumed, f);
-    let event = r.event;
     FrameAnswer {
-        refusal: 0,
         consumed,
         accepted: s.accepted,
         lost: s.lost,
-        event,
+        event: r.event,
         unsent: r.unsent,
         compared: s.compared,
         reasons: s.reasons,
     }
 }
 
-// A refused frame's answer.
-fn refused(number: u32) -> FrameAnswer
-    ensures { result ≡ frame_refused number }
-{
-    FrameAnswer {
-        refusal: number,
-        consumed: false,
-        accepted: 0,
-        lost: 0,
-        event: Event::Nothing,
-        unsent: 0,
-        compared: 0,
-        reasons: 0,
-    }
-}
-
 // A frame arrived at a port.
-pub fn frame(words: &mut [u64], port: u32, id: u32, bytes: &[u8]) -> FrameAnswer
-    ensures { Framing (ports_of words.old) words.old words.new port id bytes.now result }
+pub fn frame(words: &mut [u64], port: u32, id: u32, bytes: &[u8]) -> Result<FrameAnswer, Refusal>
+    ensures { Framing (ports_of words.old) words.old words.new port id bytes.now (frame_told result) }
 {
     let ports = unit::ports_of(words);
     let len = bytes.len();
-    let number = refusals::frame_refusal(ports, words.len(), port, id, len);
-    if number != 0 {
-        return refused(number);
-    }
-    let word = storage::pack(bytes);
+    refusals::check_frame(ports, words.len(), port, id, len)?;
     let f = Frame {
         id,
         len: len as u32,
-        bytes: word,
+        bytes: storage::pack(bytes),
     };
-    pass(words, ports, port, f)
+    Ok(pass(words, ports, port, f))
 }
 
 // A port is ready to send its next frame.
-pub fn take(words: &mut [u64], port: u32) -> TakeAnswer
-    ensures { TakingOut (ports_of words.old) words.old words.new port result }
+pub fn take(words: &mut [u64], port: u32) -> Result<Option<Frame>, Refusal>
+    ensures { TakingOut (ports_of words.old) words.old words.new port (take_told result) }
 {
     let ports = unit::ports_of(words);
-    let number = refusals::take_refusal(ports, words.len(), port);
-    if number != 0 {
-        return TakeAnswer::Refused(number);
-    }
+    refusals::check_take(ports, words.len(), port)?;
     let q = port as usize - 1;
-    let taken = record::take_row(words, q);
-    TakeAnswer::Took(taken)
-}
-
-// A refused Start's answer.
-fn start_refused(number: u32) -> StartAnswer
-    ensures { result ≡ start_refused number }
-{
-    StartAnswer {
-        refusal: number,
-        unsent: 0,
-        claim: Claim::Unstarted,
-    }
+    Ok(record::take_row(words, q))
 }
 
 // The unit claims its preferred address.
-pub fn start(words: &mut [u64]) -> StartAnswer
-    ensures { Starting (ports_of words.old) words.old words.new result }
+pub fn start(words: &mut [u64]) -> Result<Started, Refusal>
+    ensures { Starting (ports_of words.old) words.old words.new (start_told result) }
 {
     let ports = unit::ports_of(words);
-    if words.len() != Unit::record_length(ports as usize) {
-        return start_refused(2);
-    }
-    let unit = unit::read_unit(words);
-    let number = unit.start_refusal();
-    if number != 0 {
-        return start_refused(number);
-    }
+    refusals::check_length(ports, words.len())?;
+    unit::read_unit(words).check_start()?;
     let a = claims::start(words);
-    let sent = a.sent;
-    let unsent = forwarding::announce(words, ports as usize, sent);
+    let unsent = forwarding::announce(words, ports as usize, a.sent);
     let after = unit::read_unit(words);
-    let claim = after.claim;
-    StartAnswer {
-        refusal: 0,
+    Ok(Started {
         unsent,
-        claim,
-    }
-}
-
-// The 250 ms after the unit's claim are over.
-pub fn quiet(words: &mut [u64]) -> u32
-    ensures { Quieting (ports_of words.old) words.old words.new result }
-{
-    let ports = unit::ports_of(words);
-    if words.len() != Unit::record_length(ports as usize) {
-        return 2;
-    }
-    let unit = unit::read_unit(words);
-    let claim = unit.claim;
-    if claim.is_claiming() {
-        unit::store_claim(words, Claim::Claimed);
-        return 0;
-    }
-    18
-}
-
-// The unit is read: its claim state, its addresses, its NAME, its number of ports, which is worked out once.
-pub fn unit(words: &[u64]) -> UnitAnswer
-    ensures { Reading (ports_of words.now) words.now result }
-{
-    let ports = unit::ports_of(words);
-    if words.len() != Unit::record_length(ports as usize) {
-        return UnitAnswer::Refused(2);
-    }
-    let unit = unit::read_unit(words);
-    let claim = unit.claim;
-    UnitAnswer::Told(Unit {
-        claim,
-        address: unit.address,
-        preferred: unit.preferred,
-        name: unit.name,
-        ports,
+        claim: after.claim,
     })
 }
 
-// A refused call's answer.
-fn counts_refused(number: u32) -> CountsAnswer
-    ensures { result ≡ counts_refused number }
+// The 250 ms after the unit's claim are over.
+pub fn quiet(words: &mut [u64]) -> Result<(), Refusal>
+    ensures { Quieting (ports_of words.old) words.old words.new (number_in result) }
 {
-    CountsAnswer {
-        refusal: number,
-        tally: Tally {
-            waiting: [0, 0, 0, 0, 0, 0, 0, 0],
-            accepted: 0,
-            taken: 0,
-        },
+    let ports = unit::ports_of(words);
+    refusals::check_length(ports, words.len())?;
+    let unit = unit::read_unit(words);
+    if !unit.claim.is_claiming() {
+        return Err(Refusal::WrongState);
     }
+    unit::store_claim(words, Claim::Claimed);
+    Ok(())
+}
+
+// The unit is read: its claim state, its addresses, its NAME, its number of ports, which is worked out once.
+pub fn unit(words: &[u64]) -> Result<Unit, Refusal>
+    ensures { Reading (ports_of words.now) words.now (unit_told result) }
+{
+    let ports = unit::ports_of(words);
+    refusals::check_length(ports, words.len())?;
+    Ok(Unit {
+        ports,
+        ..unit::read_unit(words)
+    })
 }
 
 // The counts of a port are read: the frames that wait, by their priority, and those accepted and taken since power-on.
-pub fn counts(words: &[u64], port: u32) -> CountsAnswer
-    ensures { Counting (ports_of words.now) words.now port result }
+pub fn counts(words: &[u64], port: u32) -> Result<Tally, Refusal>
+    ensures { Counting (ports_of words.now) words.now port (counts_told result) }
 {
     let ports = unit::ports_of(words);
-    let number = refusals::take_refusal(ports, words.len(), port);
-    if number != 0 {
-        return counts_refused(number);
-    }
+    refusals::check_take(ports, words.len(), port)?;
     let q = port as usize - 1;
-    let tally = record::counts_at(words, q);
-    CountsAnswer { refusal: 0, tally }
+    Ok(record::counts_at(words, q))
 }
 
 // A network message to the unit, handed in whole, with a buffer for what is to be sent back.
@@ -289,28 +196,18 @@ pub fn message(
     payload: &[u8],
     reply: &mut [u8],
 ) -> MessageAnswer
-    ensures { Messaging (ports_of words.old) words.old words.new port requester payload.now reply.old reply.new result }
+    ensures { Messaging (ports_of words.old) words.old words.new port requester payload.now reply.old reply.new (message_told result) }
 {
     let ports = unit::ports_of(words);
-    let number = refusals::message_refusal(
+    if let Err(refusal) = refusals::check_message(
         words,
         ports,
         port,
         requester,
         payload.len(),
         reply.len(),
-    );
-    if number != 0 {
-        return MessageAnswer {
-            refusal: number,
-            pgn: 0,
-            length: 0,
-            told: Absent {
-                entry: 0,
-                to: 0,
-                pgn: 0,
-            },
-        };
+    ) {
+        return MessageAnswer::refused(refusal);
     }
     let command = network_message::decode(ports, port, payload);
     message_answers::perform(words, ports as usize, requester, payload, command, reply)

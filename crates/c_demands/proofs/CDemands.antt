@@ -1,4 +1,5 @@
 -- The exported functions have the demands: one call by its contract, then every list. Assumes nothing.
+use Rattle.message_answers.specs.Messages.{MessageTold}
 use mathlib.Core.Path.{◌≡◌, refl, sym, ap, ◌∙◌}
 use mathlib.Core.List.{List}
 use Prim.Native.Nat.{ℕ, ◌≤◌}
@@ -6,7 +7,6 @@ use native.Mathlib.Decide.{ℕ_discrete}
 use native.Mathlib.Omega.{arith}
 use lib.ListN.{length}
 use Rattle.delivery.specs.Calls.{Run}
-use Rattle.message_answers.specs.declared.MessageAnswer.{MessageAnswer}
 use Rattle.deorasaeng.specs.Interface.{message_length, MessageCall}
 use Rattle.unit.specs.Count.{count_of, ports_of}
 use Rattle.unit.proofs.Count.{count_same}
@@ -49,7 +49,7 @@ private {w = w} {answer = answer} low high ports long view H H₂ =
           let P = demand_2.private low high ports long view (as_handed H e) (as_handed H₂ e) in
           let t = message_tells refl (message_call H) e in
           let t₂ = message_tells refl (message_call H₂) e in
-          (t.0 ∙ ap (λ (a : MessageAnswer). a.refusal) P.0 ∙ sym t₂.0, P.1, t.1 ∙ ap words_of P.0 ∙ sym t₂.1)
+          (t.0 ∙ ap (λ (a : MessageTold). a.refusal) P.0 ∙ sym t₂.0, P.1, t.1 ∙ ap words_of P.0 ∙ sym t₂.1)
       | no h ↦
           let n = (message_none refl (message_call H) h).refused in
           let n₂ = rw (← ports) at (message_none refl (message_call H₂) h).refused in

@@ -1,4 +1,6 @@
 -- One exported call, by its contract: the bridge's call where the lent answer is of its length, and none where it is not. Assumes nothing.
+use Rattle.bridge.specs.Told.{TakeTold, UnitTold, Took, Told}
+use Rattle.std.specs.Prelude.{Option}
 use mathlib.Core.Path.{◌≡◌, refl, sym, ap, ◌∙◌}
 use mathlib.Core.Bool.{Bool, true, false, ◌&&◌, true≢false}
 use mathlib.Core.Logic.{◌⊎◌, inl, inr, ⊎_elim}
@@ -14,14 +16,9 @@ use Rattle.checks.specs.Ports.{is_port}
 use Rattle.checks.proofs.Tests.{both}
 use Rattle.checks.proofs.Ports.{port_bounds}
 use Rattle.delivery.specs.Row.{pull, given}
-use Rattle.queue.specs.declared.Taken.{Taken}
-use Rattle.queue.specs.Queue.{priority, taken_of, block_length}
-use Rattle.bridge.specs.declared.TakeAnswer.{TakeAnswer}
-use Rattle.bridge.specs.declared.TakeAnswer.TheVariants.{Refused, Took}
-use Rattle.bridge.specs.declared.UnitAnswer.{UnitAnswer}
-use Rattle.bridge.specs.declared.UnitAnswer.TheVariants.{Told}
-use Rattle.message_answers.specs.declared.MessageAnswer.{MessageAnswer}
-use Rattle.message_answers.specs.Messages.{Replied, message_answer}
+use Rattle.queue.specs.declared.Frame.{Frame}
+use Rattle.queue.specs.Queue.{priority, block_length}
+use Rattle.message_answers.specs.Messages.{Replied, message_answer, MessageTold}
 use Rattle.unit.specs.Count.{ports_of}
 use Rattle.unit.specs.Model.{model_of, row_at, record_length, rows_from}
 use Rattle.refusals.specs.Refusals.{frame_refusal, take_refusal, start_refusal, length_refusal}
@@ -90,18 +87,18 @@ module _ {ports : ℕ} {w w' answer told bytes written : List ℕ} {port r : ℕ
     take_refusal_is = T.number ∙ take_number_lem ports (length w) (length answer) port (length bytes) e e'
 
     -- what the take gives
-    abbrev found : Taken
-    found = taken_of (given (pull priority (row_at (model_of ports w) (port - 1))))
+    abbrev found : Option Frame
+    found = given (pull priority (row_at (model_of ports w) (port - 1)))
 
     answer_found : r ≡ 0 → take_answer ports (length w) (model_of ports w) port ≡ Took found
     unfolding take_answer
     answer_found z = rw (← take_refusal_is, eq-eqb r 0 z)
 
-    answer_refused : (r ≡ 0 → ⊥) → take_answer ports (length w) (model_of ports w) port ≡ Refused r
+    answer_refused : (r ≡ 0 → ⊥) → take_answer ports (length w) (model_of ports w) port ≡ TakeTold.Refused r
     unfolding take_answer
     answer_refused h = rw (← take_refusal_is, ne_eqb r 0 h)
 
-    taking_is : {a : TakeAnswer} → a ≡ take_answer ports (length w) (model_of ports w) port → TakingOut ports w w' port a
+    taking_is : {a : TakeTold} → a ≡ take_answer ports (length w) (model_of ports w) port → TakingOut ports w w' port a
     unfolding refusal
     taking_is a = record { call = called_as take_refusal_is T.served; answer = a; ahead = T.ahead; behind = T.behind }
 
@@ -110,7 +107,7 @@ module _ {ports : ℕ} {w w' answer told bytes written : List ℕ} {port r : ℕ
         of_take {port = port} {answer = answer} {bytes = bytes} {g = gave r told written} found
         (rw (T.tells, T.writes, z, answer_found z))
 
-    refused_tells : (r ≡ 0 → ⊥) → Tells (CTake port answer bytes) (ToTake (Refused r)) (gave r told written)
+    refused_tells : (r ≡ 0 → ⊥) → Tells (CTake port answer bytes) (ToTake (TakeTold.Refused r)) (gave r told written)
     refused_tells h = of_refused_take {port = port} {answer = answer} {bytes = bytes} {g = gave r told written} r h (rw (T.tells, T.writes, ne_eqb r 0 h))
 
   take_none : r ≡ lent_refusal ports port → IsNone w (CTake port answer bytes) (gave r told written) w'
@@ -130,7 +127,7 @@ module _ {ports : ℕ} {w w' payload reply back answer told : List ℕ} {port re
   abbrev pub outcome : Replied
   outcome = messaged ports (length w) (length reply) (model_of ports w).rest port requester payload
 
-  abbrev pub answered : MessageAnswer
+  abbrev pub answered : MessageTold
   answered = message_answer outcome (model_of ports w).seen
 
   pub message_tells : length answer ≡ message_length
@@ -176,7 +173,7 @@ module _ {ports : ℕ} {w answer told : List ℕ} {r : ℕ} (U : UnitCall ports 
     unit_refusal_is : r ≡ length_refusal ports (length w)
     unit_refusal_is = U.number ∙ unit_number_lem ports (length w) (length answer) e
 
-    reading_is : {a : UnitAnswer} → a ≡ unit_answer ports (length w) (model_of ports w) → Reading ports w a
+    reading_is : {a : UnitTold} → a ≡ unit_answer ports (length w) (model_of ports w) → Reading ports w a
     unfolding refusal
     reading_is a = record { call = called_as unit_refusal_is U.served; answer = a }
 
@@ -184,7 +181,7 @@ module _ {ports : ℕ} {w answer told : List ℕ} {r : ℕ} (U : UnitCall ports 
     unfolding unit_answer
     unit_found z = rw (← unit_refusal_is, eq-eqb r 0 z)
 
-    unit_refused : (r ≡ 0 → ⊥) → UnitAnswer.Refused r ≡ unit_answer ports (length w) (model_of ports w)
+    unit_refused : (r ≡ 0 → ⊥) → UnitTold.Refused r ≡ unit_answer ports (length w) (model_of ports w)
     unfolding unit_answer
     unit_refused h = rw (← unit_refusal_is, ne_eqb r 0 h)
 
@@ -307,7 +304,7 @@ is_call full (take_made (took_out κs w w' a a' b b' port r f)) l =
         tells = found_tells refl T e e' z;
       }
       | no h ↦ record {
-        answer = ToTake (Refused r);
+        answer = ToTake (TakeTold.Refused r);
         made = demand_3.take_made (made.took w.now w'.now port _ (taking_is refl T e e' (sym (answer_refused refl T e e' h))));
         tells = refused_tells refl T e e' h;
       }
@@ -341,7 +338,7 @@ is_call full (unit_made (told_unit κs w w' a a' r f)) l =
         tells = of_unit_lem {answer = a.now} {g = gave r a'.now []} (model_of (ports_of w.now) w.now).rest.own (rw (U.tells, z, state_is (model_of (ports_of w.now) w.now).rest.own.claim));
       }
       | no h ↦ record {
-        answer = ToUnit (UnitAnswer.Refused r);
+        answer = ToUnit (UnitTold.Refused r);
         made = demand_3.unit_made (made.told w.now _ (reading_is U e (unit_refused U e h)));
         tells = of_refused_unit {answer = a.now} {g = gave r a'.now []} r h (rw (U.tells, ne_eqb r 0 h));
       }

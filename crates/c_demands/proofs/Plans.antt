@@ -12,9 +12,10 @@ use Rattle.unit.specs.Ports.{bit_at}
 use Rattle.plan_shape.specs.Plan.{plan_of, in_range, Hears}
 use Rattle.plan_shape.specs.Literals.{InPlan}
 use Rattle.plan_shape.proofs.Literals.{literals}
-use Rattle.plans.specs.declared.Planned.{Planned}
-use Rattle.plans.specs.declared.Planned.TheVariants.{Heard, Refused}
-use Rattle.plans.specs.Plans.{Planning, number_of}
+use Rattle.std.specs.Prelude.{Result, Ok, Err}
+use Rattle.checks.specs.declared.refusal.Refusal.{Refusal}
+use Rattle.checks.specs.Refusals.{number_in}
+use Rattle.plans.specs.Plans.{Planning}
 use Rattle.deorasaeng.specs.PlanCalls.{answer_of, PlanCall}
 use Rattle.c_demands.specs.Plans.{Asked, asked, PlanAnswer, PlanCalls}
 
@@ -41,20 +42,20 @@ module _ (ports lists answer told : List ℕ) (segments units first pgn r : ℕ)
       by false e = e
 
   -- the answer's word: what is heard, at least the first segment
-  word_of : (planned : Planned) → Planning segments (plan_of units ports lists) first pgn planned → number_of planned ≡ 0 → told ≡ answer_of planned answer
+  word_of : (planned : Result ℕ Refusal) → Planning segments (plan_of units ports lists) first pgn planned → number_in planned ≡ 0 → told ≡ answer_of planned answer
       → (word : ℕ)
       × ((told ≡ word ∷ []) × (word < 65536)
       × ((segment : ℕ) → 1 ≤ segment → segment ≤ 16 → (bit_at word (segment - 1) ≡ true) ↔ Hears (plan_of units ports lists) first pgn segment))
-  word_of (Heard s) P z t = (s, (t, (P.heard z).small, (P.heard z).told))
-  word_of (Refused n) P z t =
+  word_of (Ok s) P z t = (s, (t, (P.heard z).small, (P.heard z).told))
+  word_of (Err e) P z t =
       let w = in_words (P.answered.0 z).1.0 in
       absurd (true≢false (sym (((P.heard z).told first w.from_1 (omega (arith, w.of_plan, w.most_segments_lem))).1 (inl refl)) ∙ no_bit (first - 1)))
 
-  left_alone : (planned : Planned) → (number_of planned ≡ 0 → ⊥) → told ≡ answer_of planned answer → told ≡ answer
-  left_alone (Heard s) n t = absurd (n refl)
-  left_alone (Refused k) n t = t
+  left_alone : (planned : Result ℕ Refusal) → (number_in planned ≡ 0 → ⊥) → told ≡ answer_of planned answer → told ≡ answer
+  left_alone (Ok s) n t = absurd (n refl)
+  left_alone (Err e) n t = t
 
-  one_word : (planned : Planned) → Planning segments (plan_of units ports lists) first pgn planned → length answer ≡ 1 → r ≡ number_of planned → told ≡ answer_of planned answer
+  one_word : (planned : Result ℕ Refusal) → Planning segments (plan_of units ports lists) first pgn planned → length answer ≡ 1 → r ≡ number_in planned → told ≡ answer_of planned answer
       → PlanAnswer ports lists segments units first pgn answer r told
   one_word planned P one e t = record {
     number2 = (λ z L. P.number2.0 (sym e ∙ z) (L.0, L.1), λ n. e ∙ P.number2.1 (λ L. n (L.0, L.1, one)));

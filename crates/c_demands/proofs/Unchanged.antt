@@ -1,4 +1,6 @@
 -- The bytes that a take writes: the frame that leaves was accepted, what is accepted was sent, and what is sent was handed in or is the unit's own. Assumes nothing.
+use Rattle.bridge.specs.Told.{Took}
+use Rattle.std.specs.Prelude.{Some, None}
 use mathlib.Core.Path.{◌≡◌, refl, sym, ap, ◌∙◌}
 use mathlib.Core.Logic.{⊎_elim}
 use mathlib.Core.Bool.{Bool, true, false, cond}
@@ -15,10 +17,8 @@ use Rattle.delivery.specs.Port.{Event}
 use Rattle.delivery.specs.Product.{Answered, Obeys, Came, Gave, frame_that_leaves, nothing_waiting}
 use Rattle.delivery.proofs.Product.{obeys}
 use Rattle.queue.specs.declared.Frame.{Frame}
-use Rattle.queue.specs.declared.Taken.TheVariants.{Given, Nothing}
 use Rattle.checks.specs.Ports.{no_port}
 use Rattle.flat_answers.specs.Answers.{bytes_of_frame}
-use Rattle.bridge.specs.declared.TakeAnswer.TheVariants.{Took}
 use Rattle.bridge.specs.Calls.{Call, FrameIn, TakeOut, Message, Start, Quiet, ReadUnit, ReadCounts, refusal}
 use Rattle.unit.specs.Model.{Rest}
 use Rattle.unit.specs.PowerOn.{fresh}
@@ -152,7 +152,7 @@ record Told (c : Exported) (x : Answer) (id len : ℕ) (written : List ℕ) : Ty
   port : ℕ
   f : Frame
   call : call_of c ≡ TakeOut port
-  is : x ≡ ToTake (Took (Given f))
+  is : x ≡ ToTake (Took (Some f))
   same_id : f.id ≡ id
   same_len : f.len ≡ len
   same_bytes : written ≡ bytes_of_frame f
@@ -168,11 +168,11 @@ not_told : {id len : ℕ} {written bytes : List ℕ} → gave 0 (1 ∷ id ∷ le
 not_told e = let t = ap (λ (g : Given-back). g.told) e in let z : ◌≡◌ {A = ℕ} 1 0 = cc in omega arith
 
 told_by : {c : Exported} {x : Answer} {id len : ℕ} {written : List ℕ} → Takes c → Tells c x (gave 0 (1 ∷ id ∷ len ∷ []) written) → Told c x id len written
-told_by by_port (of_take (Given f) e) = let t = told_of f e in record { port = _; f = f; call = refl; is = refl; same_id = t.0; same_len = t.1; same_bytes = t.2 }
-told_by by_port (of_take Nothing e) = absurd (not_told e)
+told_by by_port (of_take (Some f) e) = let t = told_of f e in record { port = _; f = f; call = refl; is = refl; same_id = t.0; same_len = t.1; same_bytes = t.2 }
+told_by by_port (of_take None e) = absurd (not_told e)
 told_by by_port (of_refused_take number n e) = absurd (n (sym (ap (λ (g : Given-back). g.number) e)))
-told_by by_queue (of_queue (Given f) e) = let t = told_of f e in record { port = _; f = f; call = refl; is = refl; same_id = t.0; same_len = t.1; same_bytes = t.2 }
-told_by by_queue (of_queue Nothing e) = absurd (not_told e)
+told_by by_queue (of_queue (Some f) e) = let t = told_of f e in record { port = _; f = f; call = refl; is = refl; same_id = t.0; same_len = t.1; same_bytes = t.2 }
+told_by by_queue (of_queue None e) = absurd (not_told e)
 
 not_refused : (ports : ℕ) {c : Exported} {told written : List ℕ} → Takes c → gave 0 told written ≡ refused_lent ports c → ⊥
 not_refused ports (by_port {port = port}) e = nonzero (no_port ports port) (ap (λ (g : Given-back). g.number) e)
@@ -182,10 +182,10 @@ not_refused ports (by_port {port = port}) e = nonzero (no_port ports port) (ap (
     nonzero false z = omega arith
 not_refused ports by_queue e = let z : ◌≡◌ {A = ℕ} 0 2 = ap (λ (g : Given-back). g.number) e in omega arith
 
-given_same : (f g : Frame) → ToTake (Took (Given f)) ≡ ToTake (Took (Given g)) → f ≡ g
+given_same : (f g : Frame) → ToTake (Took (Some f)) ≡ ToTake (Took (Some g)) → f ≡ g
 given_same f g e = cc
 
-nothing_given : (f : Frame) → ToTake (Took Nothing) ≡ ToTake (Took (Given f)) → ⊥
+nothing_given : (f : Frame) → ToTake (Took None) ≡ ToTake (Took (Some f)) → ⊥
 nothing_given f e = let z : ◌≡◌ {A = ℕ} 0 1 = cc in omega arith
 
 -- ---- where it came from
@@ -229,7 +229,7 @@ module _ (ports name preferred : ℕ) {before : List Exported} {js : List Call} 
 -- ---- the whole
 module _ {ports name preferred : ℕ} {cs : List Exported} {gs : List Given-back} {ks : List Call} {xs : List Answer} {v : List ℕ} (S : Same ports cs gs ks xs) (D : Demand3 ports name preferred ks xs v) where
   given_frame : {js : List Call} {before : List Exported} {x : Answer} (f : Frame) (q : ℕ) → q < ports → Frames js before → Bytes before
-      → Answered ks xs js (TakeOut (suc q)) x → x ≡ ToTake (Took (Given f)) → AsHandedIn name before f.id f.len (bytes_of_frame f)
+      → Answered ks xs js (TakeOut (suc q)) x → x ≡ ToTake (Took (Some f)) → AsHandedIn name before f.id f.len (bytes_of_frame f)
   given_frame {js} {before} {x} f q h F B A is = go (D.obeys.gives q h js x A)
     where
       book : Obeys (bridge ports) (fresh ports name preferred) js (answers_of (next ports) (answer ports) (fresh ports name preferred) js)
@@ -241,7 +241,7 @@ module _ {ports name preferred : ℕ} {cs : List Exported} {gs : List Given-back
           came_from ports name preferred F B q h earlier f (rw same at (book.came q h earlier f' since L.accepted))
       go (nothing_waiting w e) = absurd (nothing_given f (sym e ∙ is))
 
-  taken_frame : {js : List Call} {before : List Exported} (port : ℕ) (f : Frame) (k : Call) (x : Answer) → k ≡ TakeOut port → x ≡ ToTake (Took (Given f))
+  taken_frame : {js : List Call} {before : List Exported} (port : ℕ) (f : Frame) (k : Call) (x : Answer) → k ≡ TakeOut port → x ≡ ToTake (Took (Some f))
       → Answered ks xs js k x → Frames js before → Bytes before → AsHandedIn name before f.id f.len (bytes_of_frame f)
   unfolding refusal
   taken_frame {js} port f k x call is A F B =

@@ -2,7 +2,10 @@
 -- bytes, so what is proved of every list of the bridge's calls holds of every list of the exported ones; one that is lent another length is refused with 2, or
 -- with 1 where there is no such port, and is no call at all. `deorasaeng_take_queue` on the block of port q is a take on port q.
 -- `c_demands` of proofs/CDemands.antt proves it. The quoted words are the customer's.
-use Rattle.std.specs.Prelude.{◌≡◌, ◌⊎◌, Bool, true, false, not, cond, ◌&&◌, ◌||◌, ℕ, ◌+◌, ◌-◌, ◌≤◌, ◌<◌, eqb, ltb, length, get_or, drop, replicate}
+use Rattle.message_answers.specs.Messages.{MessageTold}
+use Rattle.bridge.specs.Told.{TakeTold, FrameTold, StartTold, UnitTold, CountsTold, Took, Told}
+use Rattle.queue.specs.declared.Frame.{Frame}
+use Rattle.std.specs.Prelude.{◌≡◌, ◌⊎◌, Bool, true, false, not, cond, ◌&&◌, ◌||◌, ℕ, ◌+◌, ◌-◌, ◌≤◌, ◌<◌, eqb, ltb, length, get_or, drop, replicate, Option}
 use mathlib.Core.List.{List, [], ◌∷◌, ◌++◌, Memᴰ}
 use contract.Lifetimes.{Lfts}
 use Rattle.std.specs.Borrow.{Bor, MutBor}
@@ -14,16 +17,8 @@ use Rattle.unit.specs.Count.{count_of, ports_of}
 use Rattle.unit.specs.Model.{record_length}
 use Rattle.unit.specs.PowerOn.{not_long}
 use Rattle.unit.specs.Own.{is_unstarted, is_claiming}
-use Rattle.queue.specs.declared.Taken.{Taken}
 use Rattle.delivery.specs.Calls.{Run}
 use Rattle.unit.specs.declared.Unit.{Unit}
-use Rattle.bridge.specs.declared.FrameAnswer.{FrameAnswer}
-use Rattle.bridge.specs.declared.TakeAnswer.TheVariants.{Refused, Took}
-use Rattle.bridge.specs.declared.StartAnswer.{StartAnswer}
-use Rattle.bridge.specs.declared.UnitAnswer.{UnitAnswer}
-use Rattle.bridge.specs.declared.UnitAnswer.TheVariants.{Told}
-use Rattle.bridge.specs.declared.CountsAnswer.{CountsAnswer}
-use Rattle.message_answers.specs.declared.MessageAnswer.{MessageAnswer}
 use Rattle.bridge.specs.Calls.{Call, FrameIn, TakeOut, Message, Start, Quiet, ReadUnit, ReadCounts}
 use Rattle.flat_answers.specs.Answers.{take_words, bytes_of_taken}
 use Rattle.deorasaeng.specs.Interface.{over}
@@ -120,21 +115,21 @@ call_of (CTakeQueue port answer bytes) = TakeOut port
 
 -- what it gave is that call's answer, in the words of Words.antt: "on a refusal the answer is left as it was"
 pub data Tells : Exported → Answer → Gave → Type 0 where
-  of_frame : {port id : ℕ} {bytes answer : List ℕ} {g : Gave} (r : FrameAnswer) → g ≡ gave r.refusal (unless_refused r.refusal (words_of_frame r) answer) []
+  of_frame : {port id : ℕ} {bytes answer : List ℕ} {g : Gave} (r : FrameTold) → g ≡ gave r.refusal (unless_refused r.refusal (words_of_frame r) answer) []
       → Tells (CFrame port id bytes answer) (ToFrame r) g
-  of_take : {port : ℕ} {answer bytes : List ℕ} {g : Gave} (taken : Taken) → g ≡ gave 0 (take_words taken) (bytes_of_taken taken bytes)
+  of_take : {port : ℕ} {answer bytes : List ℕ} {g : Gave} (taken : Option Frame) → g ≡ gave 0 (take_words taken) (bytes_of_taken taken bytes)
       → Tells (CTake port answer bytes) (ToTake (Took taken)) g
   of_refused_take : {port : ℕ} {answer bytes : List ℕ} {g : Gave} (number : ℕ) → (number ≡ 0 → ⊥) → g ≡ gave number answer bytes
-      → Tells (CTake port answer bytes) (ToTake (Refused number)) g
-  of_message : {port requester : ℕ} {payload reply answer : List ℕ} {g : Gave} (r : MessageAnswer) (written : List ℕ)
+      → Tells (CTake port answer bytes) (ToTake (TakeTold.Refused number)) g
+  of_message : {port requester : ℕ} {payload reply answer : List ℕ} {g : Gave} (r : MessageTold) (written : List ℕ)
       → g ≡ gave r.refusal (words_of r) (over written reply) → Tells (CMessage port requester payload reply answer) (ToMessage r written) g
-  of_start : {answer : List ℕ} {g : Gave} (r : StartAnswer) → g ≡ gave r.refusal (unless_refused r.refusal (words_of_start r) answer) [] → Tells (CStart answer) (ToStart r) g
+  of_start : {answer : List ℕ} {g : Gave} (r : StartTold) → g ≡ gave r.refusal (unless_refused r.refusal (words_of_start r) answer) [] → Tells (CStart answer) (ToStart r) g
   of_quiet : {g : Gave} (number : ℕ) → g ≡ gave number [] [] → Tells CQuiet (ToQuiet number) g
   of_unit_lem : {answer : List ℕ} {g : Gave} (own : Unit) → g ≡ gave 0 (words_of_unit own) [] → Tells (CUnit answer) (ToUnit (Told own)) g
-  of_refused_unit : {answer : List ℕ} {g : Gave} (number : ℕ) → (number ≡ 0 → ⊥) → g ≡ gave number answer [] → Tells (CUnit answer) (ToUnit (UnitAnswer.Refused number)) g
-  of_counts : {port : ℕ} {answer : List ℕ} {g : Gave} (r : CountsAnswer) → g ≡ gave r.refusal (unless_refused r.refusal (words_of_counts r.tally) answer) []
+  of_refused_unit : {answer : List ℕ} {g : Gave} (number : ℕ) → (number ≡ 0 → ⊥) → g ≡ gave number answer [] → Tells (CUnit answer) (ToUnit (UnitTold.Refused number)) g
+  of_counts : {port : ℕ} {answer : List ℕ} {g : Gave} (r : CountsTold) → g ≡ gave r.refusal (unless_refused r.refusal (words_of_counts r.tally) answer) []
       → Tells (CCounts port answer) (ToCounts r) g
-  of_queue : {port : ℕ} {answer bytes : List ℕ} {g : Gave} (taken : Taken) → g ≡ gave 0 (take_words taken) (bytes_of_taken taken bytes)
+  of_queue : {port : ℕ} {answer bytes : List ℕ} {g : Gave} (taken : Option Frame) → g ≡ gave 0 (take_words taken) (bytes_of_taken taken bytes)
       → Tells (CTakeQueue port answer bytes) (ToTake (Took taken)) g
 
 -- lent another length: refused with 2, or with 1 where there is no such port, and nothing is touched

@@ -1,5 +1,7 @@
 -- The words of the answers in their literals, word by word in the order of include/deorasaeng.h. They share nothing with the code's own definitions (Answers.antt of
 -- `flat_answers`), so that two words exchanged, or one cut, in code and definition together is refused. Assumes nothing.
+use Rattle.message_answers.specs.Messages.{MessageTold}
+use Rattle.bridge.specs.Told.{FrameTold, StartTold}
 use Rattle.std.specs.Prelude.{ℕ, cond, List, [], ◌∷◌, eqb, get_or}
 use Rattle.address_claims.specs.declared.Event.{Event}
 use Rattle.address_claims.specs.declared.Event.TheVariants.{Nothing, Withdrew, Defended, Displaced, Recorded, Refreshed, TookOver, Beaten}
@@ -7,9 +9,6 @@ use Rattle.queue.specs.declared.Tally.{Tally}
 use Rattle.unit.specs.declared.Claim.{Claim}
 use Rattle.unit.specs.declared.Claim.TheVariants.{Unstarted, Claiming, Claimed, Lost}
 use Rattle.unit.specs.declared.Unit.{Unit}
-use Rattle.bridge.specs.declared.FrameAnswer.{FrameAnswer}
-use Rattle.bridge.specs.declared.StartAnswer.{StartAnswer}
-use Rattle.message_answers.specs.declared.MessageAnswer.{MessageAnswer}
 
 -- none, Withdrew, Defended, Displaced, Recorded, Refreshed, TookOver, Beaten
 abbrev pub event_word : Event → ℕ
@@ -40,15 +39,15 @@ state_word Claimed = 2
 state_word Lost = 3
 
 -- consumed, accepted, lost, event, old NAME, own frame lost, compared, reasons
-abbrev pub words_of_frame : FrameAnswer → List ℕ
+abbrev pub words_of_frame : FrameTold → List ℕ
 words_of_frame a = cond a.consumed 1 0 ∷ a.accepted ∷ a.lost ∷ event_word a.event ∷ old_name_word a.event ∷ a.unsent ∷ a.compared ∷ a.reasons ∷ []
 
 -- PGN, length, and which entry was wrong: its number, the To port, the PGN
-abbrev pub words_of : MessageAnswer → List ℕ
+abbrev pub words_of : MessageTold → List ℕ
 words_of r = r.pgn ∷ r.length ∷ r.told.entry ∷ r.told.to ∷ r.told.pgn ∷ []
 
 -- own frame lost, state
-abbrev pub words_of_start : StartAnswer → List ℕ
+abbrev pub words_of_start : StartTold → List ℕ
 words_of_start a = a.unsent ∷ state_word a.claim ∷ []
 
 -- state, address, preferred address, NAME, ports

@@ -14,8 +14,9 @@ use Rattle.storage.proofs.Bytes.{AllBytes, bytes_back, packed_small}
 use Rattle.text.specs.Digits.{hex_of, hex_bytes}
 use Rattle.text.proofs.Digits.{hex_take_long, byte_of_pair, hex_back, hex_bytes_long, hex_bytes_small, four_back}
 use Rattle.candump.specs.declared.Arrival.{Arrival}
-use Rattle.candump.specs.declared.Line.{Line}
-use Rattle.candump.specs.declared.Line.TheVariants.{Frame, Refused}
+use Rattle.candump.specs.declared.refusal.Refusal.{Refusal}
+use Rattle.candump.specs.declared.refusal.Refusal.TheVariants.{NoFrame}
+use Rattle.std.specs.Prelude.{Result, Ok, Err}
 use Rattle.candump.specs.Line.{stamp, body, written, fits, alike, is_frame, id_in, data_in, len_in, arrival_in, shows, is_line, Good}
 use Rattle.candump.specs.Calls.{line_read}
 use Rattle.candump.specs.Exact.{IsWritten, Exact, Again}
@@ -29,14 +30,8 @@ or_false false h = h
 alike_same : (cs ds : List ℕ) → alike 0 cs ds ≡ true → cs ≡ ds
 unfolding alike
 alike_same [] [] h = refl
-alike_same [] (d ∷ ds) h = absurd (never h)
-  where
-    never : false ≡ true → ⊥
-    never z = let y : ◌≡◌ {A = ℕ} 0 1 = cc in omega arith
-alike_same (c ∷ cs) [] h = absurd (never h)
-  where
-    never : false ≡ true → ⊥
-    never z = let y : ◌≡◌ {A = ℕ} 0 1 = cc in omega arith
+alike_same [] (d ∷ ds) h = absurd (cc)
+alike_same (c ∷ cs) [] h = absurd (cc)
 alike_same (c ∷ cs) (d ∷ ds) h =
     let here : c ≡ d = eqb-true c d (or_false (eqb c d) (and_left (eqb c d || false) _ h)) in
     let there : cs ≡ ds = alike_same cs ds (and_right (eqb c d || false) _ h) in
@@ -49,10 +44,7 @@ less n = omega arith
 pub alike_rest : (s t cs : List ℕ) → alike (length s) cs (s ++ t) ≡ true → drop (length s) cs ≡ t
 unfolding alike
 alike_rest [] t cs h = alike_same cs t h
-alike_rest (x ∷ s) t [] h = absurd (never h)
-  where
-    never : false ≡ true → ⊥
-    never z = let y : ◌≡◌ {A = ℕ} 0 1 = cc in omega arith
+alike_rest (x ∷ s) t [] h = absurd (cc)
 alike_rest (x ∷ s) t (c ∷ cs) h = alike_rest s t cs (rw (less (length s)) at (and_right (fits (ltb 0 (suc (length s))) c x) _ h))
 
 pub alike_self : (k : ℕ) (cs : List ℕ) → alike k cs cs ≡ true
@@ -109,7 +101,7 @@ written_shown : (line : List ℕ) (a : Arrival) → IsWritten line a → a ≡ s
 unfolding written
 written_shown line a w = sym (ap arrival_in (alike_rest stamp (body a) line w.1) ∙ shown a w.0)
 
-read_written : (line : List ℕ) (a : Arrival) → IsWritten line a → line_read line ≡ Frame a
+read_written : (line : List ℕ) (a : Arrival) → IsWritten line a → line_read line ≡ Ok a
 read_written line a w =
     let g = w.0 in
     sym (read_frame line (written_shown line a w) (parts_frame a g.first g.last g.narrow g.short) w.1)
@@ -129,22 +121,22 @@ shown_written line e =
       and_right (is_frame (shows line)) _ e,
     )
 
-read_shown : (line : List ℕ) → is_line line ≡ true → line_read line ≡ Frame (shows line)
+read_shown : (line : List ℕ) → is_line line ≡ true → line_read line ≡ Ok (shows line)
 unfolding line_read
 read_shown line e = rw e
 
-no_two : {line : Line} {a : Arrival} {n : ℕ} → line ≡ Frame a → line ≡ Refused n → ⊥
-no_two p q = let z : ◌≡◌ {A = ℕ} 0 1 = cc in omega arith
+no_two : {r : Result Arrival Refusal} {a : Arrival} {e : Refusal} → r ≡ Ok a → r ≡ Err e → ⊥
+no_two p q = cc
 
-same_frame : {line : Line} {a b : Arrival} → line ≡ Frame a → line ≡ Frame b → a ≡ b
+same_frame : {r : Result Arrival Refusal} {a b : Arrival} → r ≡ Ok a → r ≡ Ok b → a ≡ b
 same_frame p q = cc
 
 -- whether or not the line is a frame's
-frame_case : (line : List ℕ) (b : Bool) → is_line line ≡ b → (a : Arrival) → line_read line ≡ Frame a → IsWritten line a
+frame_case : (line : List ℕ) (b : Bool) → is_line line ≡ b → (a : Arrival) → line_read line ≡ Ok a → IsWritten line a
 frame_case line true e a h = rw (same_frame h (read_shown line e)) (shown_written line e)
 frame_case line false e a h = absurd (no_two h (sym (read_refused line e)))
 
-refused_case : (line : List ℕ) (b : Bool) → is_line line ≡ b → ((a : Arrival) → IsWritten line a → ⊥) → line_read line ≡ Refused 26
+refused_case : (line : List ℕ) (b : Bool) → is_line line ≡ b → ((a : Arrival) → IsWritten line a → ⊥) → line_read line ≡ Err NoFrame
 refused_case line true e n = absurd (n (shows line) (shown_written line e))
 refused_case line false e n = sym (read_refused line e)
 

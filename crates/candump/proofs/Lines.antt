@@ -6,8 +6,8 @@ use Prim.Native.Nat.{ℕ, suc, ◌+◌, ◌-◌, ◌*◌, ◌^◌, ◌≤◌, �
 use native.Mathlib.Decide.{dec_lt}
 use native.Mathlib.Numerals.{add-one}
 use native.Mathlib.Omega.{arith}
-use borrow.Author.Tests.{lt-ltb, le-ltb, le-leb, lt-leb, ne_eqb, ltb-true, ltb-false, leb-true}
-use lib.Dec.{eqb, ltb, leb}
+use borrow.Author.Tests.{lt-ltb, le-ltb, le-leb, lt-leb, ltb-true, ltb-false, leb-true}
+use lib.Dec.{ltb, leb}
 use lib.ListN.{length, get_or, take, drop, length-append, length-drop, drop_of_length-le}
 use lib.Seq.{take_at, take_all, drop-cons, length-take-le, get_or-take, get_or-drop}
 use Rattle.storage.specs.Bytes.{packed, bytes_of}
@@ -17,7 +17,9 @@ use Rattle.text.specs.Digits.{hex_of, hex_bytes, pair_at}
 use Rattle.text.proofs.Digits.{hex_take_long, hex_bytes_long, hex_bytes_at, hex_bytes_small}
 use Rattle.candump.specs.declared.Arrival.{Arrival}
 use Rattle.candump.specs.Line.{tail, written, fits, alike, is_frame, len_in, arrival_in, shows, is_line}
-use Rattle.candump.specs.declared.Line.TheVariants.{Frame, Refused}
+use Rattle.candump.specs.declared.refusal.Refusal.{Refusal}
+use Rattle.candump.specs.declared.refusal.Refusal.TheVariants.{NoPort, NoRoom, WideIdentifier, LongFrame, NoFrame}
+use Rattle.std.specs.Prelude.{Result, Ok, Err}
 use Rattle.candump.specs.Calls.{line_read, line_refusal, WritingLine}
 
 -- ---- tests
@@ -39,9 +41,9 @@ not_false true h = refl
 not_false false h = sym h
 
 -- a check that did not apply
-passed : (b : Bool) (n x : ℕ) → cond b (suc n) x ≡ 0 → (b ≡ false) × (x ≡ 0)
-passed true n x h = absurd (omega arith)
-passed false n x h = (refl, h)
+passed : (b : Bool) (e : Refusal) (x : Result Unit Refusal) → cond b (Err e) x ≡ Ok tt → (b ≡ false) × (x ≡ Ok tt)
+passed true e x h = absurd (cc)
+passed false e x h = (refl, h)
 
 -- ---- what is written
 pub tail_long : (id len bytes : ℕ) → len ≤ 8 → length (tail id len bytes) ≡ 10 + 2 * len
@@ -55,6 +57,10 @@ written_long a h = omega (arith, tail_long a.id a.len a.bytes h)
 -- text at the start of a buffer, read back
 pub put_start : (t lent : List ℕ) (n : ℕ) → n ≡ 0 + length t → take n (put 0 t lent) ≡ t
 put_start t lent n e = take_at t (drop (0 + length t) lent) n (omega arith)
+
+-- what was written there
+pub put_whole : {lent back t : List ℕ} {n : ℕ} → Writing lent back 0 t n → take n back ≡ t
+put_whole {lent} {back} {t} {n} w = rw w.bytes (put_start t lent n w.next)
 
 -- ---- what is compared
 -- texts of two lengths are not alike
@@ -166,39 +172,36 @@ pub record Goes (room : ℕ) (a : Arrival) : Type 0 where
   pub named : a.port ≤ 4
   pub short : a.len ≤ 8
 
-pub goes : (room : ℕ) (a : Arrival) → line_refusal room a ≡ 0 → Goes room a
+pub goes : (room : ℕ) (a : Arrival) → line_refusal room a ≡ Ok tt → Goes room a
 unfolding line_refusal
 goes room a h =
-    let one = passed (not (leb 1 a.port && leb a.port 4)) 0 _ h in
-    let two = passed (ltb room 51) 1 _ one.1 in
-    let three = passed (not (ltb a.id (2 ^ 29))) 2 _ two.1 in
-    let four = passed (ltb 8 a.len) 3 0 three.1 in
+    let one = passed (not (leb 1 a.port && leb a.port 4)) NoPort _ h in
+    let two = passed (ltb room 51) NoRoom _ one.1 in
+    let three = passed (not (ltb a.id (2 ^ 29))) WideIdentifier _ two.1 in
+    let four = passed (ltb 8 a.len) LongFrame _ three.1 in
     record {
       fits = ltb-false room 51 two.0;
       named = leb-true a.port 4 (and_right (leb 1 a.port) _ (not_false _ one.0));
       short = ltb-false 8 a.len four.0;
     }
 
-pub line_refused : {lent : List ℕ} {a : Arrival} {n : ℕ} → n ≡ line_refusal (length lent) a → (n ≡ 0 → ⊥) → WritingLine lent lent a (record { number = n; length = 0 })
-line_refused {lent} {a} {n} e z =
-    let f : eqb (line_refusal (length lent) a) 0 ≡ false = ne_eqb (line_refusal (length lent) a) 0 (λ y. z (e ∙ y)) in
-    record { number = e; size = rw f; line = rw f }
+pub line_refused : {lent : List ℕ} {a : Arrival} {e : Refusal} → line_refusal (length lent) a ≡ Err e → WritingLine lent lent a (Err e)
+line_refused h = record { outcome = rw h (refl, refl) }
 
-pub line_written : {lent back : List ℕ} {a : Arrival} {r : ℕ} → line_refusal (length lent) a ≡ 0 → Writing lent back 0 (written a) r
-    → WritingLine lent back a (record { number = 0; length = r })
-line_written {lent} {back} {a} {r} e w = record { number = sym e; size = rw e (w.next ∙ omega arith); line = rw e w.bytes }
+pub line_written : {lent back : List ℕ} {a : Arrival} {r : ℕ} → line_refusal (length lent) a ≡ Ok tt → Writing lent back 0 (written a) r → WritingLine lent back a (Ok r)
+line_written h w = record { outcome = rw h (ap Ok (w.next ∙ omega arith), w.bytes) }
 
 -- ---- what a line is read as
 -- what follows the time, as a part of the line
 pub shows_part : (line : List ℕ) → arrival_in (take (length line - 19) (drop 19 line)) ≡ shows line
 shows_part line = ap arrival_in (take_all (length line - 19) (drop 19 line) (omega (arith, length-drop 19 line)))
 
-pub read_refused : (line : List ℕ) → is_line line ≡ false → Refused 26 ≡ line_read line
+pub read_refused : (line : List ℕ) → is_line line ≡ false → Err NoFrame ≡ line_read line
 unfolding line_read
 read_refused line h = rw h
 
 module _ (line : List ℕ) {a : Arrival} (e : a ≡ shows line) where
-  pub read_frame : is_frame a ≡ true → alike 19 line (written a) ≡ true → Frame a ≡ line_read line
+  pub read_frame : is_frame a ≡ true → alike 19 line (written a) ≡ true → Ok a ≡ line_read line
   unfolding line_read is_line
   read_frame h l = rw (rw e at h, rw e at l, e)
 

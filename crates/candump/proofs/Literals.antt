@@ -12,7 +12,9 @@ use lib.Seq.{get_or-drop}
 use Rattle.storage.specs.Bytes.{packed, bytes_of}
 use Rattle.text.specs.Digits.{hex_digit, hex_value, hex_of, hex_bytes}
 use Rattle.candump.specs.declared.Arrival.{Arrival}
-use Rattle.candump.specs.declared.Line.TheVariants.{Frame}
+use Rattle.candump.specs.declared.refusal.Refusal.TheVariants.{NoPort, NoRoom, WideIdentifier, LongFrame}
+use Rattle.std.specs.Prelude.{Ok, Err}
+use Rattle.candump.specs.Refusals.{number_in}
 use Rattle.candump.specs.Line.{stamp, body, written, alike, is_frame, id_in, data_in, arrival_in, is_line}
 use Rattle.candump.specs.Calls.{line_read, line_refusal}
 use Rattle.candump.specs.Exact.{IsWritten}
@@ -34,14 +36,17 @@ not_below n m =
       | no k ↦ ap not (le-ltb n m (omega arith)) ∙ sym (le-leb m n (omega arith))
     ]
 
-turned : (b : Bool) (x y : ℕ) → cond (not b) x y ≡ cond b y x
-turned true x y = refl
-turned false x y = refl
-
 in_order : (room : ℕ) (a : Arrival)
-    → line_refusal room a ≡ cond (leb 1 a.port && leb a.port 4) (cond (ltb room 51) 2 (cond (leb 536870912 a.id) 3 (cond (leb 9 a.len) 4 0))) 1
+    → number_in (line_refusal room a) ≡ cond (leb 1 a.port && leb a.port 4) (cond (ltb room 51) 2 (cond (leb 536870912 a.id) 3 (cond (leb 9 a.len) 4 0))) 1
 unfolding line_refusal
-in_order room a = rw (not_below a.id (2 ^ 29), ← at_most 8 a.len) (turned (leb 1 a.port && leb a.port 4) _ _)
+in_order room a = rw (not_below a.id (2 ^ 29), ← at_most 8 a.len) (by (leb 1 a.port && leb a.port 4) (ltb room 51) (leb 536870912 a.id) (leb 9 a.len))
+  where
+    by : (p q r s : Bool) → number_in {T = Unit} (cond (not p) (Err NoPort) (cond q (Err NoRoom) (cond r (Err WideIdentifier) (cond s (Err LongFrame) (Ok tt))))) ≡ cond p (cond q 2 (cond r 3 (cond s 4 0))) 1
+    by false q r s = refl
+    by true true r s = refl
+    by true false true s = refl
+    by true false false true = refl
+    by true false false false = refl
 
 -- ---- what is read
 of_frame : (line : List ℕ) (a : Arrival) → IsWritten line a
@@ -53,7 +58,7 @@ of_frame line a w =
     (omega arith, omega arith, omega arith, w.0.narrow, w.0.short)
 
 read_again : (port id len bytes : ℕ) → 1 ≤ port → port ≤ 4 → id < 536870912 → len ≤ 8 → bytes < 256 ^ len
-    → line_read (written (arrival port id len bytes)) ≡ Frame (arrival port id len bytes)
+    → line_read (written (arrival port id len bytes)) ≡ Ok (arrival port id len bytes)
 read_again port id len bytes f l n s b = again (arrival port id len bytes) (record { first = f; last = l; narrow = n; short = s; filled = b })
 
 -- the example with another port

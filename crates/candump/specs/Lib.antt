@@ -1,4 +1,5 @@
 pub mod Line
+pub mod Refusals
 pub mod Calls
 pub mod Exact
 pub mod Literals

@@ -2,10 +2,13 @@
 #![tactic(auto)]
 
 ghost use Rattle.std.specs.Prelude.{◌≡◌, ◌&&◌, ◌||◌, ◌+◌, ◌-◌, ◌*◌, ◌≤◌, ◌<◌, eqb, length, drop};
-ghost use Rattle.text.specs.Digits.{is_decimal};
 ghost use Rattle.text.specs.Writing.{Writing};
 ghost use Rattle.candump.specs.Line.{head, tail, written, fits, alike, is_frame, id_in, data_in, arrival_in};
 ghost use Rattle.candump.specs.Calls.{line_read, line_refusal, WritingLine};
+
+pub use refusal::Refusal;
+
+mod refusal;
 
 // A frame and the port at which it arrived. Its bytes are a word, the first the least significant.
 #[derive(Clone, Copy)]
@@ -14,20 +17,6 @@ pub struct Arrival {
     pub id: u32,
     pub len: u32,
     pub bytes: u64,
-}
-
-// What a line is: a frame, or refused with a number.
-#[derive(Clone, Copy)]
-pub enum Line {
-    Frame(Arrival),
-    Refused(u32),
-}
-
-// What came of writing a frame: the number that refused it, or 0, and how many bytes the line has.
-#[derive(Clone, Copy)]
-pub struct Written {
-    pub number: u32,
-    pub length: usize,
 }
 
 // can1 to can4.
@@ -49,7 +38,7 @@ fn put_head(out: &mut [u8], port: u32) -> usize
     ensures { Writing out.old out.new 0 (head port) result }
 {
     let next = text::copy(out, 0, b"(0000000000.000000) can");
-    let next = text::byte(out, next, 48 + port as u8);
+    let next = text::byte(out, next, b'0' + port as u8);
     text::byte(out, next, b' ')
 }
 
@@ -74,38 +63,18 @@ fn put(out: &mut [u8], a: Arrival) -> usize
 }
 
 // Whether there is such a frame: port 1 to 4, identifier below 2^29, at most eight bytes.
+#[tactic(auto, using(std::proofs::lemmas::Bool::Decides::nat_tests), unfolding(crate::specs::Line::is_frame, crate::specs::Calls::line_refusal))]
 fn is_frame(a: Arrival) -> bool
     ensures { result ≡ is_frame a }
 {
-    if a.port < 1 {
-        return false;
-    }
-    if LAST_PORT < a.port {
-        return false;
-    }
-    if IDENTIFIERS <= a.id {
-        return false;
-    }
-    if 8 < a.len {
-        return false;
-    }
-    true
+    check_frame(LONGEST, a).is_ok()
 }
 
 // Whether a character may stand for another: it is the same, or both are digits of the time.
 fn fits_in(c: u8, d: u8, timed: bool) -> bool
     ensures { result ≡ fits timed c d }
 {
-    if c == d {
-        return true;
-    }
-    if timed {
-        if text::is_decimal(c) {
-            return text::is_decimal(d);
-        }
-        return false;
-    }
-    false
+    c == d || timed && c.is_ascii_digit() && d.is_ascii_digit()
 }
 
 // Whether a line is a text, the time's digits aside.
@@ -115,11 +84,8 @@ fn is_alike(line: &[u8], characters: &[u8]) -> bool
     if line.len() != characters.len() {
         return false;
     }
-    let mut i = 0;
-    while i < line.len() {
-        if fits_in(line[i], characters[i], i < STAMP) {
-            i += 1;
-        } else {
+    for (i, c) in line.iter().enumerate() {
+        if !fits_in(*c, characters[i], i < STAMP) {
             return false;
         }
     }
@@ -132,50 +98,38 @@ fn data_in(rest: &[u8], len: usize) -> u64
     ensures { result ≡ data_in rest.now len }
 {
     let mut word: u64 = 0;
-    let mut i = len;
-    while 0 < i {
-        i -= 1;
-        word = text::pair_value(rest, 15 + 2 * i) as u64 + 256 * word;
+    for i in (0..len).rev() {
+        word = u64::from(text::pair_value(rest, 15 + 2 * i)) + 256 * word;
     }
     word
 }
 
 // The identifier that a line shows.
+#[tactic(auto, unfolding(crate::specs::Line::id_in))]
 fn id_in(rest: &[u8]) -> u32
     requires { 16 ≤ length rest.now }
     ensures { result ≡ id_in rest.now }
 {
-    let a = text::pair_value(rest, 6);
-    let b = text::pair_value(rest, 8);
-    let c = text::pair_value(rest, 10);
-    let d = text::pair_value(rest, 12);
-    16777216 * a as u32 + 65536 * b as u32 + 256 * c as u32 + d as u32
-}
-
-// The port that a character names, 0 below 1.
-fn port_in(c: u8) -> u32
-    ensures { result ≡ c - 48 }
-{
-    if c < 48 {
-        return 0;
-    }
-    c as u32 - 48
+    u32::from_be_bytes([
+        text::pair_value(rest, 6),
+        text::pair_value(rest, 8),
+        text::pair_value(rest, 10),
+        text::pair_value(rest, 12),
+    ])
 }
 
 // What a line shows at the places of a frame's parts, whatever else stands there.
+#[tactic(auto, unfolding(crate::specs::Line::arrival_in))]
 fn arrival_in(rest: &[u8]) -> Arrival
     requires { (16 ≤ length rest.now) × (length rest.now ≤ 33) }
     ensures { result ≡ arrival_in rest.now }
 {
     let len = (rest.len() - 16) / 2;
-    let port = port_in(rest[4]);
-    let id = id_in(rest);
-    let bytes = data_in(rest, len);
     Arrival {
-        port,
-        id,
+        port: u32::from(rest[4].saturating_sub(b'0')),
+        id: id_in(rest),
         len: len as u32,
-        bytes,
+        bytes: data_in(rest, len),
     }
 }
 
@@ -184,63 +138,50 @@ fn is_written(line: &[u8], a: Arrival) -> bool
     requires { (a.port ≤ 4) × (a.len ≤ 8) }
     ensures { result ≡ alike 19 line.now (written a) }
 {
-    let mut space = [0u8; LONGEST];
-    let out: &mut [u8] = &mut space;
-    let end = put(out, a);
-    let characters = &out[..];
-    is_alike(line, &characters[0..end])
+    let mut out = [0u8; LONGEST];
+    let end = put(&mut out, a);
+    is_alike(line, &out[..end])
 }
 
-// A line, its line feed with it, as a frame; refused with 26 where no frame is written so, the time's digits aside.
-pub fn read_line(line: &[u8]) -> Line
+// A line, its line feed with it, as a frame; refused where no frame is written so, the time's digits aside.
+pub fn read_line(line: &[u8]) -> Result<Arrival, Refusal>
     ensures { result ≡ line_read line.now }
 {
-    if line.len() < SHORTEST {
-        return Line::Refused(26);
-    }
-    if LONGEST + 1 < line.len() {
-        return Line::Refused(26);
+    if line.len() < SHORTEST || LONGEST + 1 < line.len() {
+        return Err(Refusal::NoFrame);
     }
     let a = arrival_in(&line[STAMP..]);
-    if is_frame(a) {
-        if is_written(line, a) {
-            return Line::Frame(a);
-        }
-        return Line::Refused(26);
+    if is_frame(a) && is_written(line, a) {
+        Ok(a)
+    } else {
+        Err(Refusal::NoFrame)
     }
-    Line::Refused(26)
 }
 
-// The number that writing a frame is refused with, or 0.
-fn line_refusal(room: usize, a: Arrival) -> u32
+// Why writing a frame is refused.
+#[tactic(auto, using(std::proofs::lemmas::Bool::Decides::nat_tests), unfolding(crate::specs::Calls::line_refusal))]
+fn check_frame(room: usize, a: Arrival) -> Result<(), Refusal>
     ensures { result ≡ line_refusal room a }
 {
-    if a.port < 1 {
-        return 1;
-    }
-    if LAST_PORT < a.port {
-        return 1;
+    if a.port < 1 || LAST_PORT < a.port {
+        return Err(Refusal::NoPort);
     }
     if room < LONGEST {
-        return 2;
+        return Err(Refusal::NoRoom);
     }
     if IDENTIFIERS <= a.id {
-        return 3;
+        return Err(Refusal::WideIdentifier);
     }
     if 8 < a.len {
-        return 4;
+        return Err(Refusal::LongFrame);
     }
-    0
+    Ok(())
 }
 
-// A frame as a line in a buffer that has room for the longest. Refused with 1, 2, 3 or 4; then nothing is written.
-pub fn write_line(line: &mut [u8], a: Arrival) -> Written
+// A frame as a line in a buffer that has room for the longest: the line's length. Of a refusal nothing is written.
+pub fn write_line(line: &mut [u8], a: Arrival) -> Result<usize, Refusal>
     ensures { WritingLine line.old line.new a result }
 {
-    let number = line_refusal(line.len(), a);
-    if number != 0 {
-        return Written { number, length: 0 };
-    }
-    let length = put(line, a);
-    Written { number: 0, length }
+    check_frame(line.len(), a)?;
+    Ok(put(line, a))
 }

@@ -1,3 +1,4 @@
 pub mod Tests
 pub mod Ports
 pub mod FirstNumber
+pub mod Refusals

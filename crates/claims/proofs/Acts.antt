@@ -1,4 +1,5 @@
 -- What is done about a claim, a request or Start, by the way that the code went. Assumes nothing.
+use Rattle.std.specs.Prelude.{None, Some}
 use mathlib.Core.Path.{◌≡◌, sym, ◌∙◌}
 use mathlib.Core.Bool.{Bool, true, false}
 use mathlib.Core.List.{List}
@@ -8,13 +9,10 @@ use lib.ListN.{get_or, set}
 use lib.Dec.{ltb, eqb}
 use Rattle.identifier.specs.Identifier.{sa_of}
 use Rattle.queue.specs.declared.Frame.{Frame}
-use Rattle.addresses.specs.declared.Place.TheVariants.{Free}
 use Rattle.address_claims.specs.declared.Event.{Event}
 use Rattle.address_claims.specs.declared.Event.TheVariants.{Nothing, Defended, Displaced}
 use Rattle.address_claims.specs.Claims.{others_dropped, settled, claimed, claim_event, withdrawn, withdraw_event}
 use Rattle.unit.specs.declared.Claim.TheVariants.{Claiming, Lost}
-use Rattle.unit.specs.declared.Sent.{Sent}
-use Rattle.unit.specs.declared.Sent.TheVariants.{One}
 use Rattle.unit.specs.declared.Unit.{Unit}
 use Rattle.claims.specs.declared.Acted.{Acted as Done}
 use Rattle.unit.specs.Model.{model_of, with_own, with_rest}
@@ -31,14 +29,14 @@ module _ (ports : ℕ) (words : List ℕ) (u : Unit) (own : u ≡ (model_of port
   -- ---- a claim of the unit's address
   module _ (port address name : ℕ) where
     pub defended : {after : List ℕ} {f : Frame} → u.name < name → TableChanging ports words after (others_dropped name address) → f ≡ claim_frame u
-        → Acting ports words after (contested (model_of ports words).rest port address name) (record { event = Defended; sent = One f })
+        → Acting ports words after (contested (model_of ports words).rest port address name) (record { event = Defended; sent = Some f })
     unfolding contested
     defended h T e =
         let t : ltb (model_of ports words).rest.own.name name ≡ true = rw (← own) (lt-ltb u.name name h) in
         record { event = rw t; sent = rw (t, e, own); state = rw t T.state }
 
     pub displaced : {mid after : List ℕ} {v : Unit} {f : Frame} → name ≤ u.name → TableChanging ports words mid (settled port address name) → v ≡ moved u Lost 254 → Stored ports mid after v
-        → f ≡ cannot_claim_frame u → Acting ports words after (contested (model_of ports words).rest port address name) (record { event = Displaced; sent = One f })
+        → f ≡ cannot_claim_frame u → Acting ports words after (contested (model_of ports words).rest port address name) (record { event = Displaced; sent = Some f })
     unfolding contested
     displaced h T m S e =
         let t : ltb (model_of ports words).rest.own.name name ≡ false = rw (← own) (le-ltb u.name name h) in
@@ -46,7 +44,7 @@ module _ (ports : ℕ) (words : List ℕ) (u : Unit) (own : u ≡ (model_of port
 
   -- ---- a claim
   module _ (port : ℕ) (f : Frame) (r : Done) where
-    pub own_claim : f.bytes ≡ u.name → (r.event ≡ Nothing) × (r.sent ≡ Sent.Nothing) → Acting ports words words (claim_acted (model_of ports words).rest port f) r
+    pub own_claim : f.bytes ≡ u.name → (r.event ≡ Nothing) × (r.sent ≡ None) → Acting ports words words (claim_acted (model_of ports words).rest port f) r
     unfolding claim_acted
     own_claim h A =
         let t : eqb f.bytes (model_of ports words).rest.own.name ≡ true = rw (← own) (eq-eqb f.bytes u.name h) in
@@ -57,7 +55,7 @@ module _ (ports : ℕ) (words : List ℕ) (u : Unit) (own : u ≡ (model_of port
       another = rw (← own) (ne_eqb f.bytes u.name other)
 
       pub withdrawal : {after : List ℕ} {e : Event} → source ≡ 254 → TableClaiming ports words after (withdrawn f.bytes) (withdraw_event f.bytes) e
-          → (r.event ≡ e) × (r.sent ≡ Sent.Nothing) → Acting ports words after (claim_acted (model_of ports words).rest port f) r
+          → (r.event ≡ e) × (r.sent ≡ None) → Acting ports words after (claim_acted (model_of ports words).rest port f) r
       unfolding claim_acted
       withdrawal h T A =
           let s : eqb (sa_of f.id) 254 ≡ true = rw (← is) (eq-eqb source 254 h) in
@@ -75,7 +73,7 @@ module _ (ports : ℕ) (words : List ℕ) (u : Unit) (own : u ≡ (model_of port
         contesting t C = rw (another, address, mine_is, t, ← is) C
 
         pub claiming : {after : List ℕ} {e : Event} → b ≡ false → TableClaiming ports words after (claimed port source f.bytes) (claim_event source f.bytes) e
-            → (r.event ≡ e) × (r.sent ≡ Sent.Nothing) → Acting ports words after (claim_acted (model_of ports words).rest port f) r
+            → (r.event ≡ e) × (r.sent ≡ None) → Acting ports words after (claim_acted (model_of ports words).rest port f) r
         unfolding claim_acted
         claiming t T A =
             record {
@@ -95,22 +93,22 @@ module _ (ports : ℕ) (words : List ℕ) (port : ℕ) (consumed : Bool) (f : Fr
   unfolding frame_acted
   request_acted n t e s = record { event = rw (n, t) e; sent = rw (n, t) s; state = rw (n, t) }
 
-  pub not_acted : is_claim f ≡ false → is_request_to_unit f consumed ≡ false → (r.event ≡ Nothing) × (r.sent ≡ Sent.Nothing) → Acting ports words words (frame_acted (model_of ports words).rest port consumed f) r
+  pub not_acted : is_claim f ≡ false → is_request_to_unit f consumed ≡ false → (r.event ≡ Nothing) × (r.sent ≡ None) → Acting ports words words (frame_acted (model_of ports words).rest port consumed f) r
   unfolding frame_acted
   not_acted n t A = record { event = rw (n, t) A.0; sent = rw (n, t) A.1; state = rw (n, t) }
 
 -- ---- Start
-module _ (ports : ℕ) (words : List ℕ) (u : Unit) (own : u ≡ (model_of ports words).rest.own) (b : Bool) (under : b ≡ held_under u.name (get_or (model_of ports words).rest.table u.preferred Free)) where
-  under_is : held_under (model_of ports words).rest.own.name (get_or (model_of ports words).rest.table (model_of ports words).rest.own.preferred Free) ≡ b
+module _ (ports : ℕ) (words : List ℕ) (u : Unit) (own : u ≡ (model_of ports words).rest.own) (b : Bool) (under : b ≡ held_under u.name (get_or (model_of ports words).rest.table u.preferred None)) where
+  under_is : held_under (model_of ports words).rest.own.name (get_or (model_of ports words).rest.table (model_of ports words).rest.own.preferred None) ≡ b
   under_is = rw (← own) (sym under)
 
   pub start_lost : {after : List ℕ} {v : Unit} {f : Frame} → b ≡ true → v ≡ moved u Lost 254 → Stored ports words after v → f ≡ cannot_claim_frame u
-      → Acting ports words after (started (model_of ports words).rest) (record { event = Nothing; sent = One f })
+      → Acting ports words after (started (model_of ports words).rest) (record { event = Nothing; sent = Some f })
   unfolding started
   start_lost t m S e = record { event = rw (under_is, t); sent = rw (under_is, t, e, own); state = rw (under_is, t) (S ∙ rw (m, own)) }
 
-  pub start_claiming : {mid after : List ℕ} {v : Unit} {f : Frame} → b ≡ false → TableChanging ports words mid (λ t. set t u.preferred Free) → v ≡ moved u Claiming u.preferred → Stored ports mid after v
-      → f ≡ claim_frame v → Acting ports words after (started (model_of ports words).rest) (record { event = Nothing; sent = One f })
+  pub start_claiming : {mid after : List ℕ} {v : Unit} {f : Frame} → b ≡ false → TableChanging ports words mid (λ t. set t u.preferred None) → v ≡ moved u Claiming u.preferred → Stored ports mid after v
+      → f ≡ claim_frame v → Acting ports words after (started (model_of ports words).rest) (record { event = Nothing; sent = Some f })
   unfolding started
   start_claiming t T m S e = record {
     event = rw (under_is, t);

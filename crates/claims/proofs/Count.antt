@@ -1,4 +1,5 @@
 -- Nothing that is done about a claim, a request or Start changes the number of ports. Assumes nothing.
+use Rattle.std.specs.Prelude.{None}
 use mathlib.Core.Path.{◌≡◌, refl}
 use mathlib.Core.Bool.{Bool, true, false, cond}
 use Prim.Native.Nat.{ℕ}
@@ -6,7 +7,6 @@ use lib.ListN.{get_or}
 use lib.Dec.{ltb, eqb}
 use Rattle.identifier.specs.Identifier.{sa_of}
 use Rattle.queue.specs.declared.Frame.{Frame}
-use Rattle.addresses.specs.declared.Place.TheVariants.{Free}
 use Rattle.unit.specs.Model.{Rest}
 use Rattle.unit.specs.Own.{is_own}
 use Rattle.claims.specs.Claims.{Acted, is_claim, is_request_to_unit, contested, claim_acted, frame_acted, held_under, started}
@@ -36,4 +36,4 @@ module _ (rest : Rest) where
 
   pub started_ports : (started rest).rest.own.ports ≡ rest.own.ports
   unfolding started
-  started_ports = either (held_under rest.own.name (get_or rest.table rest.own.preferred Free)) _ _ refl refl
+  started_ports = either (held_under rest.own.name (get_or rest.table rest.own.preferred None)) _ _ refl refl

@@ -1,75 +1,55 @@
 // What is done about an address claim, a request for one, and Start.
 #![tactic(auto)]
 
-ghost use Rattle.std.specs.Prelude.{◌≡◌, ℕ, ◌≤◌, ◌<◌, length, get_or};
+ghost use Rattle.std.specs.Prelude.{◌≡◌, ℕ, ◌≤◌, ◌<◌, length, get_or, None};
 ghost use Rattle.identifier.specs.Identifier.{sa_of};
 ghost use Rattle.unit.specs.Model.{model_of, rows_from};
 ghost use Rattle.claims.specs.Claims.{is_claim, is_request, is_request_to_unit, contested, claim_acted, frame_acted, held_under, started};
 ghost use Rattle.claims.specs.Steps.{Acting};
 
 use address_claims::Event;
-use addresses::Place;
 use queue::Frame;
-use unit::{Claim, NO_ADDRESS, Sent};
+use unit::{Claim, NO_ADDRESS};
 
 // The claim event, and what the unit sends.
-#[derive(Clone, Copy)]
+#[derive(Clone, Copy, PartialEq, Eq, Debug)]
 pub struct Acted {
     pub event: Event,
-    pub sent: Sent,
+    pub sent: Option<Frame>,
 }
 
 // Whether a frame is an address claim.
+#[tactic(auto, unfolding(crate::specs::Claims::is_claim))]
 pub fn is_claim(f: Frame) -> bool
     ensures { result ≡ is_claim f }
 {
-    if identifier::pgn(f.id) != identifier::ADDRESS_CLAIMED {
-        return false;
-    }
-    if identifier::ps(f.id) != identifier::GLOBAL {
-        return false;
-    }
-    f.len == 8
+    identifier::pgn(f.id) == identifier::ADDRESS_CLAIMED
+        && identifier::ps(f.id) == identifier::GLOBAL
+        && f.len == 8
 }
 
 // Whether a frame is a request for address claimed.
+#[tactic(auto, unfolding(crate::specs::Claims::is_request, storage::specs::Bytes::packed))]
 fn is_request(f: Frame) -> bool
     ensures { result ≡ is_request f }
 {
-    if identifier::pgn(f.id) != identifier::REQUEST {
-        return false;
-    }
-    if f.len != 3 {
-        return false;
-    }
-    f.bytes == 0xEE00
+    identifier::pgn(f.id) == identifier::REQUEST && f.len == 3 && f.bytes == 0xEE00
 }
 
 // Whether such a request is to all, or was consumed.
+#[tactic(auto, unfolding(crate::specs::Claims::is_request_to_unit))]
 fn is_request_to_unit(f: Frame, consumed: bool) -> bool
     ensures { result ≡ is_request_to_unit f consumed }
 {
-    if is_request(f) {
-        if consumed {
-            return true;
-        }
-        return identifier::ps(f.id) == identifier::GLOBAL;
-    }
-    false
+    is_request(f) && (consumed || identifier::ps(f.id) == identifier::GLOBAL)
 }
 
 // Whether an address is held under a NAME lower than this.
 fn is_held_under(words: &[u64], address: usize, name: u64) -> bool
     requires { (rows_from ≤ length words.now) × (address < 254) }
-    ensures { (ports : ℕ) → result ≡ held_under name (get_or (model_of ports words.now).rest.table address Place.Free) }
+    ensures { (ports : ℕ) → result ≡ held_under name (get_or (model_of ports words.now).rest.table address None) }
 {
-    match record::holder(words, address) {
-        Place::Free => false,
-        Place::Held {
-            port: _,
-            name: holder,
-        } => holder < name,
-    }
+    record::holder(words, address).is_some_and(|holder| holder.name < name)
 }
 
 // A claim of the unit's address by another NAME: the unit defends it or is displaced.
@@ -82,7 +62,7 @@ fn contest(words: &mut [u64], port: u64, address: usize, name: u64) -> Acted
         record::drop_others(words, name, address);
         return Acted {
             event: Event::Defended,
-            sent: Sent::One(unit.claim_frame()),
+            sent: Some(unit.claim_frame()),
         };
     }
     record::settle(words, port, address, name);
@@ -90,18 +70,15 @@ fn contest(words: &mut [u64], port: u64, address: usize, name: u64) -> Acted
     unit::store_unit(words, displaced);
     Acted {
         event: Event::Displaced,
-        sent: Sent::One(unit.cannot_claim_frame()),
+        sent: Some(unit.cannot_claim_frame()),
     }
 }
 
 // An event, and no frame of the unit's own.
 fn alone(event: Event) -> Acted
-    ensures { (result.event ≡ event) × (result.sent ≡ Sent.Nothing) }
+    ensures { (result.event ≡ event) × (result.sent ≡ None) }
 {
-    Acted {
-        event,
-        sent: Sent::Nothing,
-    }
+    Acted { event, sent: None }
 }
 
 // An address claim.
@@ -156,7 +133,7 @@ pub fn start(words: &mut [u64]) -> Acted
         unit::store_unit(words, lost);
         return Acted {
             event: Event::Nothing,
-            sent: Sent::One(unit.cannot_claim_frame()),
+            sent: Some(unit.cannot_claim_frame()),
         };
     }
     record::release(words, address);
@@ -164,6 +141,6 @@ pub fn start(words: &mut [u64]) -> Acted
     unit::store_unit(words, claiming);
     Acted {
         event: Event::Nothing,
-        sent: Sent::One(claiming.claim_frame()),
+        sent: Some(claiming.claim_frame()),
     }
 }

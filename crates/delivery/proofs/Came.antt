@@ -4,7 +4,7 @@ use mathlib.Core.Bool.{Bool, true, false, cond}
 use mathlib.Core.Logic.{◌⊎◌, inl, inr}
 use mathlib.Core.List.Memᴰ
 use mathlib.Core.List.{List, [], ◌∷◌, ◌++◌, map, append_assoc, Memᴰ}
-use mathlib.Core.Option.{Option, none, some}
+use Rattle.std.specs.Prelude.{Option, None, Some}
 use Prim.Native.Nat.{ℕ}
 use native.Mathlib.Omega.{arith}
 use lib.Dec.{eqb}
@@ -69,11 +69,11 @@ module _ {F : Type 0} where
   -- one call
   in_call : (n : ℕ) (o : Option ℕ) (q : ℕ) (row sent : List F) (p : List (Event F)) (f : F) (c : List (Event F)) → happens n o q row sent ≡ p ++ Join f ∷ c
       → (earlier : List F) × (p ≡ map Join earlier) × Memᴰ f sent
-  in_call n none q row sent p f c e = go (among_joins (accepted n row sent) p f c e)
+  in_call n None q row sent p f c e = go (among_joins (accepted n row sent) p f c e)
     where
       go : (earlier : List F) × (p ≡ map Join earlier) × Memᴰ f (accepted n row sent) → (earlier : List F) × (p ≡ map Join earlier) × Memᴰ f sent
       go u = (u.0, u.1, was_sent n row sent f u.2)
-  in_call n (some a) q row sent p f c e = absurd (no_join (eqb a q) p f c e)
+  in_call n (Some a) q row sent p f c e = absurd (no_join (eqb a q) p f c e)
 
 -- ---- a list of calls
 module _ {F S C : Type 0} (priority : F → ℕ) (size : ℕ) (next : S → C → S) (asks : S → C → Option ℕ) (sends : S → C → ℕ → List F) (q : ℕ) where

@@ -2,7 +2,7 @@
 use mathlib.Core.Path.{◌≡◌, refl}
 use mathlib.Core.Bool.{Bool, true, false, cond}
 use mathlib.Core.List.{List, [], ◌∷◌}
-use mathlib.Core.Option.{Option, none, some}
+use Rattle.std.specs.Prelude.{Option, None, Some}
 use Prim.Native.Nat.{ℕ, ◌%◌}
 use Rattle.delivery.specs.Row.{pull, given}
 use Rattle.delivery.specs.Port.{Join, Take, ticket, gives, Due}
@@ -13,16 +13,16 @@ abbrev digit : ℕ → ℕ
 digit f = f % 10
 
 -- ---- one port. P11: priorities 6, 6, 3 accepted; three takes give 3, the first 6, the second 6.
-p11_1 : gives digit (Join 16 ∷ Join 26 ∷ Join 3 ∷ []) ≡ some (ticket 2 3)
+p11_1 : gives digit (Join 16 ∷ Join 26 ∷ Join 3 ∷ []) ≡ Some (ticket 2 3)
 p11_1 = refl
 
-p11_2 : gives digit (Join 16 ∷ Join 26 ∷ Join 3 ∷ Take ∷ []) ≡ some (ticket 0 16)
+p11_2 : gives digit (Join 16 ∷ Join 26 ∷ Join 3 ∷ Take ∷ []) ≡ Some (ticket 0 16)
 p11_2 = refl
 
-p11_3 : gives digit (Join 16 ∷ Join 26 ∷ Join 3 ∷ Take ∷ Take ∷ []) ≡ some (ticket 1 26)
+p11_3 : gives digit (Join 16 ∷ Join 26 ∷ Join 3 ∷ Take ∷ Take ∷ []) ≡ Some (ticket 1 26)
 p11_3 = refl
 
-p11_4 : gives digit (Join 16 ∷ Join 26 ∷ Join 3 ∷ Take ∷ Take ∷ Take ∷ []) ≡ none
+p11_4 : gives digit (Join 16 ∷ Join 26 ∷ Join 3 ∷ Take ∷ Take ∷ Take ∷ []) ≡ None
 p11_4 = refl
 
 -- The second 6 has A = 1, the first 6, and B = 1, the 3: it leaves at take number 3.
@@ -37,10 +37,10 @@ due_2 : Due digit [] 6 (Take ∷ Join 3 ∷ [])
 due_2 = refl
 
 -- Two equal frames: each leaves by its own number.
-equal_1 : gives digit (Join 6 ∷ Join 6 ∷ []) ≡ some (ticket 0 6)
+equal_1 : gives digit (Join 6 ∷ Join 6 ∷ []) ≡ Some (ticket 0 6)
 equal_1 = refl
 
-equal_2 : gives digit (Join 6 ∷ Join 6 ∷ Take ∷ []) ≡ some (ticket 1 6)
+equal_2 : gives digit (Join 6 ∷ Join 6 ∷ Take ∷ []) ≡ Some (ticket 1 6)
 equal_2 = refl
 
 -- ---- a unit with room for four at a port. Start sends its own frame, 6, to every port, and does not take. Once it is started, a relayed frame is
@@ -56,9 +56,9 @@ next started (Relay f) = started
 next started (TakeOn q) = started
 
 asks : Bool → Call → Option ℕ
-asks started Start = none
-asks started (Relay f) = none
-asks started (TakeOn q) = some q
+asks started Start = None
+asks started (Relay f) = None
+asks started (TakeOn q) = Some q
 
 sends : Bool → Call → ℕ → List ℕ
 sends started Start q = 6 ∷ []
@@ -83,7 +83,7 @@ unfolding next asks sends calls
 left_there = refl
 
 -- The take gives 11; the next will give 13, and then the 6 of Start before the 6 of the relay.
-gave : given (pull digit (row_at digit 4 next asks sends 2 false [] (Start ∷ Relay 13 ∷ Relay 11 ∷ []))) ≡ some 11
+gave : given (pull digit (row_at digit 4 next asks sends 2 false [] (Start ∷ Relay 13 ∷ Relay 11 ∷ []))) ≡ Some 11
 unfolding next asks sends
 gave = refl
 

@@ -1,7 +1,7 @@
 -- A frame leaves once, and only at a take. Assumes nothing.
 use mathlib.Core.Path.{◌≡◌, refl, sym, ap, ◌∙◌}
 use mathlib.Core.List.{List, [], ◌∷◌, ◌++◌, map, append-nil, append_assoc, append_cancel_left}
-use mathlib.Core.Option.{Option, none, some}
+use Rattle.std.specs.Prelude.{Option, None, Some}
 use Prim.Native.Nat.{ℕ, suc}
 use native.Mathlib.Nat.{zero-add}
 use borrow.Author.Tests.{eq-eqb, ne_eqb}
@@ -52,8 +52,8 @@ module _ {F R M C X : Type 0} (P : Product F R M C X) (m : M) (q : ℕ) where
   -- what is read off a lawful product here
   pub record Grown : Type 0 where
     pub grows : (js : List C) (k : C) → happened P m q (js ++ (k ∷ [])) ≡ happened P m q js ++ adds js k
-    pub asks_take : (r : R) (k : C) → P.asks r k ≡ some q → k ≡ P.take_on q
-    pub take_asks : (r : R) → P.asks r (P.take_on q) ≡ some q
+    pub asks_take : (r : R) (k : C) → P.asks r k ≡ Some q → k ≡ P.take_on q
+    pub take_asks : (r : R) → P.asks r (P.take_on q) ≡ Some q
 
   module _ (G : Grown) where
     -- ---- once
@@ -92,15 +92,15 @@ module _ {F R M C X : Type 0} (P : Product F R M C X) (m : M) (q : ℕ) where
         go (later ls e) = absurd (not_again js' ls before f since' since l' (rw e at l))
 
     -- ---- only at a take
-    joins_only : (js : List C) (k : C) (o : Option ℕ) → (o ≡ some q → ⊥)
+    joins_only : (js : List C) (k : C) (o : Option ℕ) → (o ≡ Some q → ⊥)
         → (behind : List (Ticket F))
         × (tickets_after P.priority (length (joined (happened P m q js))) (waiting P.priority (happened P m q js))
         (happens P.size o q (P.row (book_after P m js) q) (P.sends (P.rest (book_after P m js)) k q))
         ≡ waiting P.priority (happened P m q js) ++ behind)
-    joins_only js k none n =
+    joins_only js k None n =
         joins_wait P.priority (length (joined (happened P m q js))) (waiting P.priority (happened P m q js))
         (accepted P.size (P.row (book_after P m js) q) (P.sends (P.rest (book_after P m js)) k q))
-    joins_only js k (some p) n = ([], rw (ne_eqb p q (λ w. n (ap some w))) (sym (append-nil (waiting P.priority (happened P m q js)))))
+    joins_only js k (Some p) n = ([], rw (ne_eqb p q (λ w. n (ap Some w))) (sym (append-nil (waiting P.priority (happened P m q js)))))
 
     pub stays_if : (js : List C) (k : C) → (k ≡ P.take_on q → ⊥)
         → (behind : List (Ticket F)) × (waiting P.priority (happened P m q (js ++ (k ∷ []))) ≡ waiting P.priority (happened P m q js) ++ behind)

@@ -4,7 +4,7 @@ use mathlib.Core.Logic.{◌↔◌, ◌⊎◌, inl, inr}
 use mathlib.Core.Bool.{Bool, true, false, cond}
 use mathlib.Core.List.Memᴰ
 use mathlib.Core.List.{List, [], ◌∷◌, ◌++◌, append_assoc, map, Memᴰ}
-use mathlib.Core.Option.{Option, none, some}
+use Rattle.std.specs.Prelude.{Option, None, Some}
 use Prim.Native.Nat.{ℕ, suc}
 use native.Mathlib.Omega.{arith}
 use native.Mathlib.Nat.{zero-add}
@@ -21,17 +21,17 @@ module _ {F : Type 0} (priority : F → ℕ) where
   bare row = map (λ t. t.frame) row
 
   abbrev bare_of : Option (Pulled (Ticket F)) → Option (Pulled F)
-  bare_of none = none
-  bare_of (some p) = some (record { frame = p.frame.frame; others = bare p.others })
+  bare_of None = None
+  bare_of (Some p) = Some (record { frame = p.frame.frame; others = bare p.others })
 
   before_bare : (t : Ticket F) (row : List (Ticket F)) (o : Option (Pulled (Ticket F)))
       → pull_before priority t.frame (bare row) (bare_of o) ≡ bare_of (pull_before (ticket_priority priority) t row o)
-  before_bare t row none = refl
-  before_bare t row (some p) = go (leb (ticket_priority priority t) (ticket_priority priority p.frame))
+  before_bare t row None = refl
+  before_bare t row (Some p) = go (leb (ticket_priority priority t) (ticket_priority priority p.frame))
     where
       go : (b : Bool)
-          → some (cond b (record { frame = t.frame; others = bare row }) (record { frame = p.frame.frame; others = t.frame ∷ bare p.others }))
-          ≡ bare_of (some (cond b (record { frame = t; others = row }) (record { frame = p.frame; others = t ∷ p.others })))
+          → Some (cond b (record { frame = t.frame; others = bare row }) (record { frame = p.frame.frame; others = t.frame ∷ bare p.others }))
+          ≡ bare_of (Some (cond b (record { frame = t; others = row }) (record { frame = p.frame; others = t ∷ p.others })))
       go true = refl
       go false = refl
 
@@ -40,12 +40,12 @@ module _ {F : Type 0} (priority : F → ℕ) where
   pull_bare (t ∷ row) = rw (pull_bare row) (before_bare t row (pull (ticket_priority priority) row))
 
   kept_bare : (o : Option (Pulled (Ticket F))) → kept (bare_of o) ≡ bare (kept o)
-  kept_bare none = refl
-  kept_bare (some p) = refl
+  kept_bare None = refl
+  kept_bare (Some p) = refl
 
   given_bare : (o : Option (Pulled (Ticket F))) → given (bare_of o) ≡ frame_of priority (given o)
-  given_bare none = refl
-  given_bare (some p) = refl
+  given_bare None = refl
+  given_bare (Some p) = refl
 
   bare_append : (r s : List (Ticket F)) → bare (r ++ s) ≡ bare r ++ bare s
   bare_append [] s = refl
@@ -103,15 +103,15 @@ module _ {F : Type 0} (priority : F → ℕ) where
     FrontOf = Front (ticket_priority priority) Other (ticket_of priority before f) a b
 
     turn_comes : over_it priority (length (joined before)) f a b ≡ 0 → FrontOf
-        → given (pull (ticket_priority priority) (a ++ ticket_of priority before f ∷ b)) ≡ some (ticket_of priority before f)
+        → given (pull (ticket_priority priority) (a ++ ticket_of priority before f ∷ b)) ≡ Some (ticket_of priority before f)
     turn_comes z (turn e o) = rw e
     turn_comes z (other m a' b' e h o w) = absurd (omega arith)
 
-    turn_came : All Other a → All Other b → given (pull (ticket_priority priority) (a ++ ticket_of priority before f ∷ b)) ≡ some (ticket_of priority before f)
+    turn_came : All Other a → All Other b → given (pull (ticket_priority priority) (a ++ ticket_of priority before f ∷ b)) ≡ Some (ticket_of priority before f)
         → FrontOf → over_it priority (length (joined before)) f a b ≡ 0
     turn_came x y g (turn e o) = o
     turn_came x y g (other m a' b' e h o w) =
-        let z : given (pull (ticket_priority priority) (a ++ ticket_of priority before f ∷ b)) ≡ some m = rw e in
+        let z : given (pull (ticket_priority priority) (a ++ ticket_of priority before f ∷ b)) ≡ Some m = rw e in
         let v : m ≡ ticket_of priority before f = cc in
         absurd ((w x y).0 (rw v))
 
@@ -119,7 +119,7 @@ module _ {F : Type 0} (priority : F → ℕ) where
   module _ (before : List (Event F)) (f : F) (s : List (Event F)) where
     -- `leaves` and `waits`
     abbrev Both : Type 0
-    Both = ((gives priority (before ++ Join f ∷ s) ≡ some (ticket_of priority before f)) ↔ (Due priority before f s × NotYet priority before f s))
+    Both = ((gives priority (before ++ Join f ∷ s) ≡ Some (ticket_of priority before f)) ↔ (Due priority before f s × NotYet priority before f s))
         × (Memᴰ (ticket_of priority before f) (waiting priority (before ++ Join f ∷ s)) ↔ NotYet priority before f s)
 
     both : Both
@@ -177,8 +177,8 @@ module _ {F : Type 0} (priority : F → ℕ) where
       apart_cons e e' p p' w (apart p q p' q' v)
 
   once : (before : List (Event F)) (f : F) (after p q p' q' : List (Event F)) → after ≡ p ++ Take ∷ q → after ≡ p' ++ Take ∷ q'
-      → gives priority (before ++ Join f ∷ p) ≡ some (ticket_of priority before f)
-      → gives priority (before ++ Join f ∷ p') ≡ some (ticket_of priority before f) → p ≡ p'
+      → gives priority (before ++ Join f ∷ p) ≡ Some (ticket_of priority before f)
+      → gives priority (before ++ Join f ∷ p') ≡ Some (ticket_of priority before f) → p ≡ p'
   once before f after p q p' q' e e' g g' = go (apart p q p' q' (sym e ∙ e'))
     where
       go : Apart p p' → p ≡ p'
@@ -211,7 +211,7 @@ module _ {F : Type 0} (priority : F → ℕ) where
       all_joined h (done ++ (Take ∷ [])) todo k (kept (pull (ticket_priority priority) r)) (e ∙ sym (append_assoc done (Take ∷ []) todo))
       (takes_snoc done ∙ c) (kept_all (ticket_priority priority) (Joined h) r w)
 
-  exactly : (h : List (Event F)) (t : Ticket F) → gives priority h ≡ some t
+  exactly : (h : List (Event F)) (t : Ticket F) → gives priority h ≡ Some t
       → (before : List (Event F)) × (since : List (Event F)) × (h ≡ before ++ Join t.frame ∷ since) × (t ≡ ticket_of priority before t.frame)
       × Due priority before t.frame since × NotYet priority before t.frame since
   exactly h t g = go (given_all (ticket_priority priority) (Joined h) (waiting priority h) (all_joined h [] h 0 [] refl refl tt) t g)
@@ -220,7 +220,7 @@ module _ {F : Type 0} (priority : F → ℕ) where
           → (before : List (Event F)) × (since : List (Event F)) × (h ≡ before ++ Join t.frame ∷ since) × (t ≡ ticket_of priority before t.frame)
           × Due priority before t.frame since × NotYet priority before t.frame since
       go j =
-          let w : gives priority (j.0 ++ Join t.frame ∷ j.1) ≡ some (ticket_of priority j.0 t.frame) = rw (← j.2, ← j.3) g in
+          let w : gives priority (j.0 ++ Join t.frame ∷ j.1) ≡ Some (ticket_of priority j.0 t.frame) = rw (← j.2, ← j.3) g in
           let d = (both j.0 t.frame j.1).0.0 w in
           (j.0, j.1, j.2, j.3, d.0, d.1)
 

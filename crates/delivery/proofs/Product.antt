@@ -3,7 +3,7 @@
 use mathlib.Core.Path.{◌≡◌, refl, sym, ap, ◌∙◌}
 use mathlib.Core.Logic.{◌↔◌}
 use mathlib.Core.List.{List, [], ◌∷◌, ◌++◌, map}
-use mathlib.Core.Option.{Option, none, some}
+use Rattle.std.specs.Prelude.{Option, None, Some}
 use Prim.Native.Nat.{ℕ, ◌<◌}
 use native.Mathlib.Omega.{arith}
 use lib.ListN.{length}
@@ -94,17 +94,17 @@ module _ {F R M C X : Type 0} (P : Product F R M C X) (Fine : M → Type 0) (L :
     -- ---- what a take gives
     gave_if : (js : List C) (x : X) (o : Option (Ticket F)) → gives_after P.priority (happened P m q js) ≡ o → x ≡ P.took (frame_of P.priority o)
         → Gave P m q js x
-    gave_if js x none e a = nothing_waiting ((port_law.obeys.nothing (happened P m q js)).0 e) a
-    gave_if js x (some t) e a = go (port_law.obeys.exactly (happened P m q js) t e)
+    gave_if js x None e a = nothing_waiting ((port_law.obeys.nothing (happened P m q js)).0 e) a
+    gave_if js x (Some t) e a = go (port_law.obeys.exactly (happened P m q js) t e)
       where
         go : (before : List (Event F)) × (since : List (Event F)) × (happened P m q js ≡ before ++ Join t.frame ∷ since)
             × (t ≡ ticket_of P.priority before t.frame) × Due P.priority before t.frame since × NotYet P.priority before t.frame since
             → Gave P m q js x
-        go u = frame_that_leaves u.0 u.1 t.frame (record { accepted = u.2; due = u.4; first = u.5; itself = e ∙ ap some u.3 }) a
+        go u = frame_that_leaves u.0 u.1 t.frame (record { accepted = u.2; due = u.4; first = u.5; itself = e ∙ ap Some u.3 }) a
 
-    no_frame_lem : (o : Option (Ticket F)) → frame_of P.priority o ≡ none → o ≡ none
-    no_frame_lem none e = refl
-    no_frame_lem (some t) e = let z : ◌≡◌ {A = ℕ} 0 1 = cc in absurd (omega arith)
+    no_frame_lem : (o : Option (Ticket F)) → frame_of P.priority o ≡ None → o ≡ None
+    no_frame_lem None e = refl
+    no_frame_lem (Some t) e = let z : ◌≡◌ {A = ℕ} 0 1 = cc in absurd (omega arith)
 
     module _ (ks : List C) (xs : List X) (said : xs ≡ answers_of P.next P.answer m ks) where
       taken : (js : List C) (x : X) → Answered ks xs js (P.take_on q) x → x ≡ P.took (frame_of P.priority (gives_after P.priority (happened P m q js)))
@@ -114,7 +114,7 @@ module _ {F R M C X : Type 0} (P : Product F R M C X) (Fine : M → Type 0) (L :
       gives js x a = gave_if js x (gives_after P.priority (happened P m q js)) refl (taken js x a)
 
       nothing : (js : List C) (x : X) → Answered ks xs js (P.take_on q) x
-          → (x ≡ P.took none) ↔ (waiting P.priority (happened P m q js) ≡ [])
+          → (x ≡ P.took None) ↔ (waiting P.priority (happened P m q js) ≡ [])
       nothing js x a =
           let law = port_law.obeys.nothing (happened P m q js) in (
             λ e. law.0
@@ -128,9 +128,9 @@ module _ {F R M C X : Type 0} (P : Product F R M C X) (Fine : M → Type 0) (L :
           → (since rest : List (Event F)) → after ≡ since ++ Take ∷ rest → happened P m q js ≡ before ++ Join f ∷ since
           → Due P.priority before f since → NotYet P.priority before f since → Story P m q ks xs before f after
       left_at_lem before f after js k ls e t since rest w j d n =
-          let own : gives_after P.priority (happened P m q js) ≡ some (ticket_of P.priority before f) = rw j ((port_law.obeys.leaves before f since).1 (d, n)) in
+          let own : gives_after P.priority (happened P m q js) ≡ Some (ticket_of P.priority before f) = rw j ((port_law.obeys.leaves before f since).1 (d, n)) in
           left_at js since rest w (record { accepted = j; due = d; first = n; itself = own })
-          (stands P.next P.answer m js (P.take_on q) ls (P.took (some f)) said (e ∙ rw t) (take_answer_lem js ∙ rw own))
+          (stands P.next P.answer m js (P.take_on q) ls (P.took (Some f)) said (e ∙ rw t) (take_answer_lem js ∙ rw own))
 
       leaves : (before : List (Event F)) (f : F) (after : List (Event F)) → happened P m q ks ≡ before ++ Join f ∷ after → Story P m q ks xs before f after
       leaves before f after e = go (port_law.stories ks before f after e)

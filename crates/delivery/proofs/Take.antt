@@ -2,7 +2,7 @@
 use mathlib.Core.Path.{◌≡◌, refl, ◌∙◌}
 use mathlib.Core.Bool.{Bool, true, false}
 use mathlib.Core.List.{List, [], ◌∷◌, ◌++◌, append_assoc, append-nil}
-use mathlib.Core.Option.{none, some}
+use Rattle.std.specs.Prelude.{None, Some}
 use Prim.Native.Nat.{ℕ, suc, ◌+◌, ◌≤◌, ◌<◌}
 use native.Mathlib.Omega.{arith}
 use lib.Dec.{leb, ltb}
@@ -29,19 +29,19 @@ module _ {F : Type 0} where
 
 module _ {F : Type 0} (priority : F → ℕ) where
   -- The answer of a take at a row, where the answer behind the first frame is known.
-  from_nothing : (x : F) (b : List F) → pull priority b ≡ none → pull priority (x ∷ b) ≡ some (record { frame = x; others = b })
+  from_nothing : (x : F) (b : List F) → pull priority b ≡ None → pull priority (x ∷ b) ≡ Some (record { frame = x; others = b })
   from_nothing x b e = rw e
 
-  from_first : (x : F) (b : List F) (p : Pulled F) → pull priority b ≡ some p → priority x ≤ priority p.frame
-      → pull priority (x ∷ b) ≡ some (record { frame = x; others = b })
+  from_first : (x : F) (b : List F) (p : Pulled F) → pull priority b ≡ Some p → priority x ≤ priority p.frame
+      → pull priority (x ∷ b) ≡ Some (record { frame = x; others = b })
   from_first x b p e h = rw (e, le-leb)
 
-  from_later : (x : F) (b : List F) (p : Pulled F) → pull priority b ≡ some p → priority p.frame < priority x
-      → pull priority (x ∷ b) ≡ some (record { frame = p.frame; others = x ∷ p.others })
+  from_later : (x : F) (b : List F) (p : Pulled F) → pull priority b ≡ Some p → priority p.frame < priority x
+      → pull priority (x ∷ b) ≡ Some (record { frame = p.frame; others = x ∷ p.others })
   from_later x b p e h = rw (e, lt-leb)
 
   -- ---- the rule without a recursion
-  pulls_step : (x : F) (b u v : List F) (m : F) → b ≡ u ++ m ∷ v → pull priority b ≡ some (record { frame = m; others = u ++ v })
+  pulls_step : (x : F) (b u v : List F) (m : F) → b ≡ u ++ m ∷ v → pull priority b ≡ Some (record { frame = m; others = u ++ v })
       → All (λ y. priority m < priority y) u → All (λ y. priority m ≤ priority y) v → (s : Bool) → leb (priority x) (priority m) ≡ s → Pulls priority (x ∷ b)
   pulls_step x b u v m e g p q true k =
       let l = leb-true (priority x) (priority m) k in
@@ -74,35 +74,35 @@ module _ {F : Type 0} (priority : F → ℕ) where
           rw g (all_append P u v (all_left P u (m ∷ v) z) (all_right P u (m ∷ v) z).1)
 
   -- A take gives a frame of the row.
-  pub given_all : (P : F → Type 0) (b : List F) → All P b → (f : F) → given (pull priority b) ≡ some f → P f
+  pub given_all : (P : F → Type 0) (b : List F) → All P b → (f : F) → given (pull priority b) ≡ Some f → P f
   given_all P b w f h = go (pulls b)
     where
       go : Pulls priority b → P f
       go (nothing e g) =
-          let z : given (pull priority b) ≡ none = rw g in
+          let z : given (pull priority b) ≡ None = rw g in
           let y : ◌≡◌ {A = ℕ} 0 1 = cc in absurd (omega arith)
       go (first u v m e g p q) =
           let j : P m = (all_right P u (m ∷ v) (rw e at w)).0 in
-          let z : given (pull priority b) ≡ some m = rw g in
+          let z : given (pull priority b) ≡ Some m = rw g in
           let y : m ≡ f = cc in
           rw y at j
 
   -- A frame with higher numbers before it and none lower behind it is the one that a take gives: `Pulls` settles the take.
   pub first_is : (u v : List F) (m : F) → All (λ y. priority m < priority y) u → All (λ y. priority m ≤ priority y) v
-      → pull priority (u ++ m ∷ v) ≡ some (record { frame = m; others = u ++ v })
+      → pull priority (u ++ m ∷ v) ≡ Some (record { frame = m; others = u ++ v })
   first_is [] v m p q = go (pulls v)
     where
-      go : Pulls priority v → pull priority (m ∷ v) ≡ some (record { frame = m; others = v })
+      go : Pulls priority v → pull priority (m ∷ v) ≡ Some (record { frame = m; others = v })
       go (nothing e g) = from_nothing m v g
       go (first a b n e g c d) = from_first m v _ g (given_all (λ y. priority m ≤ priority y) v q n (rw g))
   first_is (y ∷ u) v m p q = from_later y (u ++ m ∷ v) _ (first_is u v m p.1 q) p.0
 
   -- One frame more at the row's end: it is given if its rank is higher than that of the frame that was.
-  pub pull_snoc_lower : (row : List F) (x : F) (p : Pulled F) → pull priority row ≡ some p → priority x < priority p.frame
-      → pull priority (row ++ (x ∷ [])) ≡ some (record { frame = x; others = row })
+  pub pull_snoc_lower : (row : List F) (x : F) (p : Pulled F) → pull priority row ≡ Some p → priority x < priority p.frame
+      → pull priority (row ++ (x ∷ [])) ≡ Some (record { frame = x; others = row })
   pull_snoc_lower row x p h l = go (pulls row)
     where
-      go : Pulls priority row → pull priority (row ++ (x ∷ [])) ≡ some (record { frame = x; others = row })
+      go : Pulls priority row → pull priority (row ++ (x ∷ [])) ≡ Some (record { frame = x; others = row })
       go (nothing e g) = let z : ◌≡◌ {A = ℕ} 0 1 = cc in absurd (omega arith)
       go (first u v m e g c d) =
           let w : p.frame ≡ m = cc in
@@ -113,11 +113,11 @@ module _ {F : Type 0} (priority : F → ℕ) where
           (omega arith, all_map (λ y. priority m ≤ priority y) (λ y. priority x < priority y) (λ y b. omega arith) v d) in
           first_is row [] x (rw e a) tt ∙ rw (append-nil row)
 
-  pub pull_snoc_keep : (row : List F) (x : F) (p : Pulled F) → pull priority row ≡ some p → priority p.frame ≤ priority x
-      → pull priority (row ++ (x ∷ [])) ≡ some (record { frame = p.frame; others = p.others ++ (x ∷ []) })
+  pub pull_snoc_keep : (row : List F) (x : F) (p : Pulled F) → pull priority row ≡ Some p → priority p.frame ≤ priority x
+      → pull priority (row ++ (x ∷ [])) ≡ Some (record { frame = p.frame; others = p.others ++ (x ∷ []) })
   pull_snoc_keep row x p h l = go (pulls row)
     where
-      go : Pulls priority row → pull priority (row ++ (x ∷ [])) ≡ some (record { frame = p.frame; others = p.others ++ (x ∷ []) })
+      go : Pulls priority row → pull priority (row ++ (x ∷ [])) ≡ Some (record { frame = p.frame; others = p.others ++ (x ∷ []) })
       go (nothing e g) = let z : ◌≡◌ {A = ℕ} 0 1 = cc in absurd (omega arith)
       go (first u v m e g c d) =
           let w : p ≡ record { frame = m; others = u ++ v } = cc in
@@ -126,12 +126,12 @@ module _ {F : Type 0} (priority : F → ℕ) where
           (first_is u (v ++ (x ∷ [])) m c (all_append (λ y. priority m ≤ priority y) v (x ∷ []) d (omega arith, tt)))
 
   -- A take gives nothing exactly at an empty row.
-  pub none_given : (b : List F) → (given (pull priority b) ≡ none → b ≡ []) × (b ≡ [] → given (pull priority b) ≡ none)
+  pub none_given : (b : List F) → (given (pull priority b) ≡ None → b ≡ []) × (b ≡ [] → given (pull priority b) ≡ None)
   none_given b = (λ h. go h (pulls b), λ h. rw h)
     where
-      go : given (pull priority b) ≡ none → Pulls priority b → b ≡ []
+      go : given (pull priority b) ≡ None → Pulls priority b → b ≡ []
       go h (nothing e g) = e
-      go h (first u v m e g p q) = let z : given (pull priority b) ≡ some m = rw g in cc
+      go h (first u v m e g p q) = let z : given (pull priority b) ≡ Some m = rw g in cc
 
 module _ {F : Type 0} (priority : F → ℕ) where
   -- ---- how many are to leave before a frame
@@ -157,12 +157,12 @@ module _ {F : Type 0} (priority : F → ℕ) where
   module _ (P : F → Type 0) where
     -- A take at the frames behind one whose number is v.
     data Behind (v : ℕ) (b : List F) : Type 0 where
-      bare : pull priority b ≡ none → below v b ≡ 0 → Behind v b
-      quiet : (p : Pulled F) → pull priority b ≡ some p → v ≤ priority p.frame → below v b ≡ 0 → Behind v b
-      ahead : (p : Pulled F) → pull priority b ≡ some p → priority p.frame < v → below v b ≡ suc (below v p.others)
+      bare : pull priority b ≡ None → below v b ≡ 0 → Behind v b
+      quiet : (p : Pulled F) → pull priority b ≡ Some p → v ≤ priority p.frame → below v b ≡ 0 → Behind v b
+      ahead : (p : Pulled F) → pull priority b ≡ Some p → priority p.frame < v → below v b ≡ suc (below v p.others)
           → (All P b → P p.frame × All P p.others) → Behind v b
 
-    behind_bare : (v : ℕ) (x : F) (b : List F) → pull priority b ≡ none → below v b ≡ 0 → (t : Bool) → ltb (priority x) v ≡ t → Behind v (x ∷ b)
+    behind_bare : (v : ℕ) (x : F) (b : List F) → pull priority b ≡ None → below v b ≡ 0 → (t : Bool) → ltb (priority x) v ≡ t → Behind v (x ∷ b)
     behind_bare v x b e z true h =
         let l = ltb-true (priority x) v h in
         ahead (record { frame = x; others = b }) (from_nothing priority x b e) l (below_yes v x b l) (λ q. q)
@@ -170,7 +170,7 @@ module _ {F : Type 0} (priority : F → ℕ) where
         let l = ltb-false (priority x) v h in
         quiet (record { frame = x; others = b }) (from_nothing priority x b e) l (below_no v x b l ∙ z)
 
-    behind_quiet : (v : ℕ) (x : F) (b : List F) (p : Pulled F) → pull priority b ≡ some p → v ≤ priority p.frame → below v b ≡ 0
+    behind_quiet : (v : ℕ) (x : F) (b : List F) (p : Pulled F) → pull priority b ≡ Some p → v ≤ priority p.frame → below v b ≡ 0
         → (t : Bool) → ltb (priority x) v ≡ t → (s : Bool) → leb (priority x) (priority p.frame) ≡ s → Behind v (x ∷ b)
     behind_quiet v x b p e l z true h true k =
         let m = ltb-true (priority x) v h in
@@ -183,7 +183,7 @@ module _ {F : Type 0} (priority : F → ℕ) where
         quiet (record { frame = p.frame; others = x ∷ p.others }) (from_later priority x b p e (leb-false (priority x) (priority p.frame) k)) l
         (below_no v x b (ltb-false (priority x) v h) ∙ z)
 
-    behind_ahead : (v : ℕ) (x : F) (b : List F) (p : Pulled F) → pull priority b ≡ some p → priority p.frame < v → below v b ≡ suc (below v p.others)
+    behind_ahead : (v : ℕ) (x : F) (b : List F) (p : Pulled F) → pull priority b ≡ Some p → priority p.frame < v → below v b ≡ suc (below v p.others)
         → (All P b → P p.frame × All P p.others) → (s : Bool) → leb (priority x) (priority p.frame) ≡ s → Behind v (x ∷ b)
     behind_ahead v x b p e l z q true k =
         let m = leb-true (priority x) (priority p.frame) k in
@@ -208,8 +208,8 @@ module _ {F : Type 0} (priority : F → ℕ) where
 
     -- A take at a row in which f waits: it gives f, where none is to leave before it; else another, and then one fewer is.
     pub data Front (f : F) (a b : List F) : Type 0 where
-      turn : pull priority (a ++ f ∷ b) ≡ some (record { frame = f; others = a ++ b }) → over f a b ≡ 0 → Front f a b
-      other : (m : F) (a' b' : List F) → pull priority (a ++ f ∷ b) ≡ some (record { frame = m; others = a' ++ f ∷ b' }) → priority m ≤ priority f
+      turn : pull priority (a ++ f ∷ b) ≡ Some (record { frame = f; others = a ++ b }) → over f a b ≡ 0 → Front f a b
+      other : (m : F) (a' b' : List F) → pull priority (a ++ f ∷ b) ≡ Some (record { frame = m; others = a' ++ f ∷ b' }) → priority m ≤ priority f
           → over f a b ≡ suc (over f a' b') → (All P a → All P b → P m × (All P a' × All P b')) → Front f a b
 
     front_nil : (f : F) (b : List F) → Behind (priority f) b → Front f [] b
@@ -218,7 +218,7 @@ module _ {F : Type 0} (priority : F → ℕ) where
     front_nil f b (ahead p e l z q) =
         other p.frame [] p.others (from_later priority f b p e l) (omega (arith, l)) (omega (arith, z)) (λ r s. ((q s).0, (tt, (q s).1)))
 
-    front_turn : (f x : F) (a b : List F) → pull priority (a ++ f ∷ b) ≡ some (record { frame = f; others = a ++ b }) → over f a b ≡ 0
+    front_turn : (f x : F) (a b : List F) → pull priority (a ++ f ∷ b) ≡ Some (record { frame = f; others = a ++ b }) → over f a b ≡ 0
         → (s : Bool) → leb (priority x) (priority f) ≡ s → Front f (x ∷ a) b
     front_turn f x a b e z true k =
         let l = leb-true (priority x) (priority f) k in
@@ -227,7 +227,7 @@ module _ {F : Type 0} (priority : F → ℕ) where
         let l = leb-false (priority x) (priority f) k in
         turn (from_later priority x (a ++ f ∷ b) _ e l) (omega (arith, z, up_to_no (priority f) x a l))
 
-    front_other : (f x : F) (a b : List F) (m : F) (a' b' : List F) → pull priority (a ++ f ∷ b) ≡ some (record { frame = m; others = a' ++ f ∷ b' })
+    front_other : (f x : F) (a b : List F) (m : F) (a' b' : List F) → pull priority (a ++ f ∷ b) ≡ Some (record { frame = m; others = a' ++ f ∷ b' })
         → priority m ≤ priority f → over f a b ≡ suc (over f a' b') → (All P a → All P b → P m × (All P a' × All P b'))
         → (s : Bool) → leb (priority x) (priority m) ≡ s → Front f (x ∷ a) b
     front_other f x a b m a' b' e h z q true k =

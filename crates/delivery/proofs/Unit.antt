@@ -2,7 +2,7 @@
 use mathlib.Core.Path.{◌≡◌, refl, sym, ◌∙◌, ap}
 use mathlib.Core.Bool.{Bool, true, false, cond}
 use mathlib.Core.List.{List, [], ◌∷◌, ◌++◌, append_assoc, append-nil, map}
-use mathlib.Core.Option.{Option, none, some}
+use Rattle.std.specs.Prelude.{Option, None, Some}
 use Prim.Native.Nat.{ℕ}
 use native.Mathlib.Omega.{arith}
 use lib.Dec.{eqb}
@@ -34,8 +34,8 @@ module _ {F : Type 0} (priority : F → ℕ) (size : ℕ) where
   one_take false row = refl
 
   one_call : (o : Option ℕ) (q : ℕ) (row sent : List F) → row_after priority row (happens size o q row sent) ≡ row_next priority size o q row sent
-  one_call none q row sent = joins_all row sent
-  one_call (some p) q row sent = one_take (eqb p q) row
+  one_call None q row sent = joins_all row sent
+  one_call (Some p) q row sent = one_take (eqb p q) row
 
 module _ {F S C : Type 0} (priority : F → ℕ) (size : ℕ) (next : S → C → S) (asks : S → C → Option ℕ) (sends : S → C → ℕ → List F) where
   -- The unit's definitions, with its functions filled in.
@@ -101,11 +101,11 @@ module _ {F S C : Type 0} (priority : F → ℕ) (size : ℕ) (next : S → C �
   later q s r k ks p p' e t = (k ∷ t.0, t.1, t.2, rw t.3, t.4, rw (t.5, e))
 
   -- The call that asks is the take, or the take is a later call.
-  cut_take : (q : ℕ) (s : S) (r : List F) (k : C) (ks : List C) (p h : List (Event F)) (m : ℕ) (b : Bool) → asks s k ≡ some m → eqb m q ≡ b
+  cut_take : (q : ℕ) (s : S) (r : List F) (k : C) (ks : List C) (p h : List (Event F)) (m : ℕ) (b : Bool) → asks s k ≡ Some m → eqb m q ≡ b
       → cond b (Take ∷ []) [] ++ past q (next s k) (step q s r k) ks ≡ p ++ Take ∷ h
       → ((p' : List (Event F)) → past q (next s k) (step q s r k) ks ≡ p' ++ Take ∷ h → Taking q (next s k) (step q s r k) ks p')
       → Taking q s r (k ∷ ks) p
-  cut_take q s r k ks [] h m true a c e ih = ([], k, ks, refl, a ∙ ap some (eqb-true m q c), refl)
+  cut_take q s r k ks [] h m true a c e ih = ([], k, ks, refl, a ∙ ap Some (eqb-true m q c), refl)
   cut_take q s r k ks (x ∷ p) h m true a c e ih =
       let v : past q (next s k) (step q s r k) ks ≡ p ++ Take ∷ h = cc in
       let w : x ≡ Take = cc in
@@ -116,12 +116,12 @@ module _ {F S C : Type 0} (priority : F → ℕ) (size : ℕ) (next : S → C �
       → happens size o q r (sends s k q) ++ past q (next s k) (step q s r k) ks ≡ p ++ Take ∷ h
       → ((p' : List (Event F)) → past q (next s k) (step q s r k) ks ≡ p' ++ Take ∷ h → Taking q (next s k) (step q s r k) ks p')
       → Taking q s r (k ∷ ks) p
-  cut_at q s r k ks p h none a e ih = go (strip (accepted size r (sends s k q)) (past q (next s k) (step q s r k) ks) p h e)
+  cut_at q s r k ks p h None a e ih = go (strip (accepted size r (sends s k q)) (past q (next s k) (step q s r k) ks) p h e)
     where
       go : (p' : List (Event F)) × (p ≡ map Join (accepted size r (sends s k q)) ++ p') × (past q (next s k) (step q s r k) ks ≡ p' ++ Take ∷ h)
           → Taking q s r (k ∷ ks) p
       go u = later q s r k ks p u.0 (rw a u.1) (ih u.0 u.2)
-  cut_at q s r k ks p h (some m) a e ih = cut_take q s r k ks p h m (eqb m q) a refl e ih
+  cut_at q s r k ks p h (Some m) a e ih = cut_take q s r k ks p h m (eqb m q) a refl e ih
 
   cut : (q : ℕ) (s : S) (r : List F) (ks : List C) (p h : List (Event F)) → past q s r ks ≡ p ++ Take ∷ h → Taking q s r ks p
   cut q s r [] [] h e = let z : ◌≡◌ {A = ℕ} 0 1 = cc in absurd (omega arith)
@@ -136,7 +136,7 @@ module _ {F S C : Type 0} (priority : F → ℕ) (size : ℕ) (next : S → C �
   answers q s ks = rw (row_is q s [] ks) ((port_law priority).answer (past q s [] ks))
 
   left_by : (q : ℕ) (s : S) (ks : List C) (before : List (Event F)) (f : F) (after p r : List (Event F)) → after ≡ p ++ Take ∷ r
-      → Due priority before f p → NotYet priority before f p → gives priority (before ++ Join f ∷ p) ≡ some (ticket_of priority before f)
+      → Due priority before f p → NotYet priority before f p → gives priority (before ++ Join f ∷ p) ≡ Some (ticket_of priority before f)
       → Taking q s [] ks (before ++ Join f ∷ p) → Told q s ks before f after
   left_by q s ks before f after p r h d n g t = left_at t.0 t.1 t.2 t.3 t.4 p r h t.5 d n (rw (answers q s t.0, t.5, g))
 

@@ -1,8 +1,7 @@
 -- Demand 3 at one port. A history is the list of what happened at the port since power-on: `before`, then the frame `f` is accepted, then `since`.
 -- The quoted words are the customer's. `port_law` of proofs/Port.antt proves `PortLaw` for every kind of frame and every priority.
-use Rattle.std.specs.Prelude.{◌≡◌, ◌↔◌, Bool, cond, ℕ, suc, ◌+◌, length, leb, ltb}
+use Rattle.std.specs.Prelude.{◌≡◌, ◌↔◌, Bool, cond, ℕ, suc, ◌+◌, length, leb, ltb, Option, None, Some}
 use mathlib.Core.List.{List, [], ◌∷◌, ◌++◌, map, Memᴰ}
-use Rattle.std.proofs.Math.Option.{Option, none, some}
 use Rattle.delivery.specs.Row.{pull, given, kept}
 
 -- What happens at a port: a frame is accepted and joins the row's end, or a take is made there that isn't refused.
@@ -82,20 +81,20 @@ module _ {F : Type 0} (priority : F → ℕ) where
   ticket_of before f = ticket (length (joined before)) f
 
   abbrev pub frame_of : Option (Ticket F) → Option F
-  frame_of none = none
-  frame_of (some t) = some t.frame
+  frame_of None = None
+  frame_of (Some t) = Some t.frame
 
   -- What becomes of a frame in any history after its acceptance: one of two stories.
   pub data Fate (before : List (Event F)) (f : F) (after : List (Event F)) : Type 0 where
     left : (since rest : List (Event F)) → after ≡ since ++ Take ∷ rest → Due before f since → NotYet before f since
-        → gives (before ++ Join f ∷ since) ≡ some (ticket_of before f) → Fate before f after
+        → gives (before ++ Join f ∷ since) ≡ Some (ticket_of before f) → Fate before f after
     stays : NotYet before f after → Memᴰ (ticket_of before f) (waiting (before ++ Join f ∷ after)) → Fate before f after
 
   pub record PortLaw : Type 0 where
     -- "A frame accepted for a port, the unit's own too, leaves there .. unchanged, at the first take whose number after its acceptance is 1 + A + B",
     -- and at no other.
     pub leaves : (before : List (Event F)) (f : F) (since : List (Event F))
-        → (gives (before ++ Join f ∷ since) ≡ some (ticket_of before f)) ↔ (Due before f since × NotYet before f since)
+        → (gives (before ++ Join f ∷ since) ≡ Some (ticket_of before f)) ↔ (Due before f since × NotYet before f since)
     -- "Until so many takes are made it waits." "No call but a take makes a frame leave": NotYet looks at takes alone.
     pub waits : (before : List (Event F)) (f : F) (since : List (Event F))
         → Memᴰ (ticket_of before f) (waiting (before ++ Join f ∷ since)) ↔ NotYet before f since
@@ -103,13 +102,13 @@ module _ {F : Type 0} (priority : F → ℕ) where
     pub fate : (before : List (Event F)) (f : F) (after : List (Event F)) → Fate before f after
     -- "Leaves there once": two takes of one history that give it are the same take.
     pub once : (before : List (Event F)) (f : F) (after p q p' q' : List (Event F)) → after ≡ p ++ Take ∷ q → after ≡ p' ++ Take ∷ q'
-        → gives (before ++ Join f ∷ p) ≡ some (ticket_of before f) → gives (before ++ Join f ∷ p') ≡ some (ticket_of before f) → p ≡ p'
+        → gives (before ++ Join f ∷ p) ≡ Some (ticket_of before f) → gives (before ++ Join f ∷ p') ≡ Some (ticket_of before f) → p ≡ p'
     -- "A take that isn't refused gives exactly the frame that leaves at it": what it gives was accepted there, and this is the first take that is due.
-    pub exactly : (h : List (Event F)) (t : Ticket F) → gives h ≡ some t
+    pub exactly : (h : List (Event F)) (t : Ticket F) → gives h ≡ Some t
         → (before : List (Event F)) × (since : List (Event F)) × (h ≡ before ++ Join t.frame ∷ since) × (t ≡ ticket_of before t.frame)
         × Due before t.frame since × NotYet before t.frame since
     -- "Or ‘nothing waiting’ exactly when no frame waits there."
-    pub nothing : (h : List (Event F)) → (gives h ≡ none) ↔ (waiting h ≡ [])
+    pub nothing : (h : List (Event F)) → (gives h ≡ None) ↔ (waiting h ≡ [])
     -- Without the tickets it is the plain row, and the plain take.
     pub frames : (h : List (Event F)) → map (λ t. t.frame) (waiting h) ≡ row_after [] h
     pub answer : (h : List (Event F)) → given (pull priority (row_after [] h)) ≡ frame_of (gives h)

@@ -2,9 +2,8 @@
 -- functions follow the book is shown for one call (Calls.antt). `obeys` of proofs/Product.antt: then demand 3 holds of every list of calls.
 -- In this file ports are counted from 0. Words in quotes are the customer's; those after RULES are of docs/RULES.md, "Delivery".
 -- Assumes nothing.
-use Rattle.std.specs.Prelude.{◌≡◌, ◌↔◌, ℕ, ◌<◌, length}
+use Rattle.std.specs.Prelude.{◌≡◌, ◌↔◌, ℕ, ◌<◌, length, Option, None, Some}
 use mathlib.Core.List.{List, [], ◌∷◌, ◌++◌, map, Memᴰ}
-use Rattle.std.proofs.Math.Option.{Option, none, some}
 use Rattle.delivery.specs.Row.{pull, given}
 use Rattle.delivery.specs.Port.{Event, Join, Take, Ticket, Due, NotYet, ticket_of, waiting, gives}
 use Rattle.delivery.specs.Calls.{after_calls}
@@ -39,11 +38,11 @@ module _ {F R M C X : Type 0} (P : Product F R M C X) where
     pub row_moves : (m : M) (k : C) (q : ℕ) → q < P.ports → Fine m
         → P.row (P.next m k) q ≡ row_next P.priority P.size (P.asks (P.rest m) k) q (P.row m q) (P.sends (P.rest m) k q)
     -- who asks port q is the take on it, and it asks
-    pub asks_take : (r : R) (k : C) (q : ℕ) → P.asks r k ≡ some q → k ≡ P.take_on q
-    pub take_asks : (r : R) (q : ℕ) → q < P.ports → P.asks r (P.take_on q) ≡ some q
+    pub asks_take : (r : R) (k : C) (q : ℕ) → P.asks r k ≡ Some q → k ≡ P.take_on q
+    pub take_asks : (r : R) (q : ℕ) → q < P.ports → P.asks r (P.take_on q) ≡ Some q
     -- a take is answered with what leaves the row, and "nothing waiting" is no frame's answer
     pub take_told : (m : M) (q : ℕ) → q < P.ports → P.answer m (P.take_on q) ≡ P.took (given (pull P.priority (P.row m q)))
-    pub nothing_told_lem : (o : Option F) → P.took o ≡ P.took none → o ≡ none
+    pub nothing_told_lem : (o : Option F) → P.took o ≡ P.took None → o ≡ None
 
   -- A book as power_on leaves it: every row is empty.
   pub record Fresh (Fine : M → Type 0) (m : M) : Type 0 where
@@ -90,21 +89,21 @@ module _ {F R M C X : Type 0} (P : Product F R M C X) (m : M) where
     -- and it is "the first" such
     pub first : NotYet P.priority before f since
     -- the take removes this very frame, no equal one: tickets are told apart by their joining numbers
-    pub itself : gives P.priority (happened q js) ≡ some (ticket_of P.priority before f)
+    pub itself : gives P.priority (happened q js) ≡ Some (ticket_of P.priority before f)
 
   -- What becomes of a frame f that was accepted for port q after `before`, if `after` is what happened there from then on: one of two stories.
   pub data Story (q : ℕ) (ks : List C) (xs : List X) (before : List (Event F)) (f : F) (after : List (Event F)) : Type 0 where
     -- it left at a call of the list, a take on that port that was answered with this frame, unchanged
     left_at : (js : List C) (since rest : List (Event F)) → after ≡ since ++ Take ∷ rest → Leaves q js before f since
-        → Answered ks xs js (P.take_on q) (P.took (some f)) → Story q ks xs before f after
+        → Answered ks xs js (P.take_on q) (P.took (Some f)) → Story q ks xs before f after
     -- or "until so many takes are made it waits"
     waits_on : NotYet P.priority before f after → Memᴰ (ticket_of P.priority before f) (waiting P.priority (happened q ks))
         → Story q ks xs before f after
 
   -- What a take on port q, made after the calls js, is answered.
   pub data Gave (q : ℕ) (js : List C) (x : X) : Type 0 where
-    frame_that_leaves : (before since : List (Event F)) (f : F) → Leaves q js before f since → x ≡ P.took (some f) → Gave q js x
-    nothing_waiting : waiting P.priority (happened q js) ≡ [] → x ≡ P.took none → Gave q js x
+    frame_that_leaves : (before since : List (Event F)) (f : F) → Leaves q js before f since → x ≡ P.took (Some f) → Gave q js x
+    nothing_waiting : waiting P.priority (happened q js) ≡ [] → x ≡ P.took None → Gave q js x
 
   -- The calls ks were made from the book m on and were answered xs.
   pub record Obeys (ks : List C) (xs : List X) : Type 0 where
@@ -127,7 +126,7 @@ module _ {F R M C X : Type 0} (P : Product F R M C X) (m : M) where
     -- "A take that isn't refused gives exactly the frame that leaves at it, or ‘nothing waiting’ exactly when no frame waits there."
     pub gives : (q : ℕ) → q < P.ports → (js : List C) (x : X) → Answered ks xs js (P.take_on q) x → Gave q js x
     pub nothing : (q : ℕ) → q < P.ports → (js : List C) (x : X) → Answered ks xs js (P.take_on q) x
-        → (x ≡ P.took none) ↔ (waiting P.priority (happened q js) ≡ [])
+        → (x ≡ P.took None) ↔ (waiting P.priority (happened q js) ≡ [])
     -- "No call but a take makes a frame leave": after any call but a take on port q those who waited there wait still, in their order; others may have
     -- joined behind them.
     pub stays : (q : ℕ) → q < P.ports → (js : List C) (k : C) → (k ≡ P.take_on q → ⊥)

@@ -5,9 +5,8 @@
 --     sends   the frames that a call sends to port q, in order (rules 1 and 2, then the unit's own); none for a refused call, a take, a message, Quiet
 --     size    how many frames wait at a port at most (rule 3)
 -- The quoted words are the customer's. `demand3` of proofs/Unit.antt proves `Demand3` for every such unit, port and state at power-on.
-use Rattle.std.specs.Prelude.{◌≡◌, cond, ℕ, eqb}
+use Rattle.std.specs.Prelude.{◌≡◌, cond, ℕ, eqb, Option, None, Some}
 use mathlib.Core.List.{List, [], ◌∷◌, ◌++◌, map, Memᴰ}
-use Rattle.std.proofs.Math.Option.{Option, none, some}
 use Rattle.delivery.specs.Row.{room, join, pull, given, kept}
 use Rattle.delivery.specs.Calls.{after_calls}
 use Rattle.delivery.specs.Port.{Event, Join, Take, Due, NotYet, ticket_of, waiting, gives, frame_of, PortLaw}
@@ -24,13 +23,13 @@ accepted size row (f ∷ fs) = cond (room size row) (f ∷ []) [] ++ accepted si
 
 -- The row of port q after a call, by what it asks and what it sends there.
 abbrev pub row_next : {F : Type 0} → (F → ℕ) → ℕ → Option ℕ → ℕ → List F → List F → List F
-row_next priority size none q row sent = join_all size row sent
-row_next priority size (some p) q row sent = cond (eqb p q) (kept (pull priority row)) row
+row_next priority size None q row sent = join_all size row sent
+row_next priority size (Some p) q row sent = cond (eqb p q) (kept (pull priority row)) row
 
 -- What such a call makes happen at port q.
 abbrev pub happens : {F : Type 0} → ℕ → Option ℕ → ℕ → List F → List F → List (Event F)
-happens size none q row sent = map Join (accepted size row sent)
-happens size (some p) q row sent = cond (eqb p q) (Take ∷ []) []
+happens size None q row sent = map Join (accepted size row sent)
+happens size (Some p) q row sent = cond (eqb p q) (Take ∷ []) []
 
 module _ {F S C : Type 0} (priority : F → ℕ) (size : ℕ) (next : S → C → S) (asks : S → C → Option ℕ) (sends : S → C → ℕ → List F) where
   -- The row of port q after a call, and after a list of calls.
@@ -52,15 +51,15 @@ module _ {F S C : Type 0} (priority : F → ℕ) (size : ℕ) (next : S → C �
   -- The take after the events p is a call of the list: a take on q that isn't refused, before which the calls js made p happen.
   abbrev pub TakeCall : ℕ → S → List F → List C → List (Event F) → Type 0
   TakeCall q s row ks p =
-      (js : List C) × (k : C) × (ls : List C) × (ks ≡ js ++ k ∷ ls) × (asks (after_calls next s js) k ≡ some q) × (history q s row js ≡ p)
+      (js : List C) × (k : C) × (ls : List C) × (ks ≡ js ++ k ∷ ls) × (asks (after_calls next s js) k ≡ Some q) × (history q s row js ≡ p)
 
   -- A frame f that was accepted after `before`, told by the calls.
   pub data Story (q : ℕ) (s : S) (ks : List C) (before : List (Event F)) (f : F) (after : List (Event F)) : Type 0 where
     -- It left at the call k: a take on q, the first that was due, and that take gave it.
-    left_at : (js : List C) (k : C) (ls : List C) → ks ≡ js ++ k ∷ ls → asks (after_calls next s js) k ≡ some q
+    left_at : (js : List C) (k : C) (ls : List C) → ks ≡ js ++ k ∷ ls → asks (after_calls next s js) k ≡ Some q
         → (since rest : List (Event F)) → after ≡ since ++ Take ∷ rest → history q s [] js ≡ before ++ Join f ∷ since
         → Due priority before f since → NotYet priority before f since
-        → given (pull priority (row_at q s [] js)) ≡ some f → Story q s ks before f after
+        → given (pull priority (row_at q s [] js)) ≡ Some f → Story q s ks before f after
     -- No take was due, and it waits.
     stays_on : NotYet priority before f after → Memᴰ (ticket_of priority before f) (waiting priority (history q s [] ks)) → Story q s ks before f after
 

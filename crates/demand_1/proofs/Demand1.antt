@@ -1,4 +1,5 @@
 -- Demand 1 from the contracts: each number is the first of its call's checks (`exact`), and what a refusal leaves is in the contract. Assumes nothing.
+use Rattle.bridge.specs.Told.{FrameTold, TakeTold, StartTold, UnitTold, CountsTold}
 use mathlib.Core.Path.{◌≡◌, refl, sym, ap, ◌∙◌}
 use mathlib.Core.Bool.{Bool, true, false, cond, not, true≢false}
 use mathlib.Core.List.{List, [], ◌++◌}
@@ -7,24 +8,17 @@ use native.Mathlib.Omega.{arith}
 use borrow.Author.Tests.{eqb-true, eqb-false, not-true}
 use lib.ListN.{length, drop}
 use lib.Dec.{eqb}
-use Rattle.network_message.specs.declared.Command.{Command}
-use Rattle.network_message.specs.declared.Command.TheVariants.{Refused, Request, WithEntries, Clear, AddressList, Parameter, Reset, PairParameter, PairReset}
+use Rattle.network_message.specs.Asked.{Asked, Refused, Request, WithEntries, Clear, AddressList, Parameter, Reset, PairParameter, PairReset}
 use Rattle.checks.specs.Checks.{acknowledges}
 use Rattle.checks.proofs.FirstNumber.{first_in}
 use Rattle.network_message.specs.Decoding.{function_of, decoded}
 use Rattle.replies.specs.Replies.{control_of, acknowledgment}
-use Rattle.bridge.specs.declared.FrameAnswer.{FrameAnswer}
-use Rattle.bridge.specs.declared.TakeAnswer.{TakeAnswer}
-use Rattle.message_answers.specs.declared.MessageAnswer.{MessageAnswer}
-use Rattle.bridge.specs.declared.StartAnswer.{StartAnswer}
-use Rattle.bridge.specs.declared.UnitAnswer.{UnitAnswer}
-use Rattle.bridge.specs.declared.CountsAnswer.{CountsAnswer}
 use Rattle.unit.specs.declared.Unit.{Unit}
 use Rattle.unit.specs.Count.{is_count, count_of, ports_of, pair_count}
 use Rattle.unit.specs.Model.{Rest, Seen, Model, model_of, record_length}
 use Rattle.unit.specs.PowerOn.{not_long, fresh, power_on_refusal}
 use Rattle.refusals.specs.Refusals.{frame_refusal, take_refusal, start_refusal, quiet_refusal, length_refusal}
-use Rattle.message_answers.specs.Messages.{Replied, acknowledged, performed_by}
+use Rattle.message_answers.specs.Messages.{Replied, acknowledged, performed_by, MessageTold}
 use Rattle.bridge.specs.Calls.{silent_reply, messaged}
 use Rattle.refusals.specs.Refusals.{message_checks, message_refusal}
 use Rattle.bridge.specs.Calls.{refusal, frame_passed, frame_refused, frame_answer, take_answer, take_number, start_refused, start_answer, unit_answer, read_number, counts_refused, counts_answer, Framing, TakingOut, Messaging, Starting, Quieting, Reading, Counting}
@@ -32,7 +26,7 @@ use Rattle.message_answers.specs.Messages.{message_answer}
 use Rattle.unit.specs.PowerOn.{PoweringOn}
 use Rattle.demand_1.specs.Demand1.{power_on_numbers, frame_numbers, take_numbers, start_numbers, quiet_numbers, unit_numbers, counts_numbers, message_numbers, Exact, Unchanged, ByPowerOn, Writes, Tells, rest_of, Demand1}
 use Rattle.delivery.specs.Row.{pull, given}
-use Rattle.queue.specs.Queue.{priority, taken_of}
+use Rattle.queue.specs.Queue.{priority}
 use Rattle.unit.specs.Ports.{mask}
 use Rattle.unit.specs.Model.{queue_on, row_at}
 use Rattle.forwarding.specs.Forwarding.{loses_own}
@@ -83,7 +77,7 @@ unfolding quiet_refusal refusal
 quiet_exact {words = words} Q = (rw Q.answer (exact (quiet_numbers (ports_of words) (length words) (rest_of words)) refl), λ h. Q.call.refused (λ z. h (Q.answer ∙ z)))
 
 -- ---- a frame
-frame_exact : {words bytes after : List ℕ} {port id : ℕ} {r : FrameAnswer} → Framing (ports_of words) words after port id bytes r
+frame_exact : {words bytes after : List ℕ} {port id : ℕ} {r : FrameTold} → Framing (ports_of words) words after port id bytes r
     → Exact (frame_numbers (ports_of words) (length words) port id (length bytes)) r.refusal × Unchanged r.refusal words after × ((r.refusal ≡ 0 → ⊥) → r ≡ frame_refused r.refusal)
 unfolding frame_answer refusal frame_refusal frame_passed
 frame_exact {words = words} {bytes = bytes} {after = after} {port = port} {id = id} {r = r} F = go (eqb n 0) refl F.answer
@@ -97,16 +91,16 @@ frame_exact {words = words} {bytes = bytes} {after = after} {port = port} {id = 
     go : (t : Bool) → eqb n 0 ≡ t → r ≡ cond t (frame_passed (ports_of words) (model_of (ports_of words) words) port (frame_of id bytes)) (frame_refused n)
         → Exact (frame_numbers (ports_of words) (length words) port id (length bytes)) r.refusal × Unchanged r.refusal words after × ((r.refusal ≡ 0 → ⊥) → r ≡ frame_refused r.refusal)
     go true e a =
-        let z : r.refusal ≡ 0 = ap (λ (x : FrameAnswer). x.refusal) a in
+        let z : r.refusal ≡ 0 = ap (λ (x : FrameTold). x.refusal) a in
         let b = numbers (z ∙ sym (eqb-true n 0 e)) in
         (b.0, b.1, λ h. absurd (h z))
     go false e a =
-        let z : r.refusal ≡ n = ap (λ (x : FrameAnswer). x.refusal) a in
+        let z : r.refusal ≡ n = ap (λ (x : FrameTold). x.refusal) a in
         let b = numbers z in
         (b.0, b.1, λ _. a ∙ ap frame_refused (sym z))
 
 -- ---- a take
-take_exact : {words after : List ℕ} {port : ℕ} {r : TakeAnswer} → TakingOut (ports_of words) words after port r → Exact (take_numbers (ports_of words) (length words) port) (take_number r) × Unchanged (take_number r) words after
+take_exact : {words after : List ℕ} {port : ℕ} {r : TakeTold} → TakingOut (ports_of words) words after port r → Exact (take_numbers (ports_of words) (length words) port) (take_number r) × Unchanged (take_number r) words after
 unfolding take_answer refusal take_refusal
 take_exact {words = words} {after = after} {port = port} {r = r} T = go (eqb n 0) refl T.answer
   where
@@ -116,12 +110,12 @@ take_exact {words = words} {after = after} {port = port} {r = r} T = go (eqb n 0
     numbers : take_number r ≡ n → Exact (take_numbers (ports_of words) (length words) port) (take_number r) × Unchanged (take_number r) words after
     numbers e = (rw e (exact (take_numbers (ports_of words) (length words) port) refl), λ h. T.call.refused (λ z. h (e ∙ z)))
 
-    go : (t : Bool) → eqb n 0 ≡ t → r ≡ cond t (TakeAnswer.Took (taken_of (given (pull priority (row_at (model_of (ports_of words) words) (port - 1)))))) (TakeAnswer.Refused n) → Exact (take_numbers (ports_of words) (length words) port) (take_number r) × Unchanged (take_number r) words after
+    go : (t : Bool) → eqb n 0 ≡ t → r ≡ cond t (TakeTold.Took (given (pull priority (row_at (model_of (ports_of words) words) (port - 1))))) (TakeTold.Refused n) → Exact (take_numbers (ports_of words) (length words) port) (take_number r) × Unchanged (take_number r) words after
     go true e a = numbers (ap take_number a ∙ sym (eqb-true n 0 e))
     go false e a = numbers (ap take_number a)
 
 -- ---- Start
-start_exact : {words after : List ℕ} {r : StartAnswer} → Starting (ports_of words) words after r → Exact (start_numbers (ports_of words) (length words) (rest_of words)) r.refusal × Unchanged r.refusal words after × ((r.refusal ≡ 0 → ⊥) → r ≡ start_refused r.refusal)
+start_exact : {words after : List ℕ} {r : StartTold} → Starting (ports_of words) words after r → Exact (start_numbers (ports_of words) (length words) (rest_of words)) r.refusal × Unchanged r.refusal words after × ((r.refusal ≡ 0 → ⊥) → r ≡ start_refused r.refusal)
 unfolding start_answer refusal start_refusal
 start_exact {words = words} {after = after} {r = r} S = go (eqb n 0) refl S.answer
   where
@@ -137,28 +131,28 @@ start_exact {words = words} {after = after} {r = r} S = go (eqb n 0) refl S.answ
     go : (t : Bool) → eqb n 0 ≡ t → r ≡ cond t (record { refusal = 0; unsent = mask (λ q. loses_own (started (rest_of words)).sent (row_at (model_of (ports_of words) words) q)) (ports_of words); claim = (started (rest_of words)).rest.own.claim }) (start_refused n)
         → Exact (start_numbers (ports_of words) (length words) (rest_of words)) r.refusal × Unchanged r.refusal words after × ((r.refusal ≡ 0 → ⊥) → r ≡ start_refused r.refusal)
     go true e a =
-        let z : r.refusal ≡ 0 = ap (λ (x : StartAnswer). x.refusal) a in
+        let z : r.refusal ≡ 0 = ap (λ (x : StartTold). x.refusal) a in
         let b = numbers (z ∙ sym (eqb-true n 0 e)) in
         (b.0, b.1, λ h. absurd (h z))
     go false e a =
-        let z : r.refusal ≡ n = ap (λ (x : StartAnswer). x.refusal) a in
+        let z : r.refusal ≡ n = ap (λ (x : StartTold). x.refusal) a in
         let b = numbers z in
         (b.0, b.1, λ _. a ∙ ap start_refused (sym z))
 
 -- ---- the unit is read
-unit_exact : {words : List ℕ} {r : UnitAnswer} → Reading (ports_of words) words r → Exact (unit_numbers (ports_of words) (length words)) (read_number r)
+unit_exact : {words : List ℕ} {r : UnitTold} → Reading (ports_of words) words r → Exact (unit_numbers (ports_of words) (length words)) (read_number r)
 unfolding unit_answer length_refusal
 unit_exact {words = words} {r = r} R = rw (number (not_long (ports_of words) (length words)) R.answer) (exact (unit_numbers (ports_of words) (length words)) refl)
   where
     own : Unit
     own = (rest_of words).own
 
-    number : (b : Bool) → r ≡ cond (eqb (cond b 2 0) 0) (UnitAnswer.Told own) (UnitAnswer.Refused (cond b 2 0)) → read_number r ≡ cond b 2 0
+    number : (b : Bool) → r ≡ cond (eqb (cond b 2 0) 0) (UnitTold.Told own) (UnitTold.Refused (cond b 2 0)) → read_number r ≡ cond b 2 0
     number true a = ap read_number a
     number false a = ap read_number a
 
 -- ---- the counts of a port are read
-counts_exact : {words : List ℕ} {port : ℕ} {r : CountsAnswer} → Counting (ports_of words) words port r
+counts_exact : {words : List ℕ} {port : ℕ} {r : CountsTold} → Counting (ports_of words) words port r
     → Exact (counts_numbers (ports_of words) (length words) port) r.refusal × ((r.refusal ≡ 0 → ⊥) → r ≡ counts_refused r.refusal)
 unfolding counts_answer take_refusal
 counts_exact {words = words} {port = port} {r = r} C = go (eqb n 0) refl C.answer
@@ -172,10 +166,10 @@ counts_exact {words = words} {port = port} {r = r} C = go (eqb n 0) refl C.answe
     go : (t : Bool) → eqb n 0 ≡ t → r ≡ cond t (record { refusal = 0; tally = (queue_on (model_of (ports_of words) words) (port - 1)).tally }) (counts_refused n)
         → Exact (counts_numbers (ports_of words) (length words) port) r.refusal × ((r.refusal ≡ 0 → ⊥) → r ≡ counts_refused r.refusal)
     go true e a =
-        let z : r.refusal ≡ 0 = ap (λ (x : CountsAnswer). x.refusal) a in
+        let z : r.refusal ≡ 0 = ap (λ (x : CountsTold). x.refusal) a in
         (numbers (z ∙ sym (eqb-true n 0 e)), λ h. absurd (h z))
     go false e a =
-        let z : r.refusal ≡ n = ap (λ (x : CountsAnswer). x.refusal) a in
+        let z : r.refusal ≡ n = ap (λ (x : CountsTold). x.refusal) a in
         (numbers z, λ _. a ∙ ap counts_refused (sym z))
 
 -- ---- a message
@@ -212,7 +206,7 @@ module _ (ports : ℕ) (rest : Rest) (requester : ℕ) (payload : List ℕ) (see
       told_fits (list_refusal ports change (entries_of (between start end payload)) from to rest.pairs) (commanded ports change (entries_of (between start end payload)) from to rest.pairs) _
       (list_number ports change (entries_of (between start end payload)) from to rest.pairs)
 
-  performed_fits : (c : Command) → Good ports payload c → Fits payload requester (performed_by ports rest requester payload c) seen
+  performed_fits : (c : Asked) → Good ports payload c → Fits payload requester (performed_by ports rest requester payload c) seen
   unfolding performed_by
   performed_fits (Refused number entry) g = told_fits number rest.pairs _ (λ _. g)
   performed_fits (Request from to) g = done_fits _
@@ -235,7 +229,7 @@ module _ (ports : ℕ) (rest : Rest) (requester : ℕ) (payload : List ℕ) (see
       go true z = performed_fits (decoded ports port payload) (decoded_good ports port payload (message_goes ports lent lentReply rest port requester (length payload) (eqb-true n 0 z)).2)
       go false z = silent_fits n (first_in (λ k. not (acknowledges k)) (message_checks ports lent lentReply rest port requester (length payload)) refl) (eqb-false n 0 z)
 
-writes_by : {lent back payload : List ℕ} {requester : ℕ} {r : MessageAnswer} (o : Replied) (seen : Seen) → Fits payload requester o seen
+writes_by : {lent back payload : List ℕ} {requester : ℕ} {r : MessageTold} (o : Replied) (seen : Seen) → Fits payload requester o seen
     → r ≡ message_answer o seen → back ≡ o.written seen ++ drop (length (o.written seen)) lent → Writes lent back payload requester r
 unfolding acknowledgment
 writes_by o seen F a b = record {
@@ -247,15 +241,15 @@ writes_by o seen F a b = record {
       (b ∙ rw (q.0, a), rw (a, q.1), rw (a, q.0));
 }
 
-tells_by : {words payload : List ℕ} {r : MessageAnswer} (o : Replied) (seen : Seen) → Telling words payload o.number o.told → r ≡ message_answer o seen → Tells words payload r
+tells_by : {words payload : List ℕ} {r : MessageTold} (o : Replied) (seen : Seen) → Telling words payload o.number o.told → r ≡ message_answer o seen → Tells words payload r
 tells_by o seen T a = rw a (record { wrong = T.0; absent = T.1; nothing = T.2 })
 
-message_exact : {words payload lent after back : List ℕ} {port requester : ℕ} {r : MessageAnswer} → Messaging (ports_of words) words after port requester payload lent back r
+message_exact : {words payload lent after back : List ℕ} {port requester : ℕ} {r : MessageTold} → Messaging (ports_of words) words after port requester payload lent back r
     → Exact (message_numbers (ports_of words) (length words) (length lent) (rest_of words) port requester payload) r.refusal × Unchanged r.refusal words after × Writes lent back payload requester r × Tells words payload r
 unfolding refusal
 message_exact {words = words} {payload = payload} {lent = lent} {port = port} {requester = requester} {r = r} M =
     let rest = rest_of words in
-    let z : r.refusal ≡ (messaged (ports_of words) (length words) (length lent) rest port requester payload).number = ap (λ (a : MessageAnswer). a.refusal) M.answer in (
+    let z : r.refusal ≡ (messaged (ports_of words) (length words) (length lent) rest port requester payload).number = ap (λ (a : MessageTold). a.refusal) M.answer in (
       rw (z, message_number_lem (ports_of words) rest requester payload (length words) (length lent) port) (exact (message_numbers (ports_of words) (length words) (length lent) rest port requester payload) refl),
       λ h. M.call.refused (λ e. h (z ∙ e)),
       writes_by (messaged (ports_of words) (length words) (length lent) rest port requester payload) (model_of (ports_of words) words).seen

@@ -1,4 +1,5 @@
 -- Each by computing. Assumes nothing.
+use Rattle.std.specs.Prelude.{None}
 use mathlib.Core.Path.{◌≡◌, refl}
 use mathlib.Core.Bool.{Bool, true, false, cond, ◌&&◌}
 use mathlib.Core.List.{List, [], ◌∷◌}
@@ -17,7 +18,6 @@ use Rattle.name_entries.specs.NameEntries.{is_same, is_there}
 use Rattle.filter_commands.specs.Changes.{passes_names}
 use Rattle.network_message.specs.Decoding.{is_known, is_filling, entries_end, name_of, mask_of, has_good_body, has_wrong_mode}
 use Rattle.replies.specs.Replies.{control_of, acknowledgment, filled, list_reply, address_reply}
-use Rattle.addresses.specs.declared.Place.TheVariants.{Free}
 use Rattle.unit.specs.declared.Claim.TheVariants.{Claiming, Lost}
 use Rattle.unit.specs.Count.{is_count, count_of, ports_of, pair_count}
 use Rattle.unit.specs.Model.{Rest}
@@ -29,9 +29,9 @@ became : (b : Bool) (x y : Acted) → (cond b x y).rest.own.claim ≡ cond b x.r
 became true x y = refl
 became false x y = refl
 
-start_becomes : (rest : Rest) → (started rest).rest.own.claim ≡ cond (held_under rest.own.name (get_or rest.table rest.own.preferred Free)) Lost Claiming
+start_becomes : (rest : Rest) → (started rest).rest.own.claim ≡ cond (held_under rest.own.name (get_or rest.table rest.own.preferred None)) Lost Claiming
 unfolding started
-start_becomes rest = became (held_under rest.own.name (get_or rest.table rest.own.preferred Free)) _ _
+start_becomes rest = became (held_under rest.own.name (get_or rest.table rest.own.preferred None)) _ _
 
 -- ---- entries
 three : (a b c : ℕ) → packed (a ∷ b ∷ c ∷ []) ≡ three_bytes a b c

@@ -13,8 +13,7 @@ use Rattle.checks.proofs.FirstNumber.{all_numbers}
 use Rattle.filter.specs.Filter.{Filter, is_cleared}
 use Rattle.entries.specs.Entries.{listed}
 use Rattle.filter_commands.specs.Changes.{would_pass, lacks, passes_names}
-use Rattle.network_message.specs.declared.Command.{Command}
-use Rattle.network_message.specs.declared.Command.TheVariants.{Refused}
+use Rattle.network_message.specs.Asked.{Asked, Refused}
 use Rattle.network_message.specs.Decoding.{is_known, names_ports, may_name, holds_parameter, has_good_body, wrong_entry, has_wrong_mode, refusal_of, judged, command_of, decoded, longest}
 use Rattle.network_message.proofs.Passing.{by_function}
 use Rattle.unit.specs.Model.{Rest}
@@ -128,7 +127,7 @@ held_is payload = go (eqb 128 f) (eqb 130 f) (eqb 131 f) (eqb 133 f) refl refl r
 
 module _ (ports : ℕ) (rest : Rest) (requester : ℕ) (payload : List ℕ) where
   -- from the payload
-  late : (f g h p i w j : Bool) (n : ℕ) (k : Command) → (performed_by ports rest requester payload (cond (eqb (cond f 9 (cond g 10 (cond h 11 (cond p 23 (cond i 12 (cond w 22 (cond j 13 0))))))) 0) k (Refused (cond f 9 (cond g 10 (cond h 11 (cond p 23 (cond i 12 (cond w 22 (cond j 13 0))))))) n))).number ≡ cond f 9 (cond g 10 (cond h 11 (cond p 23 (cond i 12 (cond w 22 (cond j 13 (performed_by ports rest requester payload k).number))))))
+  late : (f g h p i w j : Bool) (n : ℕ) (k : Asked) → (performed_by ports rest requester payload (cond (eqb (cond f 9 (cond g 10 (cond h 11 (cond p 23 (cond i 12 (cond w 22 (cond j 13 0))))))) 0) k (Refused (cond f 9 (cond g 10 (cond h 11 (cond p 23 (cond i 12 (cond w 22 (cond j 13 0))))))) n))).number ≡ cond f 9 (cond g 10 (cond h 11 (cond p 23 (cond i 12 (cond w 22 (cond j 13 (performed_by ports rest requester payload k).number))))))
   unfolding performed_by
   late true g h p i w j n k = refl
   late false true h p i w j n k = refl

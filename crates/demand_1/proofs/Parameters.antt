@@ -21,8 +21,7 @@ use Rattle.filter.proofs.Meaning.{counting}
 use Rattle.entries.specs.Entries.{listed}
 use Rattle.losses.specs.Losses.{most, counter_length, losses_of}
 use Rattle.losses.proofs.Counters.{held_most}
-use Rattle.network_message.specs.declared.Command.{Command}
-use Rattle.network_message.specs.declared.Command.TheVariants.{Refused, PairParameter}
+use Rattle.network_message.specs.Asked.{Asked, Refused, PairParameter}
 use Rattle.network_message.specs.Decoding.{is_known, is_general, may_be_all, is_pair, names_ports, may_name, holds_parameter, has_good_body, has_wrong_mode, longest, refusal_of, judged, command_of, decoded}
 use Rattle.network_message.specs.Commands.{Ports, Good}
 use Rattle.network_message.proofs.Decoding.{decoded_good}
@@ -35,8 +34,7 @@ use Rattle.unit.specs.PowerOn.{not_long}
 use Rattle.unit.specs.Own.{is_claimed}
 use Rattle.unit.proofs.Count.{ports_bounds, pairs_most, pair_below}
 use Rattle.parameters.specs.Parameters.{entries_at, pair_parameter, general_parameter}
-use Rattle.message_answers.specs.declared.MessageAnswer.{MessageAnswer}
-use Rattle.message_answers.specs.Messages.{Replied as Done, performed_by, message_answer}
+use Rattle.message_answers.specs.Messages.{Replied as Done, performed_by, message_answer, MessageTold}
 use Rattle.refusals.specs.Refusals.{message_refusal}
 use Rattle.refusals.proofs.Checks.{message_goes}
 use Rattle.bridge.specs.Calls.{silent_reply, messaged, Messaging}
@@ -109,13 +107,13 @@ module _ (ports port requester lent lentReply : ℕ) (rest : Rest) (payload : Li
       message_number_lem ports rest requester payload lent lentReply port
       ∙ past_early (no_port ports port) (not_long ports lent || ltb lentReply longest) (not (is_claimed rest.own.claim)) (not (leb 8 (length payload) && leb (length payload) longest)) (ltb 253 requester) late h
 
-numbered : {words payload lent after back : List ℕ} {port requester : ℕ} {r : MessageAnswer} → Messaging (ports_of words) words after port requester payload lent back r
+numbered : {words payload lent after back : List ℕ} {port requester : ℕ} {r : MessageTold} → Messaging (ports_of words) words after port requester payload lent back r
     → none_applies (take 5 (message_numbers (ports_of words) (length words) (length lent) (rest_of words) port requester payload)) ≡ true
     → Numbered words payload port r
 numbered {words = words} {payload = payload} {lent = lent} {port = port} {requester = requester} {r = r} M h =
     let n = ports_of words in
     let small = (ports_bounds words).1 in
-    let z : r.refusal ≡ late n port requester (length words) (length lent) (rest_of words) payload = ap (λ (a : MessageAnswer). a.refusal) M.answer ∙ heard_number n port requester (length words) (length lent) (rest_of words) payload h in
+    let z : r.refusal ≡ late n port requester (length words) (length lent) (rest_of words) payload = ap (λ (a : MessageTold). a.refusal) M.answer ∙ heard_number n port requester (length words) (length lent) (rest_of words) payload h in
     record {
       request = λ e. z ∙ request_number n port requester (length words) (length lent) (rest_of words) payload e;
       reset = λ e. z ∙ reset_number n port requester (length words) (length lent) (rest_of words) payload e;
@@ -168,15 +166,16 @@ module _ (ports : ℕ) (words : List ℕ) (small : ports ≤ 8) (full : length w
       rw (pair_of ports words i full h) (omega (arith, (counting block (omega (arith, l))).small))
 
   few_losses : (i : ℕ) → i ≤ pair_count ports → get_or (model_of ports words).seen.losses i 0 < 65536
-  unfolding losses_of
-  few_losses i h = rw (losses_of_lem ports words i full h) (omega (arith, held_most (get_or (take counter_length (drop (losses_from ports + counter_length * i) words)) 0 0)))
+  few_losses i h =
+      let at = losses_from ports + counter_length * i in
+      rw (losses_of_lem ports words i full h at refl) (omega (arith, held_most (get_or words at 0)))
 
 -- ---- what was done is the function's command
 module _ (ports port requester lent lentReply : ℕ) (rest : Rest) (payload : List ℕ) where
   abbrev done : Done
   done = messaged ports lent lentReply rest port requester payload
 
-  abbrev command : Command
+  abbrev command : Asked
   command = command_of (function payload) (from payload) (to payload) payload
 
   command_done : done.number ≡ 0 → (done ≡ performed_by ports rest requester payload command) × (message_refusal ports lent lentReply rest port requester (length payload) ≡ 0) × (refusal_of ports port (function payload) (from payload) (to payload) payload ≡ 0)
@@ -215,7 +214,7 @@ place_below ports from to P l small = go (ltb (to - 1) (from - 1)) refl
         (behind from to ports P.apart (ltb-false (to - 1) (from - 1) e) P.least least l)
 
 -- ---- what is written
-says_by : {lent back : List ℕ} {r : MessageAnswer} (o : Done) (seen : Seen) (f named p value : ℕ) → r ≡ message_answer o seen → back ≡ o.written seen ++ drop (length (o.written seen)) lent
+says_by : {lent back : List ℕ} {r : MessageTold} (o : Done) (seen : Seen) (f named p value : ℕ) → r ≡ message_answer o seen → back ≡ o.written seen ++ drop (length (o.written seen)) lent
     → o.written seen ≡ parameter_reply f named p value → o.pgn ≡ 60672 → value < 65536 → Says lent back r f named p value
 unfolding parameter_reply filled bytes_of
 says_by o seen f named p value a b e g small = record {
@@ -224,7 +223,7 @@ says_by o seen f named p value a b e g small = record {
   length = rw (a, e);
 }
 
-acknowledged_by : {lent back : List ℕ} {r : MessageAnswer} (o : Done) (seen : Seen) (f requester : ℕ) → r ≡ message_answer o seen → back ≡ o.written seen ++ drop (length (o.written seen)) lent
+acknowledged_by : {lent back : List ℕ} {r : MessageTold} (o : Done) (seen : Seen) (f requester : ℕ) → r ≡ message_answer o seen → back ≡ o.written seen ++ drop (length (o.written seen)) lent
     → o.written seen ≡ acknowledgment 0 f requester → o.pgn ≡ 59392 → Acknowledged lent back r f requester
 unfolding acknowledgment
 acknowledged_by o seen f requester a b e g = record {
@@ -233,7 +232,7 @@ acknowledged_by o seen f requester a b e g = record {
   length = rw (a, e);
 }
 
-module _ {words payload lent after back : List ℕ} {port requester : ℕ} {r : MessageAnswer} (M : Messaging (ports_of words) words after port requester payload lent back r) (z : r.refusal ≡ 0) where
+module _ {words payload lent after back : List ℕ} {port requester : ℕ} {r : MessageTold} (M : Messaging (ports_of words) words after port requester payload lent back r) (z : r.refusal ≡ 0) where
   abbrev n : ℕ
   n = ports_of words
 
@@ -246,7 +245,7 @@ module _ {words payload lent after back : List ℕ} {port requester : ℕ} {r : 
   did : (o ≡ performed_by n (rest_of words) requester payload (command_of (function payload) (from payload) (to payload) payload))
       × (message_refusal n (length words) (length lent) (rest_of words) port requester (length payload) ≡ 0)
       × (refusal_of n port (function payload) (from payload) (to payload) payload ≡ 0)
-  did = command_done n port requester (length words) (length lent) (rest_of words) payload (sym (ap (λ (a : MessageAnswer). a.refusal) M.answer) ∙ z)
+  did = command_done n port requester (length words) (length lent) (rest_of words) payload (sym (ap (λ (a : MessageTold). a.refusal) M.answer) ∙ z)
 
   small : n ≤ 8
   small = (ports_bounds words).1

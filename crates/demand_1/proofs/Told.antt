@@ -21,8 +21,7 @@ use Rattle.filter_commands.specs.declared.pairs.Question.TheVariants.{Lacks}
 use Rattle.filter_commands.specs.declared.pairs.Change.{Change}
 use Rattle.filter_commands.specs.declared.pairs.Change.TheVariants.{Adds, Deletes, Creates, Names}
 use Rattle.filter_commands.specs.Pairs.{holds_of}
-use Rattle.network_message.specs.declared.Command.{Command}
-use Rattle.network_message.specs.declared.Command.TheVariants.{Refused}
+use Rattle.network_message.specs.Asked.{Asked, Refused}
 use Rattle.network_message.specs.Decoding.{is_known, names_ports, may_name, holds_parameter, parameter_of, has_good_body, has_wrong_mode, entries_start, entries_end, between, name_of, mask_of, wrong_in, wrong_entry, payload_checks, refusal_of, judged, command_of, decoded}
 use Rattle.network_message.specs.Commands.{Ports, Good}
 use Rattle.network_message.proofs.Passing.{by_function}
@@ -248,7 +247,7 @@ module _ (words payload : List ℕ) where
   entries_named e = rw e
 
   module _ (requester : ℕ) where
-    abbrev Told_by : Command → Type 0
+    abbrev Told_by : Asked → Type 0
     Told_by c = Telling (performed_by ports rest requester payload c).number (performed_by ports rest requester payload c).told
 
     command_telling : is_known (function payload) ≡ true → Good ports payload (command_of (function payload) (from payload) (to payload) payload) → Told_by (command_of (function payload) (from payload) (to payload) payload)

@@ -1,5 +1,7 @@
 -- Demand 1 about any record and any input, by the contracts alone: "Any frame, message, port number or buffer gets a defined answer. Bad input is refused by a
 -- number" of docs/RULES.md; "a refusal changes no list, queue or table, and writes the acknowledgment or nothing." Proved in proofs/Demand1.antt.
+use Rattle.message_answers.specs.Messages.{MessageTold}
+use Rattle.bridge.specs.Told.{FrameTold, TakeTold, StartTold, UnitTold, CountsTold}
 use Rattle.std.specs.Prelude.{◌≡◌, ◌↔◌, Bool, true, false, cond, not, ◌&&◌, ◌||◌, List, [], ◌∷◌, ◌++◌, ℕ, ◌-◌, ◌≤◌, ◌<◌, length, get_or, drop, ltb, leb, eqb}
 use contract.Lifetimes.{Lfts}
 use Rattle.std.specs.Borrow.{Bor, MutBor}
@@ -11,12 +13,6 @@ use Rattle.filter_commands.specs.Changes.{would_pass, lacks, passes_names}
 use Rattle.checks.specs.Checks.{Check, check, acknowledges}
 use Rattle.network_message.specs.Decoding.{function_of, pair_of, from_of, to_of, is_known, names_ports, may_name, has_good_body, has_wrong_mode, entries_start, entries_end, between, name_of, mask_of, longest}
 use Rattle.replies.specs.Replies.{control_of, acknowledgment}
-use Rattle.bridge.specs.declared.FrameAnswer.{FrameAnswer}
-use Rattle.bridge.specs.declared.TakeAnswer.{TakeAnswer}
-use Rattle.message_answers.specs.declared.MessageAnswer.{MessageAnswer}
-use Rattle.bridge.specs.declared.StartAnswer.{StartAnswer}
-use Rattle.bridge.specs.declared.UnitAnswer.{UnitAnswer}
-use Rattle.bridge.specs.declared.CountsAnswer.{CountsAnswer}
 use Rattle.unit.specs.Count.{is_count, count_of, ports_of}
 use Rattle.unit.specs.Model.{Rest, pair_at, model_of}
 use Rattle.checks.specs.Ports.{is_port, no_port}
@@ -151,7 +147,7 @@ pub record ByPowerOn (words after : List ℕ) (name preferred r : ℕ) : Type 0 
   pub four : r ≡ 27 → (length after ≡ 1918) × (ports_of after ≡ 4) × (model_of 4 after ≡ fresh 4 name preferred)
 
 -- "and writes the acknowledgment or nothing": eight bytes for the numbers that write one, nothing for the others, and the answer says which
-pub record Writes (lent back payload : List ℕ) (requester : ℕ) (r : MessageAnswer) : Type 0 where
+pub record Writes (lent back payload : List ℕ) (requester : ℕ) (r : MessageTold) : Type 0 where
   pub nothing : (r.refusal ≡ 0 → ⊥) → acknowledges r.refusal ≡ false → (back ≡ lent) × (r.pgn ≡ 0) × (r.length ≡ 0)
   pub acknowledged : acknowledges r.refusal ≡ true
       → (back ≡ acknowledgment (control_of r.refusal) (function_of payload) requester ++ drop 8 lent) × (r.pgn ≡ 59392) × (r.length ≡ 8)
@@ -192,7 +188,7 @@ pub record FirstAbsent (words payload : List ℕ) (told : Absent) : Type 0 where
   pub pairs : (q k : ℕ) → leads_to (ports_of words) payload q ≡ true → q < told.to → 1 ≤ k → k ≤ length (entries payload) → holds words payload q k ≡ true
   pub pgn : told.pgn ≡ entry_no payload told.entry
 
-pub record Tells (words payload : List ℕ) (r : MessageAnswer) : Type 0 where
+pub record Tells (words payload : List ℕ) (r : MessageTold) : Type 0 where
   pub wrong : r.refusal ≡ 22 → FirstWrong payload r.told
   pub absent : r.refusal ≡ 17 → FirstAbsent words payload r.told
   pub nothing : (r.refusal ≡ 22 → ⊥) → (r.refusal ≡ 17 → ⊥) → r.told ≡ record { entry = 0; to = 0; pgn = 0 }
@@ -211,17 +207,17 @@ pub record Demand1 : Type 0 where
   pub power_on : {words after : List ℕ} {name preferred count r : ℕ} → made.Powered words name preferred count r after
       → Exact (power_on_numbers count (length words)) r × ByPowerOn words after name preferred r
   -- "A refused frame has no ports, no event, is not consumed and compares 0"
-  pub frame : {words bytes after : List ℕ} {port id : ℕ} {r : FrameAnswer} → made.Arrived words port id bytes r after
+  pub frame : {words bytes after : List ℕ} {port id : ℕ} {r : FrameTold} → made.Arrived words port id bytes r after
       → Exact (frame_numbers (ports_of words) (length words) port id (length bytes)) r.refusal × Unchanged r.refusal words after
       × ((r.refusal ≡ 0 → ⊥) → r ≡ frame_refused r.refusal)
-  pub take : {words after : List ℕ} {port : ℕ} {r : TakeAnswer} → made.Took words port r after
+  pub take : {words after : List ℕ} {port : ℕ} {r : TakeTold} → made.Took words port r after
       → Exact (take_numbers (ports_of words) (length words) port) (take_number r) × Unchanged (take_number r) words after
-  pub message : {words payload lent after back : List ℕ} {port requester : ℕ} {r : MessageAnswer} → made.Handed words port requester payload lent r after back
+  pub message : {words payload lent after back : List ℕ} {port requester : ℕ} {r : MessageTold} → made.Handed words port requester payload lent r after back
       → Exact (message_numbers (ports_of words) (length words) (length lent) (rest_of words) port requester payload) r.refusal
       × Unchanged r.refusal words after × Writes lent back payload requester r × Tells words payload r
-  pub start : {words after : List ℕ} {r : StartAnswer} → made.Started words r after
+  pub start : {words after : List ℕ} {r : StartTold} → made.Started words r after
       → Exact (start_numbers (ports_of words) (length words) (rest_of words)) r.refusal × Unchanged r.refusal words after × ((r.refusal ≡ 0 → ⊥) → r ≡ start_refused r.refusal)
   pub quiet : {words after : List ℕ} {r : ℕ} → made.Quieted words r after → Exact (quiet_numbers (ports_of words) (length words) (rest_of words)) r × Unchanged r words after
-  pub unit : {words : List ℕ} {r : UnitAnswer} → made.Told words r → Exact (unit_numbers (ports_of words) (length words)) (read_number r)
-  pub counts : {words : List ℕ} {port : ℕ} {r : CountsAnswer} → made.Counted words port r
+  pub unit : {words : List ℕ} {r : UnitTold} → made.Told words r → Exact (unit_numbers (ports_of words) (length words)) (read_number r)
+  pub counts : {words : List ℕ} {port : ℕ} {r : CountsTold} → made.Counted words port r
       → Exact (counts_numbers (ports_of words) (length words) port) r.refusal × ((r.refusal ≡ 0 → ⊥) → r ≡ counts_refused r.refusal)

@@ -1,7 +1,7 @@
 -- The numbers of docs/RULES.md in their literals, for every argument: the boundaries of the refusals, the replies' and the unit's frames' fixed bytes, the
 -- events. Each says that the definition which the contracts cite is that number. `literals` of proofs/Literals.antt proves it.
 -- Assumes nothing.
-use Rattle.std.specs.Prelude.{◌≡◌, Bool, false, not, cond, ◌&&◌, ◌||◌, List, [], ◌∷◌, ◌++◌, ℕ, ◌+◌, ◌*◌, ◌/◌, ◌%◌, ◌^◌, ◌<◌, length, get_or, take, drop, ltb, leb, eqb}
+use Rattle.std.specs.Prelude.{◌≡◌, Bool, false, not, cond, ◌&&◌, ◌||◌, List, [], ◌∷◌, ◌++◌, ℕ, ◌+◌, ◌*◌, ◌/◌, ◌%◌, ◌^◌, ◌<◌, length, get_or, take, drop, ltb, leb, eqb, None}
 use Rattle.identifier.specs.Identifier.{priority_of, extended_data_page_of, data_page_of, pf_of, ps_of, sa_of, has_destination, pgn_of, is_pgn, too_wide, wrong_source}
 use Rattle.storage.specs.Bytes.{packed}
 use Rattle.entries.specs.Entries.{listed, entries_of}
@@ -9,9 +9,7 @@ use Rattle.filter.specs.Filter.{Filter}
 use Rattle.queue.specs.declared.Frame.{Frame}
 use Rattle.queue.specs.Queue.{size}
 use Rattle.pgn_list.specs.PgnList.{list_size}
-use Rattle.addresses.specs.declared.Place.{Place}
-use Rattle.addresses.specs.declared.Place.TheVariants.{Free}
-use Rattle.addresses.specs.Table.{places}
+use Rattle.addresses.specs.Table.{places, Place}
 use Rattle.address_claims.specs.declared.Event.{Event}
 use Rattle.address_claims.specs.Events.{event_number}
 use Rattle.checks.specs.Checks.{acknowledges}
@@ -110,7 +108,7 @@ pub record Literals : Type 0 where
   pub claims : (own : Unit) → claim_frame own ≡ record { id = 0x18EEFF00 + own.address; len = 8; bytes = own.name }
   pub cannot : (own : Unit) → cannot_claim_frame own ≡ record { id = 0x18EEFFFE; len = 8; bytes = own.name }
   -- Start: "if the table holds the preferred address under a lower NAME, the unit becomes Lost; else .. Claiming"; Unstarted, Claiming, Claimed, Lost as words
-  pub starts : (rest : Rest) → (started rest).rest.own.claim ≡ cond (held_under rest.own.name (get_or rest.table rest.own.preferred Free)) Lost Claiming
+  pub starts : (rest : Rest) → (started rest).rest.own.claim ≡ cond (held_under rest.own.name (get_or rest.table rest.own.preferred None)) Lost Claiming
   pub states : claim_word Unstarted ∷ claim_word Claiming ∷ claim_word Claimed ∷ claim_word Lost ∷ [] ≡ 0 ∷ 1 ∷ 2 ∷ 3 ∷ []
   -- none, Withdrew, Defended, Displaced, Recorded, Refreshed, TookOver, Beaten
   pub events : (old : ℕ)

@@ -10,7 +10,7 @@ use lib.ListN.{length, get_or}
 use lib.Dec.{eqb}
 use Rattle.filter.specs.Filter.{Filter, clear}
 use Rattle.entries.specs.Entries.{listed}
-use Rattle.network_message.specs.declared.Command.{Command}
+use Rattle.network_message.specs.Asked.{Asked}
 use Rattle.network_message.specs.Decoding.{function_of, pair_of, from_of, to_of, is_general, may_be_all, is_pair, names_ports, decoded}
 use Rattle.network_message.specs.Commands.{reaches, Ports, Good}
 use Rattle.network_message.proofs.Passing.{answered_by, by_function}
@@ -185,7 +185,7 @@ module _ (ports : ℕ) (rest : Rest) (long : length rest.pairs ≡ pair_count po
       to : ℕ
       to = to_of (pair_of payload)
 
-      Still : Command → Type 0
+      Still : Asked → Type 0
       Still c = Good ports payload c → here (performed_by ports rest requester payload c).pairs ≡ here rest.pairs
 
   pub messaged_other : ports ≤ 8 → (lent lentReply port requester : ℕ) (payload : List ℕ) → names_pair payload a b ≡ false → here (messaged ports lent lentReply rest port requester payload).pairs ≡ here rest.pairs
@@ -240,7 +240,7 @@ module _ (ports : ℕ) (rest : Rest) (long : length rest.pairs ≡ pair_count po
       to : ℕ
       to = to_of (pair_of payload)
 
-      Done : Command → Type 0
+      Done : Asked → Type 0
       Done c = Good ports payload c → (performed_by ports rest requester payload c).number ≡ 0 → Empties payload (performed_by ports rest requester payload c)
 
   pub messaged_emptied : (lent lentReply port requester : ℕ) (payload : List ℕ) → names_pair payload a b ≡ true

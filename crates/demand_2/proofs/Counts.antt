@@ -1,8 +1,9 @@
 -- What an answer tells was compared is the sum of what each pair compared. Assumes nothing.
+use Rattle.bridge.specs.Told.{FrameTold}
 use mathlib.Core.Path.{◌≡◌, refl, sym, ap, subst, ◌∙◌}
 use mathlib.Core.Bool.{Bool, true, false, cond}
 use mathlib.Core.List.{List, [], ◌∷◌}
-use mathlib.Core.Option.{Option, none, some}
+use Rattle.std.specs.Prelude.{Option, None, Some}
 use Prim.Native.Nat.{ℕ, zero, suc, ◌+◌, ◌-◌, ◌%◌, ◌≤◌, zero-le}
 use native.Mathlib.Nat.{le_refl}
 use native.Mathlib.Omega.{arith}
@@ -19,7 +20,6 @@ use Rattle.filter.specs.declared.Reason.{Reason}
 use Rattle.filter.specs.declared.Asked.{Asked}
 use Rattle.filter.specs.Filter.{Filter, clear, is_permanent, asked, block_size as filter_length}
 use Rattle.addresses.specs.Table.{name_at}
-use Rattle.bridge.specs.declared.FrameAnswer.{FrameAnswer}
 use Rattle.unit.specs.Ports.{total}
 use Rattle.unit.specs.Count.{ports_of, pair_count}
 use Rattle.unit.specs.Model.{Model, Rest, pair_at, pairs_from, model_of}
@@ -67,8 +67,8 @@ place_in_few pgn name (e ∷ es) = go (matches pgn name e) (place_in_few pgn nam
     go false h = omega arith
 
 place_few : (pgn : ℕ) (sender : Option ℕ) (es : List NameEntry) → place_of pgn sender es ≤ length es
-place_few pgn none es = le_refl (length es)
-place_few pgn (some name) es = place_in_few pgn name es
+place_few pgn None es = le_refl (length es)
+place_few pgn (Some name) es = place_in_few pgn name es
 
 -- ---- the two parts of what is compared for port q
 module _ (ports : ℕ) (rest : Rest) (p id q : ℕ) where
@@ -124,14 +124,14 @@ parts_back ports rest p id = rw (eq-eqb p p refl) (go (consumes rest.own id))
     go true = refl
     go false = refl
 
-module _ {words bytes after : List ℕ} {port id : ℕ} {r : FrameAnswer} (F : Framing (ports_of words) words after port id bytes r) where
+module _ {words bytes after : List ℕ} {port id : ℕ} {r : FrameTold} (F : Framing (ports_of words) words after port id bytes r) where
   abbrev m : Model
   m = unit_in words
 
   -- a refused frame
   turned_away_lem : (number : ℕ) → (number ≡ 0 → ⊥) → r ≡ frame_refused number → Counts words port id r
   turned_away_lem number ne a = record {
-    asked = λ _ done. absurd (ne (sym (ap (λ (x : FrameAnswer). x.refusal) a) ∙ done));
+    asked = λ _ done. absurd (ne (sym (ap (λ (x : FrameTold). x.refusal) a) ∙ done));
     ceiling = rw a (record {
       plain = λ _. 0;
       named = λ _. 0;
@@ -151,15 +151,15 @@ module _ {words bytes after : List ℕ} {port id : ℕ} {r : FrameAnswer} (F : F
 
     sum_is : r.compared ≡ total compared (ports_of words)
     unfolding frame_passed
-    sum_is = ap (λ (x : FrameAnswer). x.compared) a
+    sum_is = ap (λ (x : FrameTold). x.compared) a
 
     consumed_is : r.consumed ≡ consumes m.rest.own id
     unfolding frame_passed
-    consumed_is = ap (λ (x : FrameAnswer). x.consumed) a
+    consumed_is = ap (λ (x : FrameTold). x.consumed) a
 
     refusal_is : r.refusal ≡ 0
     unfolding frame_passed
-    refusal_is = ap (λ (x : FrameAnswer). x.refusal) a
+    refusal_is = ap (λ (x : FrameTold). x.refusal) a
 
     pair_asked : (q : ℕ) → consumes m.rest.own id ≡ false → (port - 1 ≡ q - 1 → ⊥) → asked (pair_on words port q) (pgn_of id) (name_at m.rest.table (id % 256)) ≡ offered (ports_of words) m.rest (port - 1) id (q - 1)
     unfolding offered verdict

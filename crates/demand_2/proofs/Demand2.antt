@@ -1,4 +1,5 @@
 -- Demand 2 from the contracts of `frame` and `message` and the laws of the model. Assumes nothing.
+use Rattle.bridge.specs.Told.{FrameTold}
 use mathlib.Core.Path.{◌≡◌, refl, sym, ap, ◌∙◌}
 use mathlib.Core.Logic.{inl, inr}
 use mathlib.Core.Bool.{Bool, true, false}
@@ -16,15 +17,13 @@ use Rattle.queue.specs.Queue.{size, Queued, queue_next, idle}
 use Rattle.queue.proofs.Rows.{row_sent}
 use Rattle.network_message.specs.Decoding.{function_of, pair_of, from_of, to_of}
 use Rattle.replies.specs.Replies.{list_reply}
-use Rattle.bridge.specs.declared.FrameAnswer.{FrameAnswer}
-use Rattle.message_answers.specs.declared.MessageAnswer.{MessageAnswer}
 use Rattle.unit.specs.Ports.{bit_at}
 use Rattle.unit.specs.Count.{ports_of}
 use Rattle.unit.specs.Model.{queue_on, Model, Seen, row_at, pair_at, model_of}
 use Rattle.bridge.specs.Calls.{frame_of}
 use Rattle.forwarding.specs.Forwarding.{silent}
 use Rattle.refusals.specs.Refusals.{frame_refusal, message_refusal}
-use Rattle.message_answers.specs.Messages.{Replied}
+use Rattle.message_answers.specs.Messages.{Replied, MessageTold}
 use Rattle.bridge.specs.Calls.{messaged}
 use Rattle.unit.specs.Own.{frames_sent}
 use Rattle.bridge.specs.Calls.{FrameIn, Message, refusal, rest_after, asks, sends, performed, next, frame_done, frame_passed, frame_refused, frame_answer, Framing, Messaging}
@@ -54,7 +53,7 @@ no_bit : (q : ℕ) → bit_at 0 q ≡ false
 unfolding bit_at
 no_bit q = rw (zero-div (2 ^ q))
 
-module _ {words bytes after : List ℕ} {port id : ℕ} {r : FrameAnswer} (F : Framing (ports_of words) words after port id bytes r) where
+module _ {words bytes after : List ℕ} {port id : ℕ} {r : FrameTold} (F : Framing (ports_of words) words after port id bytes r) where
   frame_back : NotBack words port id bytes r after
   unfolding refusal next frame_answer performed asks sends
   frame_back = go (eqb (frame_refusal (ports_of words) (length words) port id (length bytes)) 0) refl
@@ -89,7 +88,7 @@ module _ {words bytes after : List ℕ} {port id : ℕ} {r : FrameAnswer} (F : F
           }
 
 -- ---- what a message changes
-module _ {words payload lent after back : List ℕ} {port requester : ℕ} {r : MessageAnswer} (M : Messaging (ports_of words) words after port requester payload lent back r) where
+module _ {words payload lent after back : List ℕ} {port requester : ℕ} {r : MessageTold} (M : Messaging (ports_of words) words after port requester payload lent back r) where
   abbrev outcome : Replied
   outcome = messaged (ports_of words) (length words) (length lent) (rest_of words) port requester payload
 
@@ -151,7 +150,7 @@ module _ {words payload lent after back : List ℕ} {port requester : ℕ} {r : 
   }
     where
       z : outcome.number ≡ 0
-      z = sym (ap (λ (a : MessageAnswer). a.refusal) M.answer) ∙ done
+      z = sym (ap (λ (a : MessageTold). a.refusal) M.answer) ∙ done
 
       reads : (a b : ℕ) → pair_on after a b ≡ get_or outcome.pairs (pair_at (ports_of words) (a - 1) (b - 1)) clear
       reads a b =
@@ -164,7 +163,7 @@ module _ {words payload lent after back : List ℕ} {port requester : ℕ} {r : 
       empties a b P e = messaged_emptied (ports_of words) (rest_of words) (pairs_long (ports_of words) words) a b P (length words) (length lent) port requester payload e z
 
 -- ---- what a tool is told
-module _ {words other payload lent after back after₂ back₂ : List ℕ} {p requester : ℕ} {r r₂ : MessageAnswer}
+module _ {words other payload lent after back after₂ back₂ : List ℕ} {p requester : ℕ} {r r₂ : MessageTold}
     (least : 2 ≤ p) (most : p ≤ ports_of words) (same : ports_of words ≡ ports_of other) (long : length words ≡ length other) (S : SameTo p words other)
     (M : Messaging (ports_of words) words after p requester payload lent back r) (N : Messaging (ports_of words) other after₂ p requester payload lent back₂ r₂) where
   same_told : (r ≡ r₂) × (back ≡ back₂)
@@ -173,7 +172,7 @@ module _ {words other payload lent after back after₂ back₂ : List ℕ} {p re
       (M.answer ∙ rw (t.0, t.1, t.2, t.3, long) (sym N.answer), M.written ∙ rw (t.2, long) (sym N.written))
 
 -- ---- the round trip
-module _ {words payload lent after back other lent₂ after₂ back₂ : List ℕ} {port requester port₂ requester₂ a b : ℕ} {r r₂ : MessageAnswer}
+module _ {words payload lent after back other lent₂ after₂ back₂ : List ℕ} {port requester port₂ requester₂ a b : ℕ} {r r₂ : MessageTold}
     (S : Standing words) (M : Messaging (ports_of words) words after port requester payload lent back r) (request : function_of payload ≡ 0) (answered : r.refusal ≡ 0)
     (some : 1 ≤ length (list_of words payload).entries)
     (T : Standing other) (P : IsPair (ports_of other) a b) (empty : pair_on other a b ≡ clear) (may : MayCreate other port₂ requester₂ a b lent₂)
@@ -187,7 +186,7 @@ module _ {words payload lent after back other lent₂ after₂ back₂ : List �
   restored_pair : (r₂.refusal ≡ 0) × (pair_on after₂ a b ≡ plain (list_of words payload))
   unfolding refusal next performed rest_after
   restored_pair =
-      let z : first_outcome.number ≡ 0 = sym (ap (λ (a : MessageAnswer). a.refusal) M.answer) ∙ answered in
+      let z : first_outcome.number ≡ 0 = sym (ap (λ (a : MessageTold). a.refusal) M.answer) ∙ answered in
       let R = request_reported (ports_of words) (rest_of words) requester payload (length words) (length lent) port request z in
       let f = list_of words payload in
       let G = S.good (pair_at (ports_of words) (from_of (pair_of payload) - 1) (to_of (pair_of payload) - 1)) in
@@ -200,7 +199,7 @@ module _ {words payload lent after back other lent₂ after₂ back₂ : List �
           → get_or (messaged (ports_of other) (length other) (length lent₂) (rest_of other) port₂ requester₂ payload₂).pairs (pair_at (ports_of other) (a - 1) (b - 1)) clear ≡ plain (list_of words payload)
           → (r₂.refusal ≡ 0) × (pair_on after₂ a b ≡ plain (list_of words payload))
       finish payload₂ N' z p = (
-        ap (λ (a : MessageAnswer). a.refusal) N'.answer ∙ z,
+        ap (λ (a : MessageTold). a.refusal) N'.answer ∙ z,
         pair_in_lem after₂ N'.call.count a b ∙ ap (λ (w : Model). get_or w.rest.pairs (pair_at (ports_of other) (a - 1) (b - 1)) clear) (rw z at N'.call.state) ∙ p,
       )
 

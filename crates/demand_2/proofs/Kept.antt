@@ -1,4 +1,5 @@
 -- Every list of calls from power-on keeps the pairs sound (no PGN twice, no more than 32, nothing but PGNs): no call but a command of a message changes a pair, and each command keeps it. Assumes nothing.
+use Rattle.std.specs.Prelude.{None}
 use mathlib.Core.Path.{◌≡◌, refl, sym, ap, subst, ◌∙◌}
 use mathlib.Core.Bool.{Bool, true, false, cond}
 use mathlib.Core.List.{List, [], ◌∷◌}
@@ -17,9 +18,7 @@ use Rattle.filter_commands.specs.Changes.{entry_of, Sound}
 use Rattle.checks.proofs.Tests.{both}
 use Rattle.filter_commands.proofs.Laws.{clear_sound, added_sound, deleted_sound, created_sound, named_sound, added_pgns, deleted_pgns, created_pgns, named_pgns}
 use Rattle.queue.specs.declared.Frame.{Frame}
-use Rattle.addresses.specs.declared.Place.TheVariants.{Free}
-use Rattle.network_message.specs.declared.Command.{Command}
-use Rattle.network_message.specs.declared.Command.TheVariants.{Refused, Request, WithEntries, Clear, AddressList, Parameter, Reset, PairParameter, PairReset}
+use Rattle.network_message.specs.Asked.{Asked, Refused, Request, WithEntries, Clear, AddressList, Parameter, Reset, PairParameter, PairReset}
 use Rattle.network_message.specs.Decoding.{between, decoded}
 use Rattle.network_message.specs.Commands.{Ports, Holding, Good}
 use Rattle.network_message.proofs.Decoding.{decoded_good}
@@ -130,7 +129,7 @@ entries_pgns {start} {end} {payload} H =
     (both (eqb (length (between start end payload) % 3) 0) (every is_pgn (entries_of (between start end payload))) H.formed).1
 
 module _ (ports : ℕ) (rest : Rest) (all : All ports rest.pairs) where
-  performed_all : (requester : ℕ) (payload : List ℕ) (c : Command) → Good ports payload c → All ports (performed_by ports rest requester payload c).pairs
+  performed_all : (requester : ℕ) (payload : List ℕ) (c : Asked) → Good ports payload c → All ports (performed_by ports rest requester payload c).pairs
   unfolding performed_by every entries_of
   performed_all requester payload (Refused number entry) g = all
   performed_all requester payload (Request from to) g = all
@@ -173,7 +172,7 @@ frame_pairs rest port consumed f =
 
 started_pairs : (rest : Rest) → (started rest).rest.pairs ≡ rest.pairs
 unfolding started
-started_pairs rest = acted_pairs rest (held_under rest.own.name (get_or rest.table rest.own.preferred Free)) _ _ refl refl
+started_pairs rest = acted_pairs rest (held_under rest.own.name (get_or rest.table rest.own.preferred None)) _ _ refl refl
 
 module _ (ports lent : ℕ) where
   rest_all : (rest : Rest) (k : Call) → All ports rest.pairs → All ports (rest_after ports lent rest k).pairs

@@ -3,7 +3,7 @@ use mathlib.Core.Path.{◌≡◌, refl, sym, ap, ◌∙◌}
 use mathlib.Core.Logic.{inl, inr, ⊎_elim}
 use mathlib.Core.Bool.{Bool, true, false, cond, ◌&&◌, ◌||◌, false≢true}
 use mathlib.Core.List.{List, []}
-use mathlib.Core.Option.{Option, none, some}
+use Rattle.std.specs.Prelude.{Option, None, Some}
 use Prim.Native.Nat.{ℕ, zero, suc, ◌+◌, ◌*◌, ◌/◌, ◌%◌, ◌^◌, ◌≤◌, ◌<◌, zero-le}
 use native.Mathlib.Nat.{pow-succ', div-div-eq-div-mul, div-one, not-suc-le-zero, le_of_suc-le-suc}
 use native.Mathlib.Decide.{dec_lt}
@@ -13,8 +13,7 @@ use lib.Dec.{eqb}
 use lib.ListN.{length, get_or, take, drop, length-take, get_or-eq_default}
 use lib.Seq.{get_or-take, get_or-drop}
 use Rattle.storage.specs.Blocks.{blocks_of}
-use Rattle.addresses.specs.declared.Place.TheVariants.{Free, Held}
-use Rattle.addresses.specs.Table.{table_length, place_from, table_of, name_in, name_at}
+use Rattle.addresses.specs.Table.{table_length, place_from, table_of, name_in, name_at, held}
 use Rattle.addresses.proofs.Words.{table_length_lem, place_at}
 use Rattle.unit.specs.Model.{model_of}
 use Rattle.name_entries.specs.NameEntries.{NameEntry, agree_in, agrees, matches, matched_by, place_in, place_of, names_of}
@@ -101,25 +100,25 @@ module _ (ports : ℕ) (words : List ℕ) (a : ℕ) where
       let e : 5 + (2 * a + 1) ≡ 6 + 2 * a = omega arith in
       ap name_in (place_at (take table_length (drop 5 words)) a h ∙ rw (read_word (2 * a) (omega arith), read_word (2 * a + 1) (omega arith), e))
 
-  sender_past : 254 ≤ a → sender ≡ none
+  sender_past : 254 ≤ a → sender ≡ None
   unfolding name_at model_of name_in
   sender_past h =
       let e : length (table_of (take table_length (drop 5 words))) ≤ a = omega (arith, table_length_lem (take table_length (drop 5 words))) in
-      rw (get_or-eq_default (table_of (take table_length (drop 5 words))) Free e)
+      rw (get_or-eq_default (table_of (take table_length (drop 5 words))) None e)
 
   -- both ways
-  pub given : {name : ℕ} → sender ≡ some name → Gives words a name
+  pub given : {name : ℕ} → sender ≡ Some name → Gives words a name
   unfolding name_in place_from
   given {name} e = elim (dec_lt a 254) [
     | Prim.yes h ↦ go h (eqb (get_or words (5 + 2 * a) 0) 0) refl (sym (sender_in h) ∙ e)
     | Prim.no h ↦ let past = sender_past (omega arith) in let z : ◌≡◌ {A = ℕ} 0 1 = cc in absurd (omega arith)
   ]
     where
-      go : a < 254 → (b : Bool) → eqb (get_or words (5 + 2 * a) 0) 0 ≡ b → name_in (cond b Free (Held (get_or words (5 + 2 * a) 0) (get_or words (6 + 2 * a) 0))) ≡ some name → Gives words a name
+      go : a < 254 → (b : Bool) → eqb (get_or words (5 + 2 * a) 0) 0 ≡ b → name_in (cond b None (held (get_or words (5 + 2 * a) 0) (get_or words (6 + 2 * a) 0))) ≡ Some name → Gives words a name
       go h true t q = let z : ◌≡◌ {A = ℕ} 0 1 = cc in absurd (omega arith)
       go h false t q = record { inside = h; held = eqb-false _ 0 t; named = cc }
 
-  pub gives : {name : ℕ} → Gives words a name → sender ≡ some name
+  pub gives : {name : ℕ} → Gives words a name → sender ≡ Some name
   unfolding name_in place_from
   gives G = sender_in G.inside ∙ rw (ne_eqb _ 0 G.held, G.named)
 
@@ -173,13 +172,13 @@ module _ (ports : ℕ) (words : List ℕ) (id : ℕ) (f : Filter) where
   not_in_list e = nowhere has f.entries 0 (InList id f) (λ k. eqb-true _ (pgn_of id)) (λ k. eq-eqb _ (pgn_of id)) (sym (listed_any (pgn_of id) f.entries) ∙ e)
 
   -- a sender that the table does not know is matched by nothing
-  unknown : name ≡ none → (k : ℕ) → InNames words id f k → ⊥
+  unknown : name ≡ None → (k : ℕ) → InNames words id f k → ⊥
   unknown e k M =
       let g = gives ports words (id % 256) M.known in
       let z : ◌≡◌ {A = ℕ} 0 1 = cc in
       omega arith
 
-  module _ {n : ℕ} (e : name ≡ some n) where
+  module _ {n : ℕ} (e : name ≡ Some n) where
     yes : (k : ℕ) → matches (pgn_of id) n (get_or f.named k empty) ≡ true → InNames words id f k
     yes k h =
         let m = matched (pgn_of id) n (get_or f.named k empty) h in
@@ -192,18 +191,18 @@ module _ (ports : ℕ) (words : List ℕ) (id : ℕ) (f : Filter) where
         it_matches (pgn_of id) n (get_or f.named k empty) M.pgn (rw same at M.agrees)
 
   names_counted : (s : Option ℕ) → name ≡ s → UpTo (length f.named) (InNames words id f) (place_of (pgn_of id) s f.named)
-  names_counted none e = all (λ j h. unknown e j)
-  names_counted (some n) e =
+  names_counted None e = all (λ j h. unknown e j)
+  names_counted (Some n) e =
       rw (place_in_up_to (pgn_of id) n f.named)
       (counted (matches (pgn_of id) n) f.named empty (InNames words id f) (yes e) (no e) (any (matches (pgn_of id) n) f.named) refl)
 
   in_names_lem : (s : Option ℕ) → name ≡ s → matched_by (pgn_of id) s f.named ≡ true → Among (length f.named) (InNames words id f)
-  in_names_lem none e h = absurd (false≢true h)
-  in_names_lem (some n) e h = somewhere (matches (pgn_of id) n) f.named empty (InNames words id f) (yes e) (no e) (sym (match_any (pgn_of id) n f.named) ∙ h)
+  in_names_lem None e h = absurd (false≢true h)
+  in_names_lem (Some n) e h = somewhere (matches (pgn_of id) n) f.named empty (InNames words id f) (yes e) (no e) (sym (match_any (pgn_of id) n f.named) ∙ h)
 
   not_in_names : (s : Option ℕ) → name ≡ s → matched_by (pgn_of id) s f.named ≡ false → Among (length f.named) (InNames words id f) → ⊥
-  not_in_names none e h = λ s. unknown e s.0 s.2
-  not_in_names (some n) e h = nowhere (matches (pgn_of id) n) f.named empty (InNames words id f) (yes e) (no e) (sym (match_any (pgn_of id) n f.named) ∙ h)
+  not_in_names None e h = λ s. unknown e s.0 s.2
+  not_in_names (Some n) e h = nowhere (matches (pgn_of id) n) f.named empty (InNames words id f) (yes e) (no e) (sym (match_any (pgn_of id) n f.named) ∙ h)
 
   -- listed, by the list or by a match
   abbrev pub here : Bool
@@ -235,8 +234,8 @@ module _ (ports : ℕ) (words : List ℕ) (id : ℕ) (f : Filter) where
     no_sum e = rw (S.in_order, S.none e, S.unnamed e) (none_of name)
       where
         none_of : (s : Option ℕ) → 0 + place_of (pgn_of id) s [] ≡ 0
-        none_of none = refl
-        none_of (some n) = refl
+        none_of None = refl
+        none_of (Some n) = refl
 
     pub compares : Compares words id f (asked f (pgn_of id) name).compared
     unfolding asked is_permanent

@@ -1,4 +1,5 @@
 -- A frame of a permanent PGN, at every port but its arrival port: accepted or lost, whatever the lists hold. Assumes nothing.
+use Rattle.bridge.specs.Told.{FrameTold}
 use mathlib.Core.Path.{◌≡◌, refl, sym, ap, ◌∙◌}
 use mathlib.Core.Logic.{◌⊎◌, ⊎_elim}
 use mathlib.Core.Bool.{Bool, true, false, cond}
@@ -12,7 +13,6 @@ use Rattle.identifier.specs.Identifier.{pgn_of}
 use Rattle.filter.specs.declared.Reason.{Reason}
 use Rattle.filter.specs.declared.Asked.{Asked}
 use Rattle.filter.specs.Filter.{is_permanent, asked}
-use Rattle.bridge.specs.declared.FrameAnswer.{FrameAnswer}
 use Rattle.unit.specs.Ports.{total}
 use Rattle.unit.specs.Count.{ports_of}
 use Rattle.unit.specs.Model.{Model, Rest}
@@ -48,7 +48,7 @@ module _ (ports : ℕ) (rest : Rest) (p id : ℕ) (always : is_permanent (pgn_of
       either true = refl
       either false = refl
 
-module _ {words bytes after : List ℕ} {port id : ℕ} {r : FrameAnswer} (F : Framing (ports_of words) words after port id bytes r) (done : r.refusal ≡ 0) (free : r.consumed ≡ false) (which : Permanent id) where
+module _ {words bytes after : List ℕ} {port id : ℕ} {r : FrameTold} (F : Framing (ports_of words) words after port id bytes r) (done : r.refusal ≡ 0) (free : r.consumed ≡ false) (which : Permanent id) where
   pub crossing : Crossing words port r
   unfolding frame_answer frame_passed
   crossing = go (eqb (frame_refusal (ports_of words) (length words) port id (length bytes)) 0) refl
@@ -60,7 +60,7 @@ module _ {words bytes after : List ℕ} {port id : ℕ} {r : FrameAnswer} (F : F
       go true e =
           let a : r ≡ frame_passed (ports_of words) m port (frame_of id bytes) = rw e at F.answer in
           let g = frame_goes (ports_of words) (length words) port id (length bytes) (eqb-true _ 0 e) in
-          let not_own : consumes m.rest.own id ≡ false = sym (ap (λ (x : FrameAnswer). x.consumed) a) ∙ free in
+          let not_own : consumes m.rest.own id ≡ false = sym (ap (λ (x : FrameTold). x.consumed) a) ∙ free in
           let at = offered_is (ports_of words) m.rest (port - 1) id (permanent which) not_own in
           let apart : (q : ℕ) → 1 ≤ q → (port ≡ q → ⊥) → port - 1 ≡ q - 1 → ⊥ = λ q least ne same. ne (omega (arith, same, least, g.1)) in
           record {
@@ -74,4 +74,4 @@ module _ {words bytes after : List ℕ} {port id : ℕ} {r : FrameAnswer} (F : F
           }
       go false e =
           let a : r ≡ frame_refused (frame_refusal (ports_of words) (length words) port id (length bytes)) = rw e at F.answer in
-          absurd (eqb-false _ 0 e (sym (ap (λ (x : FrameAnswer). x.refusal) a) ∙ done))
+          absurd (eqb-false _ 0 e (sym (ap (λ (x : FrameTold). x.refusal) a) ∙ done))

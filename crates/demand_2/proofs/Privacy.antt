@@ -1,5 +1,6 @@
 -- What a tool is told depends on what is its own alone: the pairs that a payload names are its own (`decoded_own`), so is the port of an address list, and
 -- nothing else is read. By the kind of the command. Assumes nothing.
+use Rattle.std.specs.Prelude.{None, Some}
 use mathlib.Core.Path.{◌≡◌, refl, sym, ap, subst, ◌∙◌}
 use mathlib.Core.Logic.{◌⊎◌, ◌↔◌}
 use mathlib.Core.Bool.{Bool, true, false, cond, true≢false}
@@ -12,12 +13,9 @@ use lib.Dec.{eqb}
 use Rattle.checks.proofs.Tests.{both}
 use Rattle.filter.specs.Filter.{Filter, clear}
 use Rattle.entries.specs.Entries.{entries_of}
-use Rattle.addresses.specs.declared.Place.{Place}
-use Rattle.addresses.specs.declared.Place.TheVariants.{Free, Held}
-use Rattle.addresses.specs.Table.{held_on}
+use Rattle.addresses.specs.Table.{held_on, Place, held}
 use Rattle.addresses.proofs.Listed.{list_same}
-use Rattle.network_message.specs.declared.Command.{Command}
-use Rattle.network_message.specs.declared.Command.TheVariants.{Refused, Request, WithEntries, Clear, AddressList, Parameter, Reset, PairParameter, PairReset}
+use Rattle.network_message.specs.Asked.{Asked, Refused, Request, WithEntries, Clear, AddressList, Parameter, Reset, PairParameter, PairReset}
 use Rattle.network_message.specs.Decoding.{all_ports, between, decoded}
 use Rattle.network_message.specs.Commands.{Named, named, reaches, Own, Ports, Good}
 use Rattle.replies.specs.Replies.{address_reply}
@@ -42,16 +40,16 @@ use Rattle.demand_2.proofs.Pairs.{unit_in_lem, pair_in_lem, pair_is}
 use Rattle.demand_2.proofs.Counters.{losses_in_lem}
 
 -- ---- an address that is held on p in the one is held on p in the other
-held_is : (p : ℕ) (u : Place) → held_on p u ≡ true → (name : ℕ) × (u ≡ Held p name)
+held_is : (p : ℕ) (u : Place) → held_on p u ≡ true → (name : ℕ) × (u ≡ held p name)
 unfolding held_on
-held_is p Free e = absurd (true≢false (sym e))
-held_is p (Held q name) e = (name, ap (λ x. Held x name) (eqb-true q p e))
+held_is p None e = absurd (true≢false (sym e))
+held_is p (Some holder) e = (holder.name, ap (λ x. held x holder.name) (eqb-true holder.port p e))
 
-is_held : (p name : ℕ) (u : Place) → u ≡ Held p name → held_on p u ≡ true
+is_held : (p name : ℕ) (u : Place) → u ≡ held p name → held_on p u ≡ true
 unfolding held_on
 is_held p name u e = rw e (eq-eqb p p refl)
 
-held_same : (p : ℕ) (u v : Place) → ((name : ℕ) → (u ≡ Held p name) ↔ (v ≡ Held p name)) → held_on p u ≡ held_on p v
+held_same : (p : ℕ) (u v : Place) → ((name : ℕ) → (u ≡ held p name) ↔ (v ≡ held p name)) → held_on p u ≡ held_on p v
 held_same p u v h = go (held_on p u) (held_on p v) refl refl
   where
     go : (b c : Bool) → held_on p u ≡ b → held_on p v ≡ c → b ≡ c
@@ -150,8 +148,8 @@ module _ (p : ℕ) (words other : List ℕ) (same : ports_of words ≡ ports_of 
   address_same : x.own.address ≡ y.own.address
   address_same = S.address ∙ ap (λ (m : Model). m.rest.own.address) (unit_in_lem other (sym same))
 
-  place_same : (a name : ℕ) → a < 254 → (get_or x.table a Free ≡ Held p name) ↔ (get_or y.table a Free ≡ Held p name)
-  place_same a name l = subst (λ (m : Model). (get_or x.table a Free ≡ Held p name) ↔ (get_or m.rest.table a Free ≡ Held p name)) (unit_in_lem other (sym same)) (S.table a name l)
+  place_same : (a name : ℕ) → a < 254 → (get_or x.table a None ≡ held p name) ↔ (get_or y.table a None ≡ held p name)
+  place_same a name l = subst (λ (m : Model). (get_or x.table a None ≡ held p name) ↔ (get_or m.rest.table a None ≡ held p name)) (unit_in_lem other (sym same)) (S.table a name l)
 
   own_agree : (from to : ℕ) → Ports ports from to → Own ports p (Named.pairs from to) → Agree ports x.pairs y.pairs from to
   own_agree from to ps own k l e =
@@ -178,13 +176,13 @@ module _ (p : ℕ) (words other : List ℕ) (same : ports_of words ≡ ports_of 
         let n = refused_same ports x.pairs y.pairs from to (own_agree from to ps own) change (entries_of (between start end payload)) in
         (n, refl, rw n, told_same ports x.pairs y.pairs from to (own_agree from to ps own) change (entries_of (between start end payload)))
 
-    performed_told : 2 ≤ p → (c : Command) → Good ports payload c → Own ports p (named c) → Told (performed_by ports x requester payload c) (performed_by ports y requester payload c)
+    performed_told : 2 ≤ p → (c : Asked) → Good ports payload c → Own ports p (named c) → Told (performed_by ports x requester payload c) (performed_by ports y requester payload c)
     unfolding performed_by named address_reply pair_parameter
     performed_told least (Refused number entry) g own = (refl, refl, refl, refl)
     performed_told least (Request from to) g own = (refl, refl, rw (own_pair from to g.0 g.1 own).0, refl)
     performed_told least (WithEntries change from to start end) g own = changed_told change from to start end g.0 own
     performed_told least (Clear from to) g own = (refl, refl, refl, refl)
-    performed_told least (AddressList q) g own = (refl, refl, rw (own, address_same, list_same p y.own.address x.table y.table (λ a l. held_same p (get_or x.table a Free) (get_or y.table a Free) (λ name. place_same a name l))), refl)
+    performed_told least (AddressList q) g own = (refl, refl, rw (own, address_same, list_same p y.own.address x.table y.table (λ a l. held_same p (get_or x.table a None) (get_or y.table a None) (λ name. place_same a name l))), refl)
     performed_told least (Parameter parameter) g own = absurd (omega (arith, least, own))
     performed_told least Reset g own = (refl, refl, refl, refl)
     performed_told least (PairParameter from to parameter) g own = let mine = own_pair from to g.0 g.1 own in (refl, refl, rw (mine.0, mine.1), refl)

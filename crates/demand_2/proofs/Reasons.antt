@@ -1,8 +1,9 @@
 -- The reason that an answer tells for each port is the pair's, by its mode, its list and its NAME entries. Assumes nothing.
+use Rattle.bridge.specs.Told.{FrameTold}
 use mathlib.Core.Path.{◌≡◌, refl, sym, ap, ◌∙◌}
 use mathlib.Core.Bool.{Bool, true, false, cond, ◌||◌}
 use mathlib.Core.List.{List}
-use mathlib.Core.Option.{Option}
+use Rattle.std.specs.Prelude.{Option}
 use Prim.Native.Nat.{ℕ, ◌+◌, ◌-◌, ◌^◌, ◌<◌, ◌≤◌}
 use native.Mathlib.Nat.{zero-div}
 use native.Mathlib.Omega.{arith}
@@ -17,7 +18,6 @@ use Rattle.filter.specs.declared.Asked.{Asked}
 use Rattle.name_entries.specs.NameEntries.{matched_by, place_of}
 use Rattle.filter.specs.Filter.{Mode, cleared, block, pass, Filter, is_permanent, reason_of, reason_number, asked}
 use Rattle.filter.proofs.Reasons.{reason_below}
-use Rattle.bridge.specs.declared.FrameAnswer.{FrameAnswer}
 use Rattle.unit.specs.Ports.{digits, digit_at}
 use Rattle.unit.specs.Count.{ports_of}
 use Rattle.unit.specs.Model.{Model, Rest, pair_at}
@@ -74,14 +74,14 @@ told_none : (ports : ℕ) (rest : Rest) (p id : ℕ) → consumes rest.own id �
 unfolding offered
 told_none ports rest p id own = rw own (digits_none ports)
 
-module _ {words bytes after : List ℕ} {port id : ℕ} {r : FrameAnswer} (F : Framing (ports_of words) words after port id bytes r) where
+module _ {words bytes after : List ℕ} {port id : ℕ} {r : FrameTold} (F : Framing (ports_of words) words after port id bytes r) where
   abbrev m : Model
   m = unit_in words
 
   -- a refused frame
   turned_away_lem : (number : ℕ) → (number ≡ 0 → ⊥) → r ≡ frame_refused number → Reasons words port id r
   turned_away_lem number some a = record {
-    asked = λ _ done. absurd (some (sym (ap (λ (x : FrameAnswer). x.refusal) a) ∙ done));
+    asked = λ _ done. absurd (some (sym (ap (λ (x : FrameTold). x.refusal) a) ∙ done));
     back = λ _. rw a (no_digit (port - 1));
     past = λ q _. rw a (no_digit (q - 1));
     refused = λ _. rw a;
@@ -100,15 +100,15 @@ module _ {words bytes after : List ℕ} {port id : ℕ} {r : FrameAnswer} (F : F
 
     reasons_are : r.reasons ≡ digits told (ports_of words)
     unfolding frame_passed
-    reasons_are = ap (λ (x : FrameAnswer). x.reasons) a
+    reasons_are = ap (λ (x : FrameTold). x.reasons) a
 
     consumed_is : r.consumed ≡ consumes m.rest.own id
     unfolding frame_passed
-    consumed_is = ap (λ (x : FrameAnswer). x.consumed) a
+    consumed_is = ap (λ (x : FrameTold). x.consumed) a
 
     refusal_is : r.refusal ≡ 0
     unfolding frame_passed
-    refusal_is = ap (λ (x : FrameAnswer). x.refusal) a
+    refusal_is = ap (λ (x : FrameTold). x.refusal) a
 
     -- at another port, a frame that is not for the unit
     told_pair : Reached words → (q : ℕ) → consumes m.rest.own id ≡ false → (port - 1 ≡ q - 1 → ⊥) → Tells words id (pair_on words port q) (told (q - 1))

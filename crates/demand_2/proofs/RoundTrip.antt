@@ -17,9 +17,8 @@ use Rattle.filter_commands.specs.Changes.{would_pass, Sound}
 use Rattle.pgn_list.proofs.Lists.{add_different}
 use Rattle.entries.proofs.Reported.{pgns_small, reported_back}
 use Rattle.filter_commands.proofs.Laws.{restored}
-use Rattle.network_message.specs.declared.judging.Judged.{Judged}
-use Rattle.network_message.specs.declared.Command.TheVariants.{Refused, Request}
-use Rattle.network_message.specs.Decoding.{function_of, pair_of, from_of, to_of, is_pair, all_ports, is_general, may_name, judged, command_of, answered, decoded, longest}
+use Rattle.network_message.specs.Asked.{Refused, Request}
+use Rattle.network_message.specs.Decoding.{Judged, function_of, pair_of, from_of, to_of, is_pair, all_ports, is_general, may_name, judged, command_of, answered, decoded, longest}
 use Rattle.checks.specs.Ports.{is_port}
 use Rattle.checks.proofs.Ports.{port_bounds}
 use Rattle.network_message.specs.Commands.{reaches}

@@ -2,17 +2,17 @@
 -- About any records: no frame goes back, claims and requests cross, no plain list takes more than 6 compares, a command changes the pairs and the counter
 -- that it names, Clear and Create leave no NAME entry, a tool sees its own. About records that calls from power-on led to: what crosses is told with its
 -- reason and with what was compared, lists are searched in rising order, a list that is reported and sent back is that list.
-use Rattle.std.specs.Prelude.{◌≡◌, ◌⊎◌, ◌↔◌, Bool, true, false, not, ◌&&◌, ◌||◌, cond, List, [], ◌∷◌, ℕ, zero, suc, ◌+◌, ◌-◌, ◌*◌, ◌/◌, ◌%◌, ◌≤◌, ◌<◌, min, length, take, drop, get_or, eqb, ltb}
+use Rattle.message_answers.specs.Messages.{MessageTold}
+use Rattle.bridge.specs.Told.{FrameTold}
+use Rattle.addresses.specs.Table.{held}
+use Rattle.std.specs.Prelude.{◌≡◌, ◌⊎◌, ◌↔◌, Bool, true, false, not, ◌&&◌, ◌||◌, cond, List, [], ◌∷◌, ℕ, zero, suc, ◌+◌, ◌-◌, ◌*◌, ◌/◌, ◌%◌, ◌≤◌, ◌<◌, min, length, take, drop, get_or, eqb, ltb, None}
 use Rattle.identifier.specs.Identifier.{pgn_of}
 use Rattle.delivery.specs.Calls.{Run}
 use Rattle.delivery.specs.Unit.{join_all}
 use Rattle.filter.specs.Filter.{Mode, cleared, block, pass, Filter, clear, block_size as filter_length}
 use Rattle.entries.specs.Entries.{listed}
 use Rattle.queue.specs.Queue.{size}
-use Rattle.addresses.specs.declared.Place.TheVariants.{Free, Held}
 use Rattle.checks.specs.Ports.{is_port}
-use Rattle.bridge.specs.declared.FrameAnswer.{FrameAnswer}
-use Rattle.message_answers.specs.declared.MessageAnswer.{MessageAnswer}
 use Rattle.unit.specs.declared.Claim.TheVariants.{Claimed}
 use Rattle.unit.specs.Ports.{bit_at, digit_at}
 use Rattle.unit.specs.Count.{ports_of}
@@ -54,7 +54,7 @@ pub data Reached : List ℕ → Type 0 where
 
 -- ---- "No frame is sent back to its arrival port."
 -- The row there is as it was, but for the unit's own frame, which asks no pair; and the arrival port is never named as accepted or lost.
-pub record NotBack (words : List ℕ) (port id : ℕ) (bytes : List ℕ) (r : FrameAnswer) (after : List ℕ) : Type 0 where
+pub record NotBack (words : List ℕ) (port id : ℕ) (bytes : List ℕ) (r : FrameTold) (after : List ℕ) : Type 0 where
   pub row : (row_at (unit_in after) (port - 1) ≡ row_at (unit_in words) (port - 1))
       ⊎ (row_at (unit_in after) (port - 1)
       ≡ join_all size (row_at (unit_in words) (port - 1)) (frames_sent (frame_done (rest_of words) port (frame_of id bytes)).sent))
@@ -63,7 +63,7 @@ pub record NotBack (words : List ℕ) (port id : ℕ) (bytes : List ℕ) (r : Fr
 
 -- ---- ticket 3: "PGNs 60928 and 59904 cross every pair whatever its mode and list, given room. .. Their compared count is 0."
 -- At every port but the arrival port such a frame is accepted, or lost where 32 wait, whatever the lists hold.
-pub record Crossing (words : List ℕ) (port : ℕ) (r : FrameAnswer) : Type 0 where
+pub record Crossing (words : List ℕ) (port : ℕ) (r : FrameTold) : Type 0 where
   pub accepted : (q : ℕ) → is_port (ports_of words) q ≡ true → (port ≡ q → ⊥) → bit_at r.accepted (q - 1) ≡ ltb (length (row_at (unit_in words) (q - 1))) 32
   pub lost : (q : ℕ) → is_port (ports_of words) q ≡ true → (port ≡ q → ⊥) → bit_at r.lost (q - 1) ≡ not (ltb (length (row_at (unit_in words) (q - 1))) 32)
   pub compared : r.compared ≡ 0
@@ -85,10 +85,10 @@ pub data Tells (words : List ℕ) (id : ℕ) (f : Filter) : ℕ → Type 0 where
   as_not_listed : (Listed words id f → ⊥) → Tells words id f (pair_reason f (pgn_of id) false)
 
 -- what the answer tells for port q: four bits a port
-abbrev pub reason_at : FrameAnswer → ℕ → ℕ
+abbrev pub reason_at : FrameTold → ℕ → ℕ
 reason_at r q = digit_at r.reasons (q - 1)
 
-pub record Reasons (words : List ℕ) (port id : ℕ) (r : FrameAnswer) : Type 0 where
+pub record Reasons (words : List ℕ) (port id : ℕ) (r : FrameTold) : Type 0 where
   pub asked : Reached words → r.refusal ≡ 0 → r.consumed ≡ false → (q : ℕ) → is_port (ports_of words) q ≡ true → (port ≡ q → ⊥) → Tells words id (pair_on words port q) (reason_at r q)
   -- not asked: the arrival port, a port that the unit has not, a refused frame, a consumed one
   pub back : 1 ≤ port → reason_at r port ≡ 0
@@ -118,7 +118,7 @@ pub record Ceiling (words : List ℕ) (port compared : ℕ) : Type 0 where
   pub back : plain port + named port ≡ 0
   pub sum : compared ≡ sum_to (λ q. plain q + named q) (ports_of words)
 
-pub record Counts (words : List ℕ) (port id : ℕ) (r : FrameAnswer) : Type 0 where
+pub record Counts (words : List ℕ) (port id : ℕ) (r : FrameTold) : Type 0 where
   pub asked : Reached words → r.refusal ≡ 0 → r.consumed ≡ false → Counted words port id r.compared
   pub ceiling : Ceiling words port r.compared
   pub refused : (r.refusal ≡ 0 → ⊥) → r.compared ≡ 0
@@ -175,7 +175,7 @@ pub record SameTo (p : ℕ) (x y : List ℕ) : Type 0 where
   -- "Demand 2's privacy rule lets a tool's answers depend on its own pairs' counters too" (ticket 8), on no other: the general functions are 11 for it
   pub pairs : (a b : ℕ) → IsPair (ports_of x) a b → (a ≡ p) ⊎ (b ≡ p) → (pair_on x a b ≡ pair_on y a b) × (losses_on x a b ≡ losses_on y a b)
   -- an address is held on p under a NAME in the one exactly if in the other
-  pub table : (a name : ℕ) → a < 254 → (get_or (rest_of x).table a Free ≡ Held p name) ↔ (get_or (rest_of y).table a Free ≡ Held p name)
+  pub table : (a name : ℕ) → a < 254 → (get_or (rest_of x).table a None ≡ held p name) ↔ (get_or (rest_of y).table a None ≡ held p name)
 
 -- ---- "A reported list with entries, sent back as Create to a cleared pair, gives that list again."
 -- the list of the pair that a payload names, which is the one that a Request reports
@@ -195,28 +195,28 @@ pub record MayCreate (words : List ℕ) (port requester a b : ℕ) (lent : List 
 
 -- ---- the whole
 pub record Demand2 : Type 0 where
-  pub not_back : {words bytes after : List ℕ} {port id : ℕ} {r : FrameAnswer} → Arrived words port id bytes r after → NotBack words port id bytes r after
+  pub not_back : {words bytes after : List ℕ} {port id : ℕ} {r : FrameTold} → Arrived words port id bytes r after → NotBack words port id bytes r after
   -- a frame of such a PGN that is neither refused nor consumed
-  pub always : {words bytes after : List ℕ} {port id : ℕ} {r : FrameAnswer} → Arrived words port id bytes r after
+  pub always : {words bytes after : List ℕ} {port id : ℕ} {r : FrameTold} → Arrived words port id bytes r after
       → r.refusal ≡ 0 → r.consumed ≡ false → Permanent id → Crossing words port r
-  pub why : {words bytes after : List ℕ} {port id : ℕ} {r : FrameAnswer} → Arrived words port id bytes r after → Reasons words port id r
-  pub told : {words bytes after : List ℕ} {port id : ℕ} {r : FrameAnswer} → Arrived words port id bytes r after → Counts words port id r
+  pub why : {words bytes after : List ℕ} {port id : ℕ} {r : FrameTold} → Arrived words port id bytes r after → Reasons words port id r
+  pub told : {words bytes after : List ℕ} {port id : ℕ} {r : FrameTold} → Arrived words port id bytes r after → Counts words port id r
   -- "Keep each plain list sorted", in every list of calls
   pub ordered : {words : List ℕ} → Reached words → (a b : ℕ) → InOrder (pair_on words a b).entries (pair_on words a b).sorted
-  pub only_named : {words payload lent after back : List ℕ} {port requester : ℕ} {r : MessageAnswer} → Handed words port requester payload lent r after back
+  pub only_named : {words payload lent after back : List ℕ} {port requester : ℕ} {r : MessageTold} → Handed words port requester payload lent r after back
       → OnlyNamed words port payload after
   -- a command that is done
-  pub emptied : {words payload lent after back : List ℕ} {port requester : ℕ} {r : MessageAnswer} → Handed words port requester payload lent r after back
+  pub emptied : {words payload lent after back : List ℕ} {port requester : ℕ} {r : MessageTold} → Handed words port requester payload lent r after back
       → r.refusal ≡ 0 → Emptied words payload after
   -- two records that a tool on port p cannot tell apart, the same message, the same buffer
-  pub private : {words other payload lent after back after₂ back₂ : List ℕ} {p requester : ℕ} {r r₂ : MessageAnswer}
+  pub private : {words other payload lent after back after₂ back₂ : List ℕ} {p requester : ℕ} {r r₂ : MessageTold}
       → 2 ≤ p → p ≤ ports_of words → ports_of words ≡ ports_of other → length words ≡ length other → SameTo p words other
       → Handed words p requester payload lent r after back → Handed other p requester payload lent r₂ after₂ back₂
       → (r ≡ r₂) × (back ≡ back₂)
   -- A unit, after any list of calls, answered a Request with a list that has entries. What it wrote is sent back to a unit, this or another, of as many ports
   -- or not, after any list of calls, as Create for a pair, that one or another, which is cleared there: 6, the pair byte, and the mode and the PGNs as they
   -- were reported. It is done, and the pair has that list and that mode, and no NAME entry: "List replies leave these out."
-  pub again : {words payload lent after back other lent₂ after₂ back₂ : List ℕ} {port requester port₂ requester₂ a b : ℕ} {r r₂ : MessageAnswer}
+  pub again : {words payload lent after back other lent₂ after₂ back₂ : List ℕ} {port requester port₂ requester₂ a b : ℕ} {r r₂ : MessageTold}
       → Reached words → Handed words port requester payload lent r after back → get_or payload 0 0 ≡ 0 → r.refusal ≡ 0 → 1 ≤ length (list_of words payload).entries
       → Reached other → IsPair (ports_of other) a b → pair_on other a b ≡ clear → MayCreate other port₂ requester₂ a b lent₂
       → Handed other port₂ requester₂ (6 ∷ (16 * a + b) ∷ drop 2 (take r.length back)) lent₂ r₂ after₂ back₂

@@ -1,7 +1,8 @@
 -- The bridge's book is a lawful one: it moves as rest and rows say, and a take is answered with what leaves its row. Assumes nothing.
+use Rattle.bridge.specs.Told.{Took}
 use mathlib.Core.Path.{◌≡◌, refl, ap}
 use mathlib.Core.Bool.{Bool, true, false, cond}
-use mathlib.Core.Option.{Option, none, some}
+use Rattle.std.specs.Prelude.{Option, None, Some}
 use Prim.Native.Nat.{ℕ, zero, suc, ◌-◌, ◌<◌}
 use native.Mathlib.Omega.{arith}
 use borrow.Author.Tests.{eqb-true, eq-eqb, le-leb}
@@ -10,8 +11,7 @@ use lib.ListN.{length, get_or, replicate, length-replicate}
 use Rattle.delivery.specs.Row.{pull, given}
 use Rattle.delivery.specs.Product.{Lawful, Fresh}
 use Rattle.queue.specs.declared.Frame.{Frame}
-use Rattle.queue.specs.Queue.{priority, taken_of, Queued, idle}
-use Rattle.bridge.specs.declared.TakeAnswer.TheVariants.{Took}
+use Rattle.queue.specs.Queue.{priority, Queued, idle}
 use Rattle.unit.specs.Model.{Rest, Model, row_at}
 use Rattle.unit.specs.PowerOn.{fresh}
 use Rattle.checks.specs.Ports.{is_port}
@@ -23,7 +23,7 @@ use Rattle.demand_3.specs.Demand3.{ToTake, words, answer, goes, asks, bridge}
 use Rattle.demand_3.proofs.Moves.{rest_moves, queues_stay, row_moves}
 
 module _ (ports : ℕ) where
-  clash : {A : Type 0} (f : A) → none ≡ some f → ⊥
+  clash : {A : Type 0} (f : A) → None ≡ Some f → ⊥
   clash f e = let z : ◌≡◌ {A = ℕ} 0 1 = cc in omega arith
 
   -- ---- a take that is not refused
@@ -32,16 +32,16 @@ module _ (ports : ℕ) where
   take_goes_at q h = rw (le-leb 1 (suc q) (omega arith), le-leb (suc q) ports (omega arith), eq-eqb (words ports) (words ports) refl)
 
   -- who asks port q is a take on it
-  none_asks : (b : Bool) (q : ℕ) → cond b none none ≡ some q → ⊥
+  none_asks : (b : Bool) (q : ℕ) → cond b None None ≡ Some q → ⊥
   none_asks true q e = clash q e
   none_asks false q e = clash q e
 
-  asks_take : (rest : Rest) (k : Call) (q : ℕ) → asks ports rest k ≡ some q → k ≡ TakeOut (suc q)
+  asks_take : (rest : Rest) (k : Call) (q : ℕ) → asks ports rest k ≡ Some q → k ≡ TakeOut (suc q)
   unfolding asks asks_of refusal
   asks_take rest (FrameIn port id bytes) q e = absurd (none_asks (goes ports rest (FrameIn port id bytes)) q e)
   asks_take rest (TakeOut port) q e = go (goes ports rest (TakeOut port)) refl e
     where
-      go : (b : Bool) → eqb (take_refusal ports (words ports) port) 0 ≡ b → cond b (some (port - 1)) none ≡ some q → TakeOut port ≡ TakeOut (suc q)
+      go : (b : Bool) → eqb (take_refusal ports (words ports) port) 0 ≡ b → cond b (Some (port - 1)) None ≡ Some q → TakeOut port ≡ TakeOut (suc q)
       go true z e =
           let n : port - 1 ≡ q = cc in
           let p : port ≡ suc q = omega (arith, (take_goes ports (words ports) port (eqb-true (take_refusal ports (words ports) port) 0 z)).1) in
@@ -54,18 +54,18 @@ module _ (ports : ℕ) where
   asks_take rest (ReadCounts port) q e = absurd (none_asks (goes ports rest (ReadCounts port)) q e)
 
   -- and it asks
-  take_asks : (rest : Rest) (q : ℕ) → q < ports → asks ports rest (TakeOut (suc q)) ≡ some q
+  take_asks : (rest : Rest) (q : ℕ) → q < ports → asks ports rest (TakeOut (suc q)) ≡ Some q
   unfolding asks asks_of refusal
   take_asks rest q h = let e : suc q - 1 ≡ q = omega arith in rw (take_goes_at q h, e)
 
   -- what the book answers to it
-  take_told : (m : Model) (q : ℕ) → q < ports → answer ports m (TakeOut (suc q)) ≡ ToTake (Took (taken_of (given (pull priority (row_at m q)))))
+  take_told : (m : Model) (q : ℕ) → q < ports → answer ports m (TakeOut (suc q)) ≡ ToTake (Took (given (pull priority (row_at m q))))
   unfolding answer take_answer
   take_told m q h = let e : suc q - 1 ≡ q = omega arith in rw (take_goes_at q h, e)
 
-  nothing_told_lem : (o : Option Frame) → ToTake (Took (taken_of o)) ≡ ToTake (Took (taken_of none)) → o ≡ none
-  nothing_told_lem none e = refl
-  nothing_told_lem (some f) e = let z : ◌≡◌ {A = ℕ} 0 1 = cc in absurd (omega arith)
+  nothing_told_lem : (o : Option Frame) → ToTake (Took o) ≡ ToTake (Took None) → o ≡ None
+  nothing_told_lem None e = refl
+  nothing_told_lem (Some f) e = let z : ◌≡◌ {A = ℕ} 0 1 = cc in absurd (omega arith)
 
   -- ---- the whole
   -- what the book keeps besides: a row for each port

@@ -2,7 +2,7 @@
 use mathlib.Core.Path.{◌≡◌, refl, ap, ◌∙◌}
 use mathlib.Core.Bool.{Bool, true, false, cond}
 use mathlib.Core.List.{[], ◌++◌}
-use mathlib.Core.Option.{none}
+use Rattle.std.specs.Prelude.{None}
 use Prim.Native.Nat.{ℕ, ◌<◌}
 use native.Mathlib.Omega.{arith}
 use lib.ListN.{length}
@@ -51,7 +51,7 @@ module _ (ports : ℕ) where
     queue_moves q h four = go (goes ports m.rest k)
       where
         go : (b : Bool) → queue_on (cond b (performed ports (words ports) m k) m) q
-            ≡ queue_next (cond b (asks_of k) none) q (queue_on m q) (cond b (forwarded ports m.rest k q) [] ++ cond b (announced ports m.rest k) [])
+            ≡ queue_next (cond b (asks_of k) None) q (queue_on m q) (cond b (forwarded ports m.rest k q) [] ++ cond b (announced ports m.rest k) [])
         go true =
             rw (← (sends_is m.rest k q))
             (each_at (λ q x. queue_next (asks_of k) q x (sends_of ports m.rest k q)) ports m.queues q idle h (omega arith))

@@ -1,4 +1,6 @@
 -- The number and the ports that the book's answers name: refusals, and rule 3 at each port. Assumes nothing.
+use Rattle.bridge.specs.Told.{FrameTold, StartTold, CountsTold}
+use Rattle.std.specs.Prelude.{Option, Some, None}
 use mathlib.Core.Path.{◌≡◌, refl, sym, ◌∙◌}
 use mathlib.Core.Bool.{Bool, true, false, not, ◌&&◌, cond}
 use mathlib.Core.Logic.{◌↔◌}
@@ -15,10 +17,6 @@ use Rattle.delivery.specs.Unit.{join_all}
 use Rattle.filter.specs.Filter.{crosses}
 use Rattle.queue.specs.declared.Frame.{Frame}
 use Rattle.queue.specs.Queue.{size}
-use Rattle.unit.specs.declared.Sent.{Sent}
-use Rattle.bridge.specs.declared.FrameAnswer.{FrameAnswer}
-use Rattle.bridge.specs.declared.CountsAnswer.{CountsAnswer}
-use Rattle.bridge.specs.declared.StartAnswer.{StartAnswer}
 use Rattle.unit.specs.Ports.{mask, bit_at}
 use Rattle.unit.specs.Model.{Model, row_at}
 use Rattle.refusals.specs.Refusals.{frame_refusal, take_refusal, start_refusal, length_refusal}
@@ -42,13 +40,13 @@ module _ (ports : ℕ) where
 
   pub number_is : (m : Model) (k : Call) → number_in (answer ports m k) ≡ refusal ports (words ports) m.rest k
   unfolding answer refusal frame_answer take_answer start_answer unit_answer counts_answer frame_passed
-  number_is m (FrameIn port id bytes) = chosen (λ (r : FrameAnswer). r.refusal) (frame_refusal ports (words ports) port id (length bytes)) _ _ refl refl
+  number_is m (FrameIn port id bytes) = chosen (λ (r : FrameTold). r.refusal) (frame_refusal ports (words ports) port id (length bytes)) _ _ refl refl
   number_is m (TakeOut port) = chosen (λ r. number_in (ToTake r)) (take_refusal ports (words ports) port) _ _ refl refl
   number_is m (Message port requester payload lentReply) = refl
-  number_is m Start = chosen (λ (r : StartAnswer). r.refusal) (start_refusal ports (words ports) m.rest.own) _ _ refl refl
+  number_is m Start = chosen (λ (r : StartTold). r.refusal) (start_refusal ports (words ports) m.rest.own) _ _ refl refl
   number_is m Quiet = refl
   number_is m ReadUnit = chosen (λ r. number_in (ToUnit r)) (length_refusal ports (words ports)) _ _ refl refl
-  number_is m (ReadCounts port) = chosen (λ (r : CountsAnswer). r.refusal) (take_refusal ports (words ports) port) _ _ refl refl
+  number_is m (ReadCounts port) = chosen (λ (r : CountsTold). r.refusal) (take_refusal ports (words ports) port) _ _ refl refl
 
   -- ---- rule 3
   clash : true ≡ false → ⊥
@@ -67,9 +65,9 @@ module _ (ports : ℕ) where
       (λ e. (some_sent f, ltb-false (length row) size (not-true (room size row) e)), λ e. rw (le-ltb (length row) size e.1))
   loses_if false f row = (λ e. absurd (clash (sym e)), λ e. absurd (e.0 refl))
 
-  own_loses_if : (s : Sent) (row : List Frame) → (loses_own s row ≡ true) ↔ ((frames_sent s ≡ [] → ⊥) × (size ≤ length row))
-  own_loses_if Sent.Nothing row = (λ e. absurd (clash (sym e)), λ e. absurd (e.0 refl))
-  own_loses_if (Sent.One f) row =
+  own_loses_if : (s : Option Frame) (row : List Frame) → (loses_own s row ≡ true) ↔ ((frames_sent s ≡ [] → ⊥) × (size ≤ length row))
+  own_loses_if None row = (λ e. absurd (clash (sym e)), λ e. absurd (e.0 refl))
+  own_loses_if (Some f) row =
       (λ e. (some_sent f, ltb-false (length row) size (not-true (room size row) e)), λ e. rw (le-ltb (length row) size e.1))
 
   -- ---- bits

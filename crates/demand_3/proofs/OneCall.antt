@@ -7,11 +7,10 @@ use lib.Seq.{take_at}
 use Rattle.delivery.specs.Calls.{Step, Simulates}
 use Rattle.unit.specs.Count.{ports_of}
 use Rattle.unit.specs.Model.{Seen, model_of}
-use Rattle.message_answers.specs.Messages.{Replied}
+use Rattle.message_answers.specs.Messages.{Replied, MessageTold}
 use Rattle.bridge.specs.Calls.{messaged}
 use Rattle.bridge.specs.Calls.{Call}
 use Rattle.message_answers.specs.Messages.{message_answer}
-use Rattle.message_answers.specs.declared.MessageAnswer.{MessageAnswer}
 use Rattle.made.proofs.Made.{framing, taking, messaging, starting, quieting, reading, counting}
 use Rattle.demand_3.specs.Demand3.{Answer, ToFrame, ToTake, ToMessage, ToStart, ToQuiet, ToUnit, ToCounts, Made, frame_made, take_made, message_made, start_made, quiet_made, unit_made, counts_made, words, next, answer}
 
@@ -21,7 +20,7 @@ module _ (ports : ℕ) where
   Good w = (length w ≡ words ports) × (ports_of w ≡ ports)
 
   -- the reply is what was written
-  replied : (reply : Replied) (seen : Seen) (r : MessageAnswer) (lent back : List ℕ) → r ≡ message_answer reply seen
+  replied : (reply : Replied) (seen : Seen) (r : MessageTold) (lent back : List ℕ) → r ≡ message_answer reply seen
       → back ≡ reply.written seen ++ drop (length (reply.written seen)) lent
       → ToMessage r (take r.length back) ≡ ToMessage (message_answer reply seen) (reply.written seen)
   replied reply seen r lent back e b =

@@ -1,4 +1,5 @@
 -- What a call sends is what was handed in, or the unit's own frame. By the kind of the call, and of what a claim or request does. Assumes nothing.
+use Rattle.std.specs.Prelude.{None, Option}
 use mathlib.Core.Path.{◌≡◌, refl, ◌∙◌}
 use mathlib.Core.Bool.{Bool, true, false, cond}
 use mathlib.Core.Logic.{◌⊎◌, inl, inr}
@@ -15,12 +16,10 @@ use Rattle.delivery.specs.Calls.{after_calls}
 use Rattle.delivery.proofs.Calls.{after_append}
 use Rattle.filter.specs.Filter.{crosses}
 use Rattle.queue.specs.declared.Frame.{Frame}
-use Rattle.addresses.specs.declared.Place.TheVariants.{Free}
 use Rattle.address_claims.specs.declared.Event.{Event}
 use Rattle.unit.specs.declared.Claim.{Claim}
 use Rattle.unit.specs.declared.Claim.TheVariants.{Unstarted, Claiming, Claimed, Lost}
 use Rattle.unit.specs.declared.Unit.{Unit}
-use Rattle.unit.specs.declared.Sent.{Sent}
 use Rattle.unit.specs.Model.{Rest, Model}
 use Rattle.unit.specs.Own.{is_own, consumes, request_answer, frames_sent}
 use Rattle.unit.specs.PowerOn.{fresh}
@@ -44,7 +43,7 @@ module _ (ports : ℕ) where
   either name false p q = q
 
   module _ (rest : Rest) where
-    silent : (a : Acted) → a.sent ≡ Sent.Nothing → a.rest.own.name ≡ rest.own.name → Ours rest.own.name a
+    silent : (a : Acted) → a.sent ≡ None → a.rest.own.name ≡ rest.own.name → Ours rest.own.name a
     silent a s n = record { frame = λ k f m. absurd (Memᴰ.not-nil (rw s at m)); keeps = n }
 
     request_ours : (e : Event) (c : Claim) → Ours rest.own.name (record { rest = rest; event = e; sent = request_answer rest.own c })
@@ -85,7 +84,7 @@ module _ (ports : ℕ) where
     start_ours : Ours rest.own.name (started rest)
     unfolding started
     start_ours =
-        either rest.own.name (held_under rest.own.name (get_or rest.table rest.own.preferred Free))
+        either rest.own.name (held_under rest.own.name (get_or rest.table rest.own.preferred None))
         (record { frame = λ k f m. rw (Memᴰ.eq_of_singleton m) (of_unit (inr refl) refl refl); keeps = refl })
         (record { frame = λ k f m. rw (Memᴰ.eq_of_singleton m) (of_unit (inl refl) refl refl); keeps = refl })
 

@@ -8,22 +8,15 @@
 --   3. what a call sends and asks, read on the book: the bridge as a product
 --   4. the claim
 -- What demand 3 says of any product is `Obeys` of the crate `delivery` (specs/Product.antt): when a frame leaves, once, unchanged, what a take gives.
-use Rattle.std.specs.Prelude.{◌≡◌, Bool, true, not, ◌&&◌, cond, ◌↔◌, ◌⊎◌, ℕ, suc, ◌+◌, ◌-◌, ◌%◌, ◌≤◌, ◌<◌, eqb, ltb, leb, length, take, get_or}
+use Rattle.bridge.specs.Told.{FrameTold, TakeTold, StartTold, UnitTold, CountsTold, Took}
+use Rattle.std.specs.Prelude.{◌≡◌, Bool, true, not, ◌&&◌, cond, ◌↔◌, ◌⊎◌, ℕ, suc, ◌+◌, ◌-◌, ◌%◌, ◌≤◌, ◌<◌, eqb, ltb, leb, length, take, get_or, Option, None}
 use mathlib.Core.List.{List, [], ◌∷◌, ◌++◌, Memᴰ}
-use Rattle.std.proofs.Math.Option.{Option, none}
 use Rattle.storage.specs.Bytes.{bytes_of}
 use Rattle.delivery.specs.Calls.{Run, after_calls, answers_of}
 use Rattle.delivery.specs.Unit.{join_all}
 use Rattle.delivery.specs.Product.{Product, Answered, Obeys}
 use Rattle.queue.specs.declared.Frame.{Frame}
-use Rattle.queue.specs.Queue.{size, priority, taken_of}
-use Rattle.bridge.specs.declared.FrameAnswer.{FrameAnswer}
-use Rattle.bridge.specs.declared.TakeAnswer.{TakeAnswer}
-use Rattle.bridge.specs.declared.TakeAnswer.TheVariants.{Took}
-use Rattle.message_answers.specs.declared.MessageAnswer.{MessageAnswer}
-use Rattle.bridge.specs.declared.StartAnswer.{StartAnswer}
-use Rattle.bridge.specs.declared.UnitAnswer.{UnitAnswer}
-use Rattle.bridge.specs.declared.CountsAnswer.{CountsAnswer}
+use Rattle.queue.specs.Queue.{size, priority}
 use Rattle.unit.specs.declared.Unit.{Unit}
 use Rattle.unit.specs.Count.{count_of}
 use Rattle.unit.specs.Ports.{bit_at, digit_at}
@@ -35,7 +28,7 @@ use Rattle.bridge.specs.Calls.{messaged}
 use Rattle.unit.specs.Own.{frames_sent}
 use Rattle.claims.specs.Claims.{started}
 use Rattle.bridge.specs.Calls.{Call, FrameIn, TakeOut, Message, Start, Quiet, ReadUnit, ReadCounts, refusal, rest_after, frame_done, frame_answer, take_answer, take_number, start_answer, unit_answer, read_number, counts_answer}
-use Rattle.message_answers.specs.Messages.{message_answer}
+use Rattle.message_answers.specs.Messages.{message_answer, MessageTold}
 use Rattle.unit.specs.PowerOn.{fresh}
 use Rattle.bridge.specs.Calls.{next as next_of, asks as asks_of}
 use Rattle.made.specs.Made as made
@@ -44,35 +37,35 @@ use Rattle.made.specs.Made as made
 -- `Call` of the bridge is a call by its arguments: FrameIn, TakeOut, Message, Start, Quiet, ReadUnit, ReadCounts. This is what it was answered; of a message also the reply,
 -- the bytes that were written to the buffer. (That those behind it are untouched is in the contract of `message`.)
 pub data Answer : Type 0 where
-  ToFrame : FrameAnswer → Answer
-  ToTake : TakeAnswer → Answer
-  ToMessage : MessageAnswer → (reply : List ℕ) → Answer
-  ToStart : StartAnswer → Answer
+  ToFrame : FrameTold → Answer
+  ToTake : TakeTold → Answer
+  ToMessage : MessageTold → (reply : List ℕ) → Answer
+  ToStart : StartTold → Answer
   ToQuiet : ℕ → Answer
-  ToUnit : UnitAnswer → Answer
-  ToCounts : CountsAnswer → Answer
+  ToUnit : UnitTold → Answer
+  ToCounts : CountsTold → Answer
 
 -- A call was made on the record w by the real function, of which the contract alone is known (Made.antt), and left the record as w'.
 pub data Made : List ℕ → Call → Answer → List ℕ → Type 0 where
-  frame_made : {w bytes w' : List ℕ} {port id : ℕ} {r : FrameAnswer} → made.Arrived w port id bytes r w' → Made w (FrameIn port id bytes) (ToFrame r) w'
-  take_made : {w w' : List ℕ} {port : ℕ} {r : TakeAnswer} → made.Took w port r w' → Made w (TakeOut port) (ToTake r) w'
-  message_made : {w payload lent w' back : List ℕ} {port requester : ℕ} {r : MessageAnswer} → made.Handed w port requester payload lent r w' back
+  frame_made : {w bytes w' : List ℕ} {port id : ℕ} {r : FrameTold} → made.Arrived w port id bytes r w' → Made w (FrameIn port id bytes) (ToFrame r) w'
+  take_made : {w w' : List ℕ} {port : ℕ} {r : TakeTold} → made.Took w port r w' → Made w (TakeOut port) (ToTake r) w'
+  message_made : {w payload lent w' back : List ℕ} {port requester : ℕ} {r : MessageTold} → made.Handed w port requester payload lent r w' back
       → Made w (Message port requester payload (length lent)) (ToMessage r (take r.length back)) w'
-  start_made : {w w' : List ℕ} {r : StartAnswer} → made.Started w r w' → Made w Start (ToStart r) w'
+  start_made : {w w' : List ℕ} {r : StartTold} → made.Started w r w' → Made w Start (ToStart r) w'
   quiet_made : {w w' : List ℕ} {r : ℕ} → made.Quieted w r w' → Made w Quiet (ToQuiet r) w'
-  unit_made : {w : List ℕ} {r : UnitAnswer} → made.Told w r → Made w ReadUnit (ToUnit r) w
-  counts_made : {w : List ℕ} {port : ℕ} {r : CountsAnswer} → made.Counted w port r → Made w (ReadCounts port) (ToCounts r) w
+  unit_made : {w : List ℕ} {r : UnitTold} → made.Told w r → Made w ReadUnit (ToUnit r) w
+  counts_made : {w : List ℕ} {port : ℕ} {r : CountsTold} → made.Counted w port r → Made w (ReadCounts port) (ToCounts r) w
 
 -- No call is missing: whatever the unit's functions were called with is such a call.
 pub record EveryCall : Type 0 where
-  pub frames : {w bytes w' : List ℕ} {port id : ℕ} {r : FrameAnswer} → made.Arrived w port id bytes r w' → Made w (FrameIn port id bytes) (ToFrame r) w'
-  pub takes : {w w' : List ℕ} {port : ℕ} {r : TakeAnswer} → made.Took w port r w' → Made w (TakeOut port) (ToTake r) w'
-  pub messages : {w payload lent w' back : List ℕ} {port requester : ℕ} {r : MessageAnswer} → made.Handed w port requester payload lent r w' back
+  pub frames : {w bytes w' : List ℕ} {port id : ℕ} {r : FrameTold} → made.Arrived w port id bytes r w' → Made w (FrameIn port id bytes) (ToFrame r) w'
+  pub takes : {w w' : List ℕ} {port : ℕ} {r : TakeTold} → made.Took w port r w' → Made w (TakeOut port) (ToTake r) w'
+  pub messages : {w payload lent w' back : List ℕ} {port requester : ℕ} {r : MessageTold} → made.Handed w port requester payload lent r w' back
       → Made w (Message port requester payload (length lent)) (ToMessage r (take r.length back)) w'
-  pub starts : {w w' : List ℕ} {r : StartAnswer} → made.Started w r w' → Made w Start (ToStart r) w'
+  pub starts : {w w' : List ℕ} {r : StartTold} → made.Started w r w' → Made w Start (ToStart r) w'
   pub quiets : {w w' : List ℕ} {r : ℕ} → made.Quieted w r w' → Made w Quiet (ToQuiet r) w'
-  pub tells : {w : List ℕ} {r : UnitAnswer} → made.Told w r → Made w ReadUnit (ToUnit r) w
-  pub counts : {w : List ℕ} {port : ℕ} {r : CountsAnswer} → made.Counted w port r → Made w (ReadCounts port) (ToCounts r) w
+  pub tells : {w : List ℕ} {r : UnitTold} → made.Told w r → Made w ReadUnit (ToUnit r) w
+  pub counts : {w : List ℕ} {port : ℕ} {r : CountsTold} → made.Counted w port r → Made w (ReadCounts port) (ToCounts r) w
 
 -- ---- 2. the book
 -- All of it is over the number of ports, chosen at power-on.
@@ -107,7 +100,7 @@ module _ (ports : ℕ) where
 
   -- "Takes on that port alone are counted, refused ones not": the port of a take that isn't refused.
   unfoldable pub asks : Rest → Call → Option ℕ
-  asks rest k = cond (goes rest k) (asks_of k) none
+  asks rest k = cond (goes rest k) (asks_of k) None
 
   -- Rules 1 and 2: the frame, as it was handed in, that is sent to port q.
   abbrev pub forwarded : Rest → Call → ℕ → List Frame
@@ -152,7 +145,7 @@ module _ (ports : ℕ) where
     asks = asks;
     sends = sends;
     take_on = λ q. TakeOut (suc q);
-    took = λ o. ToTake (Took (taken_of o));
+    took = λ o. ToTake (Took o);
   }
 
 -- ---- 4. the claim

@@ -8,23 +8,25 @@ use native.Mathlib.Omega.{arith}
 use borrow.Author.Tests.{eq-eqb, ne_eqb}
 use lib.Dec.{eqb}
 use lib.ListN.{length}
-use Rattle.queue.specs.declared.Taken.{Taken}
+use Rattle.std.specs.Prelude.{Option}
+use Rattle.checks.specs.declared.refusal.Refusal.{Refusal}
+use Rattle.checks.specs.Refusals.{number}
+use Rattle.checks.proofs.Refusals.{number_positive}
+use Rattle.queue.specs.declared.Frame.{Frame}
 use Rattle.queue.specs.Queue.{Taking}
-use Rattle.bridge.specs.declared.FrameAnswer.{FrameAnswer}
-use Rattle.bridge.specs.declared.TakeAnswer.{TakeAnswer}
-use Rattle.bridge.specs.declared.TakeAnswer.TheVariants.{Refused, Took}
-use Rattle.message_answers.specs.declared.MessageAnswer.{MessageAnswer}
-use Rattle.bridge.specs.declared.StartAnswer.{StartAnswer}
-use Rattle.bridge.specs.declared.UnitAnswer.{UnitAnswer}
-use Rattle.bridge.specs.declared.CountsAnswer.{CountsAnswer}
-use Rattle.bridge.specs.declared.UnitAnswer.TheVariants.{Told}
+use Rattle.bridge.specs.Told.{FrameTold, TakeTold, Took, StartTold, UnitTold, CountsTold, Told}
+use Rattle.message_answers.specs.Messages.{MessageTold}
 use Rattle.unit.specs.declared.Unit.{Unit}
 use Rattle.unit.specs.Model.{Model, model_of}
 use Rattle.refusals.specs.Refusals.{frame_refusal, take_refusal, start_refusal, length_refusal}
 use Rattle.bridge.specs.Calls.{Call, next, refusal, frame_passed, frame_answer, take_answer, gave, start_answer, unit_answer, counts_answer, Calling, Framing, TakingOut, Messaging, Starting, Reading, Counting}
 use Rattle.deorasaeng.specs.Interface.{lent_refusal, Served, message_length, start_length, start_words, take_number, FrameCall, TakeCall, MessageCall, StartCall, UnitCall, CountsCall, QueueCall, queue_number}
-use Rattle.flat_answers.specs.Answers.{frame_length, take_length, bytes_length, unit_length, counts_length, frame_words, take_words, bytes_of_taken, unit_words, counts_words, Telling, TellingUnit}
+use Rattle.flat_answers.specs.Answers.{frame_length, take_length, bytes_length, unit_length, counts_length, frame_words, take_words, bytes_of_taken, unit_words, counts_words, Telling}
 use Rattle.deorasaeng.proofs.Numbers.{not_0, frame_lent, frame_number_lem, take_lent, take_lent_bytes, take_number_lem, silent, replied_as, start_lent, start_number_lem, unit_lent, unit_number_lem, counts_lent, counts_number_lem, queue_lent, queue_lent_bytes, queue_number_lem}
+
+-- ---- a refusal has no number 0
+pub not_none : (refusal : Refusal) → number refusal ≡ 0 → ⊥
+not_none refusal z = let p = number_positive refusal in omega arith
 
 -- ---- the record
 -- refused before the record is touched
@@ -51,7 +53,7 @@ frame_refusal_lem ports lent m port id bytes =
       | no h ↦ rw (ne_eqb (frame_refusal ports lent port id (length bytes)) 0 h)
     ]
 
-take_refused : (ports lent : ℕ) (m : Model) (port number : ℕ) → Refused number ≡ take_answer ports lent m port → (number ≡ take_refusal ports lent port) × (number ≡ 0 → ⊥)
+take_refused : (ports lent : ℕ) (m : Model) (port number : ℕ) → TakeTold.Refused number ≡ take_answer ports lent m port → (number ≡ take_refusal ports lent port) × (number ≡ 0 → ⊥)
 unfolding take_answer
 take_refused ports lent m port number e =
     elim (ℕ_discrete (take_refusal ports lent port) 0) [
@@ -59,7 +61,7 @@ take_refused ports lent m port number e =
       | no h ↦ let d = rw (ne_eqb (take_refusal ports lent port) 0 h) at e in let same : number ≡ take_refusal ports lent port = cc in (same, λ z. h (sym same ∙ z))
     ]
 
-take_done : (ports lent : ℕ) (m : Model) (port : ℕ) (taken : Taken) → Took taken ≡ take_answer ports lent m port → take_refusal ports lent port ≡ 0
+take_done : (ports lent : ℕ) (m : Model) (port : ℕ) (taken : Option Frame) → Took taken ≡ take_answer ports lent m port → take_refusal ports lent port ≡ 0
 unfolding take_answer
 take_done ports lent m port taken e =
     elim (ℕ_discrete (take_refusal ports lent port) 0) [
@@ -90,7 +92,7 @@ module _ {ports : ℕ} {before : List ℕ} {port id : ℕ} {bytes answer : List 
       let n : r ≡ 0 → ⊥ = λ z. not_0 ports port (sym e ∙ z) in
       record { number = e ∙ frame_lent ports (length before) (length answer) port id (length bytes) h; served = untouched n; tells = rw (ne_eqb r 0 n) }
 
-module _ {ports : ℕ} {before after : List ℕ} {port id : ℕ} {bytes answer : List ℕ} {a : FrameAnswer} (F : Framing ports before after port id bytes a) (e : length answer ≡ frame_length) where
+module _ {ports : ℕ} {before after : List ℕ} {port id : ℕ} {bytes answer : List ℕ} {a : FrameTold} (F : Framing ports before after port id bytes a) (e : length answer ≡ frame_length) where
   frame_called : {told : List ℕ} {r : ℕ} → r ≡ a.refusal → told ≡ cond (eqb r 0) (frame_words a) answer → FrameCall ports before after port id bytes answer told r
   unfolding refusal
   frame_called {r = r} z t =
@@ -120,7 +122,7 @@ module _ {ports : ℕ} {before : List ℕ} {port : ℕ} {answer bytes : List ℕ
   pub take_wrong_bytes : r ≡ lent_refusal ports port → (length bytes ≡ bytes_length → ⊥) → TakeCall ports before before port answer answer bytes bytes r
   take_wrong_bytes e h = take_untouched e (e ∙ take_lent_bytes ports (length before) (length answer) port (length bytes) h)
 
-module _ {ports : ℕ} {before after : List ℕ} {port : ℕ} {answer bytes : List ℕ} {t : TakeAnswer} (T : TakingOut ports before after port t) (e : length answer ≡ take_length) (e' : length bytes ≡ bytes_length) where
+module _ {ports : ℕ} {before after : List ℕ} {port : ℕ} {answer bytes : List ℕ} {t : TakeTold} (T : TakingOut ports before after port t) (e : length answer ≡ take_length) (e' : length bytes ≡ bytes_length) where
   take_called : {told written : List ℕ} {r : ℕ} → r ≡ take_refusal ports (length before) port → told ≡ cond (eqb r 0) (take_words (gave t)) answer → written ≡ cond (eqb r 0) (bytes_of_taken (gave t) bytes) bytes
       → TakeCall ports before after port answer told bytes written r
   unfolding refusal
@@ -133,14 +135,14 @@ module _ {ports : ℕ} {before after : List ℕ} {port : ℕ} {answer bytes : Li
     writes = rw (← T.answer) w;
   }
 
-  pub take_left : {number : ℕ} → t ≡ Refused number → TakeCall ports before after port answer answer bytes bytes number
+  pub take_left : {number : ℕ} → t ≡ TakeTold.Refused number → TakeCall ports before after port answer answer bytes bytes number
   take_left {number} is =
       let R = take_refused ports (length before) (model_of ports before) port number (sym is ∙ T.answer) in
       take_called R.0 (rw (ne_eqb number 0 R.1)) (rw (ne_eqb number 0 R.1))
 
-  pub take_told : {taken : Taken} {told written : List ℕ} {r : ℕ} → t ≡ Took taken → Telling told bytes written taken r → TakeCall ports before after port answer told bytes written r
-  take_told {taken} {r = r} is G =
-      take_called (G.number ∙ sym (take_done ports (length before) (model_of ports before) port taken (sym is ∙ T.answer))) (rw (eq-eqb r 0 G.number, is) G.tells) (rw (eq-eqb r 0 G.number, is) G.writes)
+  pub take_told : {taken : Option Frame} {told written : List ℕ} → t ≡ Took taken → Telling told bytes written taken → TakeCall ports before after port answer told bytes written 0
+  take_told {taken} is G =
+      take_called (sym (take_done ports (length before) (model_of ports before) port taken (sym is ∙ T.answer))) (rw is G.tells) (rw is G.writes)
 
 -- ---- deorasaeng_message
 module _ {ports : ℕ} {before : List ℕ} {port requester : ℕ} {payload reply answer : List ℕ} where
@@ -150,7 +152,7 @@ module _ {ports : ℕ} {before : List ℕ} {port requester : ℕ} {payload reply
       let S = silent ports (length before) (length answer) port (length reply) (model_of ports before).rest requester payload h in
       record { number = rw S e; served = untouched n; writes = rw S; tells = rw (ne_eqb (length answer) message_length h); called = λ z. absurd (h z) }
 
-  pub message_done : {after back told : List ℕ} {a : MessageAnswer} → Messaging ports before after port requester payload reply back a → length answer ≡ message_length
+  pub message_done : {after back told : List ℕ} {a : MessageTold} → Messaging ports before after port requester payload reply back a → length answer ≡ message_length
       → told ≡ a.pgn ∷ a.length ∷ a.told.entry ∷ a.told.to ∷ a.told.pgn ∷ [] → MessageCall ports before after port requester payload reply back answer told a.refusal
   unfolding refusal
   message_done {a = a} M e t =
@@ -168,7 +170,7 @@ module _ {ports : ℕ} {before answer : List ℕ} where
   pub start_wrong : (length answer ≡ start_length → ⊥) → StartCall ports before before answer answer 2
   start_wrong h = record { number = start_lent ports (length before) (length answer) (model_of ports before).rest.own h; served = untouched (λ z. omega arith); tells = refl }
 
-  module _ {after : List ℕ} {a : StartAnswer} (S : Starting ports before after a) (e : length answer ≡ start_length) where
+  module _ {after : List ℕ} {a : StartTold} (S : Starting ports before after a) (e : length answer ≡ start_length) where
     start_called : {told : List ℕ} {r : ℕ} → r ≡ a.refusal → told ≡ cond (eqb r 0) (start_words a) answer → StartCall ports before after answer told r
     unfolding refusal
     start_called {r = r} z t =
@@ -186,7 +188,7 @@ module _ {ports : ℕ} {before answer : List ℕ} where
     start_done z t = start_called (sym z) t
 
 -- ---- deorasaeng_unit
-unit_refused : (ports lent : ℕ) (m : Model) (number : ℕ) → UnitAnswer.Refused number ≡ unit_answer ports lent m → (number ≡ length_refusal ports lent) × (number ≡ 0 → ⊥)
+unit_refused : (ports lent : ℕ) (m : Model) (number : ℕ) → UnitTold.Refused number ≡ unit_answer ports lent m → (number ≡ length_refusal ports lent) × (number ≡ 0 → ⊥)
 unfolding unit_answer
 unit_refused ports lent m number e =
     elim (ℕ_discrete (length_refusal ports lent) 0) [
@@ -206,7 +208,7 @@ module _ {ports : ℕ} {words answer : List ℕ} where
   pub unit_wrong : (length answer ≡ unit_length → ⊥) → UnitCall ports words answer answer 2
   unit_wrong h = record { number = unit_lent ports (length words) (length answer) h; served = untouched (λ z. omega arith); tells = refl }
 
-  module _ {a : UnitAnswer} (R : Reading ports words a) (e : length answer ≡ unit_length) where
+  module _ {a : UnitTold} (R : Reading ports words a) (e : length answer ≡ unit_length) where
     unit_called : {told : List ℕ} {r : ℕ} → r ≡ length_refusal ports (length words) → told ≡ cond (eqb r 0) (unit_words (model_of ports words).rest.own) answer → UnitCall ports words answer told r
     unfolding refusal
     unit_called n t = record {
@@ -215,15 +217,15 @@ module _ {ports : ℕ} {words answer : List ℕ} where
       tells = t;
     }
 
-    pub unit_left : {number : ℕ} → a ≡ UnitAnswer.Refused number → UnitCall ports words answer answer number
+    pub unit_left : {number : ℕ} → a ≡ UnitTold.Refused number → UnitCall ports words answer answer number
     unit_left {number} is =
         let N = unit_refused ports (length words) (model_of ports words) number (sym is ∙ R.answer) in
         unit_called N.0 (rw (ne_eqb number 0 N.1))
 
-    pub unit_told : {own : Unit} {told : List ℕ} {r : ℕ} → a ≡ Told own → TellingUnit told own r → UnitCall ports words answer told r
-    unit_told {own} {r = r} is G =
+    pub unit_told : {own : Unit} {told : List ℕ} → a ≡ Told own → told ≡ unit_words own → UnitCall ports words answer told 0
+    unit_told {own} is t =
         let D = unit_done ports (length words) (model_of ports words) own (sym is ∙ R.answer) in
-        unit_called (G.number ∙ sym D.0) (rw (eq-eqb r 0 G.number, ← D.1) G.tells)
+        unit_called (sym D.0) (rw (← D.1) t)
 
 -- ---- deorasaeng_counts
 module _ {ports : ℕ} {words : List ℕ} {port : ℕ} {answer : List ℕ} where
@@ -232,7 +234,7 @@ module _ {ports : ℕ} {words : List ℕ} {port : ℕ} {answer : List ℕ} where
       let n : r ≡ 0 → ⊥ = λ z. not_0 ports port (sym e ∙ z) in
       record { number = e ∙ counts_lent ports (length words) (length answer) port h; served = untouched n; tells = rw (ne_eqb r 0 n) }
 
-  module _ {a : CountsAnswer} (C : Counting ports words port a) (e : length answer ≡ counts_length) where
+  module _ {a : CountsTold} (C : Counting ports words port a) (e : length answer ≡ counts_length) where
     counts_called : {told : List ℕ} {r : ℕ} → r ≡ a.refusal → told ≡ cond (eqb r 0) (counts_words a.tally) answer → CountsCall ports words port answer told r
     unfolding refusal
     counts_called {r = r} z t =
@@ -260,12 +262,12 @@ module _ {before answer bytes : List ℕ} where
   pub queue_wrong_bytes : (length bytes ≡ bytes_length → ⊥) → QueueCall before before answer answer bytes bytes 2
   queue_wrong_bytes h = queue_untouched (queue_lent_bytes (length answer) (length bytes) h)
 
-  pub queue_told : {after told written : List ℕ} {taken : Taken} {r : ℕ} → Taking before after taken → length answer ≡ take_length → length bytes ≡ bytes_length
-      → Telling told bytes written taken r → QueueCall before after answer told bytes written r
-  queue_told {r = r} T e e' G = record {
-    number = G.number ∙ sym (queue_number_lem (length answer) (length bytes) e e');
+  pub queue_told : {after told written : List ℕ} {taken : Option Frame} → Taking before after taken → length answer ≡ take_length → length bytes ≡ bytes_length
+      → Telling told bytes written taken → QueueCall before after answer told bytes written 0
+  queue_told T e e' G = record {
+    number = sym (queue_number_lem (length answer) (length bytes) e e');
     done = λ _. rw (← T.answer) T;
-    refused = λ h. absurd (h G.number);
-    tells = rw (eq-eqb r 0 G.number, ← T.answer) G.tells;
-    writes = rw (eq-eqb r 0 G.number, ← T.answer) G.writes;
+    refused = λ h. absurd (h refl);
+    tells = rw (← T.answer) G.tells;
+    writes = rw (← T.answer) G.writes;
   }

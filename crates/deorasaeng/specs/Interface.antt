@@ -2,14 +2,14 @@
 -- and the bytes that it writes. `before` and `after` are the record's words; `answer` and `told` the answer's words before and after; `lent..` is the
 -- length of storage that was lent. `deorasaeng_power_on` and `deorasaeng_quiet` have no answer: their contracts are the bridge's, `PoweringOn` and `Quieting`.
 -- Assumes nothing.
-use Rattle.std.specs.Prelude.{ℕ, ◌+◌, Bool, true, not, ◌||◌, cond, ◌≡◌, List, [], ◌∷◌, ◌++◌, length, take, drop, ltb, eqb}
+use Rattle.std.specs.Prelude.{ℕ, ◌+◌, Bool, true, not, ◌||◌, cond, ◌≡◌, List, [], ◌∷◌, ◌++◌, length, take, drop, ltb, eqb, Option}
 use Rattle.identifier.specs.Identifier.{too_wide, wrong_source}
 use Rattle.delivery.specs.Row.{pull, given}
-use Rattle.queue.specs.declared.Taken.{Taken}
-use Rattle.queue.specs.Queue.{block_length, row_of, priority, taken_of, Taking}
+use Rattle.queue.specs.declared.Frame.{Frame}
+use Rattle.queue.specs.Queue.{block_length, row_of, priority, Taking}
 use Rattle.checks.specs.Checks.{check, first}
 use Rattle.network_message.specs.Decoding.{decoded, longest}
-use Rattle.bridge.specs.declared.StartAnswer.{StartAnswer}
+use Rattle.bridge.specs.Told.{StartTold}
 use Rattle.unit.specs.declared.Unit.{Unit}
 use Rattle.unit.specs.Count.{ports_of}
 use Rattle.unit.specs.Model.{Rest, Seen, model_of}
@@ -121,7 +121,7 @@ unfoldable pub start_number : ℕ → ℕ → ℕ → Unit → ℕ
 start_number ports lent lentAnswer own = first (check (not_long ports lent || not_of start_length lentAnswer) 2 ∷ start_checks own)
 
 -- ports where the unit's own frame was lost, and what became of the unit: 1 Claiming, 3 Lost
-abbrev pub start_words : StartAnswer → List ℕ
+abbrev pub start_words : StartTold → List ℕ
 start_words a = a.unsent ∷ claim_word a.claim ∷ []
 
 pub record StartCall (ports : ℕ) (before after answer told : List ℕ) (r : ℕ) : Type 0 where
@@ -152,8 +152,8 @@ unfoldable pub queue_number : ℕ → ℕ → ℕ
 queue_number lentAnswer lentBytes = first (check (not_of take_length lentAnswer || not_of bytes_length lentBytes) 2 ∷ [])
 
 -- what the take gives
-abbrev pub taken_from : List ℕ → Taken
-taken_from block = taken_of (given (pull priority (row_of block)))
+abbrev pub taken_from : List ℕ → Option Frame
+taken_from block = given (pull priority (row_of block))
 
 pub record QueueCall (before after answer told bytes written : List ℕ) (r : ℕ) : Type 0 where
   pub number : r ≡ queue_number (length answer) (length bytes)

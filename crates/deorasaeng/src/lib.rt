@@ -3,15 +3,15 @@
 #![tactic(auto)]
 
 ghost use Rattle.std.specs.Prelude.{◌≡◌};
+ghost use Rattle.checks.specs.Refusals.{number_in};
 ghost use Rattle.unit.specs.Count.{ports_of};
 ghost use Rattle.unit.specs.PowerOn.{PoweringOn};
 ghost use Rattle.bridge.specs.Calls.{Quieting};
 ghost use Rattle.deorasaeng.specs.Interface.{lent_refusal, FrameCall, TakeCall, MessageCall, StartCall, UnitCall, CountsCall, QueueCall};
 ghost use Rattle.deorasaeng.specs.PlanCalls.{Telling, PlanCall, LinksCall};
 
-use bridge::{TakeAnswer, UnitAnswer};
+use checks::Refusal;
 use plan_links::Link;
-use plans::Planned;
 use queue::Queue;
 use unit::Unit;
 
@@ -38,9 +38,19 @@ fn lent_refusal(words: &[u64], port: u32) -> u32
     ensures { result ≡ lent_refusal (ports_of words.now) port }
 {
     if !checks::is_port(unit::ports_of(words), port) {
-        return 1;
+        return Refusal::NoPort.number();
     }
-    2
+    Refusal::WrongLength.number()
+}
+
+// The number of what came of a call that tells nothing, 0 for done.
+fn number(done: Result<(), Refusal>) -> u32
+    ensures { result ≡ number_in done }
+{
+    match done {
+        Ok(()) => 0,
+        Err(refusal) => refusal.number(),
+    }
 }
 
 // The version of the interface that this library has; the header has the one that a caller was compiled with.
@@ -54,14 +64,14 @@ pub fn deorasaeng_version() -> u64
 pub fn deorasaeng_power_on(words: &mut [u64], name: u64, preferred: u32) -> u32
     ensures { PoweringOn 4 words.old words.new name preferred result }
 {
-    Unit::power_on(words, name, preferred)
+    number(Unit::power_on(words, name, preferred))
 }
 
 // Power-on with a number of ports, 2 to 8.
 pub fn deorasaeng_power_on_ports(words: &mut [u64], name: u64, preferred: u32, ports: u32) -> u32
     ensures { PoweringOn ports words.old words.new name preferred result }
 {
-    Unit::power_on_ports(words, name, preferred, ports)
+    number(Unit::power_on_ports(words, name, preferred, ports))
 }
 
 // A frame arrived at a port.
@@ -77,13 +87,13 @@ pub fn deorasaeng_frame(
     if answer.len() != FRAME_WORDS {
         return lent_refusal(words, port);
     }
-    let a = bridge::frame(words, port, id, bytes);
-    let number = a.refusal;
-    if number != 0 {
-        return number;
+    match bridge::frame(words, port, id, bytes) {
+        Ok(a) => {
+            flat_answers::tell_frame(answer, a);
+            0
+        }
+        Err(refusal) => refusal.number(),
     }
-    flat_answers::tell_frame(answer, a);
-    0
 }
 
 // A port is ready to send its next frame.
@@ -96,10 +106,12 @@ pub fn deorasaeng_take(words: &mut [u64], port: u32, answer: &mut [u64], bytes: 
     if bytes.len() != flat_answers::FRAME_BYTES {
         return lent_refusal(words, port);
     }
-    let t = bridge::take(words, port);
-    match t {
-        TakeAnswer::Refused(number) => number,
-        TakeAnswer::Took(taken) => flat_answers::tell_taken(answer, bytes, taken),
+    match bridge::take(words, port) {
+        Ok(taken) => {
+            flat_answers::tell_taken(answer, bytes, taken);
+            0
+        }
+        Err(refusal) => refusal.number(),
     }
 }
 
@@ -118,12 +130,15 @@ pub fn deorasaeng_message(
         return lent_refusal(words, port);
     }
     let a = bridge::message(words, port, requester, payload, reply);
-    answer[0] = a.pgn as u64;
-    answer[1] = a.length as u64;
-    answer[2] = a.told.entry as u64;
-    answer[3] = a.told.to as u64;
-    answer[4] = a.told.pgn;
-    a.refusal
+    let told = a.told();
+    answer.copy_from_slice(&[
+        a.pgn as u64,
+        a.length as u64,
+        told.entry as u64,
+        told.to as u64,
+        told.pgn,
+    ]);
+    a.number()
 }
 
 // The unit claims its preferred address.
@@ -131,24 +146,22 @@ pub fn deorasaeng_start(words: &mut [u64], answer: &mut [u64]) -> u32
     ensures { StartCall (ports_of words.old) words.old words.new answer.old answer.new result }
 {
     if answer.len() != START_WORDS {
-        return 2;
+        return Refusal::WrongLength.number();
     }
-    let a = bridge::start(words);
-    let refusal = a.refusal;
-    if refusal != 0 {
-        return refusal;
+    match bridge::start(words) {
+        Ok(a) => {
+            answer.copy_from_slice(&[a.unsent as u64, a.claim.word()]);
+            0
+        }
+        Err(refusal) => refusal.number(),
     }
-    let claim = a.claim;
-    answer[0] = a.unsent as u64;
-    answer[1] = claim.word();
-    0
 }
 
 // The 250 ms after the unit's claim are over.
 pub fn deorasaeng_quiet(words: &mut [u64]) -> u32
     ensures { Quieting (ports_of words.old) words.old words.new result }
 {
-    bridge::quiet(words)
+    number(bridge::quiet(words))
 }
 
 // The unit is read: its claim state, its addresses, its NAME, and how many ports it has.
@@ -157,11 +170,14 @@ pub fn deorasaeng_unit(words: &[u64], answer: &mut [u64]) -> u32
 {
     let told = bridge::unit(words);
     if answer.len() != UNIT_WORDS {
-        return 2;
+        return Refusal::WrongLength.number();
     }
     match told {
-        UnitAnswer::Refused(number) => number,
-        UnitAnswer::Told(unit) => flat_answers::tell_unit(answer, unit),
+        Ok(unit) => {
+            flat_answers::tell_unit(answer, unit);
+            0
+        }
+        Err(refusal) => refusal.number(),
     }
 }
 
@@ -172,13 +188,13 @@ pub fn deorasaeng_counts(words: &[u64], port: u32, answer: &mut [u64]) -> u32
     if answer.len() != COUNTS_WORDS {
         return lent_refusal(words, port);
     }
-    let counted = bridge::counts(words, port);
-    let refused = counted.refusal;
-    if refused != 0 {
-        return refused;
+    match bridge::counts(words, port) {
+        Ok(tally) => {
+            flat_answers::tell_counts(answer, tally);
+            0
+        }
+        Err(refusal) => refusal.number(),
     }
-    flat_answers::tell_counts(answer, counted.tally);
-    0
 }
 
 // A queue after a take that was told, and the number that the take gives.
@@ -193,18 +209,22 @@ fn take_told(queue: Queue, answer: &mut [u64], bytes: &mut [u8]) -> AfterTold
     ensures { QueueCall queue.words result.queue.words answer.old answer.new bytes.old bytes.new result.number }
 {
     if answer.len() != TAKE_WORDS {
-        return AfterTold { queue, number: 2 };
+        return AfterTold {
+            queue,
+            number: Refusal::WrongLength.number(),
+        };
     }
     if bytes.len() != flat_answers::FRAME_BYTES {
-        return AfterTold { queue, number: 2 };
+        return AfterTold {
+            queue,
+            number: Refusal::WrongLength.number(),
+        };
     }
     let t = queue.take();
-    let rest = t.queue;
-    let taken = t.taken;
-    let number = flat_answers::tell_taken(answer, bytes, taken);
+    flat_answers::tell_taken(answer, bytes, t.taken);
     AfterTold {
-        queue: rest,
-        number,
+        queue: t.queue,
+        number: 0,
     }
 }
 
@@ -218,18 +238,18 @@ pub fn deorasaeng_take_queue(queue: &mut Queue, answer: &mut [u64], bytes: &mut 
 }
 
 // A plan's answer as the caller gets it.
-fn tell_plan(planned: Planned, answer: &mut [u64]) -> u32
+fn tell_plan(planned: Result<u64, Refusal>, answer: &mut [u64]) -> u32
     ensures { Telling planned answer.old answer.new result }
 {
     if answer.len() != PLAN_WORDS {
-        return 2;
+        return Refusal::WrongLength.number();
     }
     match planned {
-        Planned::Heard(segments) => {
+        Ok(segments) => {
             answer[0] = segments;
             0
         }
-        Planned::Refused(number) => number,
+        Err(refusal) => refusal.number(),
     }
 }
 

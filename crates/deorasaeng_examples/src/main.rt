@@ -13,12 +13,6 @@ const NAME: u64 = 0x20001C000AC00123;
 // A length that no answer has.
 const WRONG: usize = 4;
 
-fn tell_words(rt: &impl Print, word: &[u8], told: &[u64]) {
-    text(rt, word);
-    words(rt, told);
-    text(rt, b"\n");
-}
-
 fn tell(rt: &impl Print, word: &[u8], given: &[u64], answer: &[u64]) {
     text(rt, word);
     words(rt, given);
@@ -77,13 +71,13 @@ fn of_a_reply(rt: &impl Print, record: &mut [u64], word: &[u8], port: u32) {
 
 fn wrong_answers(rt: &impl Print, record: &mut [u64]) {
     of_the_unit(rt, record);
-    of_a_port(
-        rt,
-        record,
-        b"port 1, frame, take, message and counts on 4 words:",
-        1,
-    );
-    of_a_port(rt, record, b"port 5, the same:", 5);
+    let ports: [(&[u8], u32); 2] = [
+        (b"port 1, frame, take, message and counts on 4 words:", 1),
+        (b"port 5, the same:", 5),
+    ];
+    for (word, port) in ports {
+        of_a_port(rt, record, word, port);
+    }
 }
 
 fn wrong_bytes(rt: &impl Print, record: &mut [u64]) {
@@ -100,10 +94,8 @@ fn send(lent: &mut [u64], answer: &mut [u64]) -> u32 {
 
 // As many as a queue holds, which wait at the other ports.
 fn fill(lent: &mut [u64], answer: &mut [u64]) {
-    let mut i: usize = 0;
-    while i < Unit::QUEUE_SIZE {
+    for _ in 0..Unit::QUEUE_SIZE {
         send(lent, answer);
-        i += 1;
     }
 }
 
@@ -117,11 +109,9 @@ fn full(rt: &impl Print, record: &mut [u64]) {
 
 // A frame, and a take at a port where it waits, 70,000 times.
 fn pass_on(lent: &mut [u64], answer: &mut [u64], taken: &mut [u64], bytes: &mut [u8]) {
-    let mut i: usize = 0;
-    while i < 70000 {
+    for _ in 0..70000 {
         send(lent, answer);
         deorasaeng::deorasaeng_take(lent, 1, taken, bytes);
-        i += 1;
     }
 }
 
@@ -189,9 +179,14 @@ fn joined() -> [u64; plan_shape::PORTS_LENGTH] {
 // Unit 1 lets 65097 alone through from segment 1 to 2; then unit 2 joins 1 too.
 fn ask_plan(rt: &impl Print, lists: &[u64]) {
     let mut ports = joined();
-    plan(rt, &ports, lists, b"plan, 65097 from 1:", about(65097));
-    plan(rt, &ports, lists, b"plan, 61444 from 1:", about(61444));
-    plan(rt, &ports, lists, b"plan, 61185 from 1:", about(61185));
+    let asked: [(&[u8], u32); 3] = [
+        (b"plan, 65097 from 1:", 65097),
+        (b"plan, 61444 from 1:", 61444),
+        (b"plan, 61185 from 1:", 61185),
+    ];
+    for (word, pgn) in asked {
+        plan(rt, &ports, lists, word, about(pgn));
+    }
     let short = [0u64; plan_shape::PORTS_LENGTH];
     plan(
         rt,
@@ -207,17 +202,35 @@ fn ask_plan(rt: &impl Print, lists: &[u64]) {
 // Numbers beside the words.
 fn ask_numbers(rt: &impl Print, lists: &[u64]) {
     let ports = joined();
-    let mut q = about(65097);
-    q.first = 0;
-    plan(rt, &ports, lists, b"plan, from 0:", q);
-    q.first = 4;
-    plan(rt, &ports, lists, b"plan, from 4 of 3:", q);
-    q.first = 1;
-    q.units = 17;
-    plan(rt, &ports, lists, b"plan, 17 units:", q);
-    q.units = 2;
-    q.segments = 17;
-    plan(rt, &ports, lists, b"plan, 17 segments:", q);
+    let q = about(65097);
+    plan(
+        rt,
+        &ports,
+        lists,
+        b"plan, from 0:",
+        Question { first: 0, ..q },
+    );
+    plan(
+        rt,
+        &ports,
+        lists,
+        b"plan, from 4 of 3:",
+        Question { first: 4, ..q },
+    );
+    plan(
+        rt,
+        &ports,
+        lists,
+        b"plan, 17 units:",
+        Question { units: 17, ..q },
+    );
+    plan(
+        rt,
+        &ports,
+        lists,
+        b"plan, 17 segments:",
+        Question { segments: 17, ..q },
+    );
 }
 
 // Segments on ports: of unit 2 and of unit 3, which is not in use.
@@ -230,36 +243,39 @@ fn ask_ports(rt: &impl Print, lists: &[u64]) {
 }
 
 // A pair's first words: of unit 1 from its first port to its second, and of a pair of unit 3, which is not in use.
-fn ask_words(rt: &impl Print, word: &[u8], mode: u64, count: u64, listed: u64) {
+fn ask_words(rt: &impl Print, word: &[u8], pair: [u64; 3]) {
     let ports = joined();
     let mut lists = [0u64; plan_shape::LISTS_LENGTH];
-    lists[0] = mode;
-    lists[1] = count;
-    lists[2] = listed;
+    lists[..3].copy_from_slice(&pair);
     lists[2 * plan_shape::PAIRS * plan_shape::BLOCK_SIZE] = 3;
     plan(rt, &ports, &lists, word, about(65097));
 }
 
+// Mode, count and PGN of a pair.
+const PAIRS: [(&[u8], [u64; 3]); 8] = [
+    (b"plan, mode 1, 65097 listed:", [1, 1, 65097]),
+    (b"plan, mode 3:", [3, 1, 65097]),
+    (b"plan, mode 2^32 + 2:", [4294967298, 1, 65097]),
+    (b"plan, 33 listed:", [2, 33, 65097]),
+    (b"plan, 64 listed:", [2, 64, 65097]),
+    (b"plan, 61185 listed:", [2, 1, 61185]),
+    (b"plan, 2^18 listed:", [1, 1, 262144]),
+    (b"plan, cleared, 33 of 61185 listed:", [0, 33, 61185]),
+];
+
 fn wrong_words(rt: &impl Print) {
-    ask_words(rt, b"plan, mode 1, 65097 listed:", 1, 1, 65097);
-    ask_words(rt, b"plan, mode 3:", 3, 1, 65097);
-    ask_words(rt, b"plan, mode 2^32 + 2:", 4294967298, 1, 65097);
-    ask_words(rt, b"plan, 33 listed:", 2, 33, 65097);
-    ask_words(rt, b"plan, 64 listed:", 2, 64, 65097);
-    ask_words(rt, b"plan, 61185 listed:", 2, 1, 61185);
-    ask_words(rt, b"plan, 2^18 listed:", 1, 1, 262144);
-    ask_words(rt, b"plan, cleared, 33 of 61185 listed:", 0, 33, 61185);
+    for (word, pair) in PAIRS {
+        ask_words(rt, word, pair);
+    }
 }
 
 // Sixteen units: the second to the last are a chain from segment 1 to 16, the first is on segment 1 alone.
 fn chained() -> [u64; plan_shape::PORTS_LENGTH] {
     let mut ports = [0u64; plan_shape::PORTS_LENGTH];
     ports[0] = 1;
-    let mut i: usize = 1;
-    while i < plan_shape::UNITS {
+    for i in 1..plan_shape::UNITS {
         ports[plan_shape::PORTS * i] = i as u64;
         ports[plan_shape::PORTS * i + 1] = i as u64 + 1;
-        i += 1;
     }
     ports
 }
@@ -287,10 +303,8 @@ fn heard_past(ports: &[u64; plan_shape::PORTS_LENGTH], place: usize, first: u32)
 // The same for each unit, first to last.
 fn shut_in_turn(ports: &[u64; plan_shape::PORTS_LENGTH]) -> [u64; plan_shape::UNITS] {
     let mut heard = [0u64; plan_shape::UNITS];
-    let mut i: usize = 0;
-    while i < plan_shape::UNITS {
-        heard[i] = heard_past(ports, i, 1);
-        i += 1;
+    for (i, told) in heard.iter_mut().enumerate() {
+        *told = heard_past(ports, i, 1);
     }
     heard
 }
@@ -298,9 +312,14 @@ fn shut_in_turn(ports: &[u64; plan_shape::PORTS_LENGTH]) -> [u64; plan_shape::UN
 fn chains(rt: &impl Print) {
     let ports = chained();
     let heard = shut_in_turn(&ports);
-    tell_words(rt, b"chain from 1, unit 1 to 16 shut:", &heard);
+    tell(rt, b"chain from 1, unit 1 to 16 shut:", &heard, &[]);
     let back = [heard_past(&ports, 15, 16)];
-    tell_words(rt, b"chain from 16, unit 16 shut the other way:", &back);
+    tell(
+        rt,
+        b"chain from 16, unit 16 shut the other way:",
+        &back,
+        &[],
+    );
 }
 
 fn plans(rt: &impl Print) {

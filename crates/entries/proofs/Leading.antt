@@ -45,6 +45,14 @@ module _ (test : ℕ → Bool) where
         | no n ↦ absurd (true≢false (sym (leading_all xs (omega (arith, leading_few xs))) ∙ e))
       ]
 
+  -- where it holds of all, none is the first such
+  pub leading_every : (xs : List ℕ) → every test xs ≡ true → length xs ≤ leading test xs
+  leading_every xs e =
+      elim (dec_lt (leading test xs) (length xs)) [
+        | yes h ↦ absurd (true≢false (sym e ∙ leading_some xs h))
+        | no n ↦ omega arith
+      ]
+
   pub leading_holds : (xs : List ℕ) (j : ℕ) → j < leading test xs → test (get_or xs j 0) ≡ true
   unfolding leading
   leading_holds [] j h = absurd (not-suc-le-zero h)

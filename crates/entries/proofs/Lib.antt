@@ -1,4 +1,4 @@
 pub mod Leading
 pub mod Listed
-mod ThreeBytes
+pub mod ThreeBytes
 pub mod Reported

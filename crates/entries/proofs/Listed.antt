@@ -2,13 +2,11 @@
 use mathlib.Core.Path.{◌≡◌, refl, sym, ◌∙◌}
 use mathlib.Core.Bool.{Bool, true, false, cond, ◌||◌, or_assoc}
 use mathlib.Core.List.{List, [], ◌∷◌, ◌++◌}
-use Prim.Native.Nat.{ℕ, suc, ◌+◌, ◌<◌}
+use Prim.Native.Nat.{ℕ, suc}
 use native.Mathlib.Omega.{arith}
 use borrow.Author.Tests.{eq-eqb, ne_eqb, eqb-true, eqb-false}
 use lib.Dec.{eqb}
-use lib.ListN.{length, get_or}
 use Rattle.checks.proofs.Tests.{both}
-use Rattle.storage.proofs.Walk.{Left, left_next, left_one}
 use Rattle.entries.specs.Entries.{listed, every, entries_of, whole, well_formed, leading, first_wrong}
 use Rattle.identifier.specs.Identifier.{is_pgn}
 
@@ -23,16 +21,6 @@ pub listed_append : (x : ℕ) (es ys : List ℕ) → listed x (es ++ ys) ≡ (li
 unfolding listed
 listed_append x [] ys = refl
 listed_append x (e ∷ es) ys = rw (listed_append x es ys) (sym (or_assoc (eqb e x) (listed x es) (listed x ys)))
-
--- ---- a walk that looks for x among entries
-module _ {x : ℕ} {xs : List ℕ} {i : ℕ} (L : Left (listed x xs) (listed x) xs i) (turn : i < length xs) where
-  pub named_here : get_or xs i 0 ≡ x → listed x xs ≡ true
-  unfolding listed
-  named_here e = left_next L turn ∙ rw (eq-eqb (get_or xs i 0) x e)
-
-  pub named_not : (get_or xs i 0 ≡ x → ⊥) → Left (listed x xs) (listed x) xs (i + 1)
-  unfolding listed
-  named_not ne = left_one L turn (rw (ne_eqb (get_or xs i 0) x ne))
 
 -- ---- every entry
 pub one_every : (test : ℕ → Bool) (es : List ℕ) (x : ℕ) → every test es ≡ true → test x ≡ true → every test (es ++ (x ∷ [])) ≡ true

@@ -1,10 +1,8 @@
 -- The entries of a command: three bytes to a PGN, least significant first.
 -- Assumes nothing.
-use Rattle.std.specs.Prelude.{ℕ, suc, ◌+◌, ◌%◌, Bool, true, false, cond, ◌&&◌, ◌||◌, List, [], ◌∷◌, ◌++◌, length, take, drop, eqb, leb}
+use Rattle.std.specs.Prelude.{ℕ, suc, ◌+◌, ◌%◌, Bool, true, false, cond, ◌&&◌, ◌||◌, List, [], ◌∷◌, ◌++◌, length, take, drop, eqb, leb, Option, Some, None}
 use Rattle.storage.specs.Bytes.{packed, bytes_of}
 use Rattle.identifier.specs.Identifier.{is_pgn}
-use Rattle.entries.specs.declared.Entry.{Entry}
-use Rattle.entries.specs.declared.Entry.TheVariants.{Pgn, Wrong}
 
 -- the numbers that bytes make, three to an entry; one or two bytes that are left make none
 unfoldable pub entries_of : List ℕ → List ℕ
@@ -18,13 +16,13 @@ abbrev pub three_at : List ℕ → ℕ → ℕ
 three_at bytes at = packed (take 3 (drop at bytes))
 
 -- "three bytes make an entry or the command is refused": they are there, and make a PGN
-unfoldable pub entry_at : List ℕ → ℕ → Entry
-entry_at bytes at = cond (leb (at + 3) (length bytes) && is_pgn (three_at bytes at)) (Pgn (three_at bytes at)) Wrong
+unfoldable pub entry_at : List ℕ → ℕ → Option ℕ
+entry_at bytes at = cond (leb (at + 3) (length bytes) && is_pgn (three_at bytes at)) (Some (three_at bytes at)) None
 
 -- what an entry is by the rules' numbers: none, or 22
-abbrev pub entry_number : Entry → ℕ
-entry_number (Pgn pgn) = 0
-entry_number Wrong = 22
+abbrev pub entry_number : Option ℕ → ℕ
+entry_number (Some pgn) = 0
+entry_number None = 22
 
 -- whether x is in a list
 unfoldable pub listed : ℕ → List ℕ → Bool

@@ -1,29 +1,28 @@
 // The entries of a command, three bytes to a PGN, least significant first.
 #![tactic(auto)]
 
-ghost use Rattle.std.specs.Prelude.{◌≡◌, ◌+◌, ◌≤◌, ◌<◌, length, get_or};
-ghost use Rattle.storage.specs.Bytes.{Packing};
+ghost use Rattle.std.specs.Prelude.{◌≡◌, ◌^◌, ◌<◌, ◌==◌, not, length, get_or, map, position};
+ghost use Rattle.std.specs.List.{list_any};
+ghost use Rattle.storage.specs.Bytes.{packed};
+ghost use Rattle.identifier.specs.Identifier.{is_pgn};
 ghost use Rattle.entries.specs.Entries.{listed, entries_of, entry_at, whole, first_wrong};
 
 // The bytes of an entry.
 pub const ENTRY_SIZE: usize = 3;
 
-// What stands at a byte: an entry, or nothing that is one.
-#[derive(Clone, Copy)]
-pub enum Entry {
-    Pgn(u32),
-    Wrong,
+// The entries, as far as there are three bytes for one.
+pub fn all(bytes: &[u8]) -> &[[u8; ENTRY_SIZE]]
+    ensures { map packed result.now ≡ entries_of bytes.now }
+{
+    bytes.as_chunks().0
 }
 
-// The number that the three bytes from `at` on make.
-fn three(bytes: &[u8], at: usize) -> u32
-    requires { at + 3 ≤ length bytes.now }
-    ensures { Packing 3 bytes.now at result }
+// The number that an entry's bytes make.
+pub fn number(entry: &[u8; ENTRY_SIZE]) -> u32
+    ensures { result ≡ packed entry.now }
 {
-    let low = bytes[at] as u32;
-    let middle = bytes[at + 1] as u32;
-    let high = bytes[at + 2] as u32;
-    low + 256 * middle + 65536 * high
+    let [low, middle, high] = *entry;
+    u32::from_le_bytes([low, middle, high, 0])
 }
 
 // How many entries there are.
@@ -38,24 +37,18 @@ pub fn entry_at(bytes: &[u8], i: usize) -> u64
     requires { i < length (entries_of bytes.now) }
     ensures { result ≡ get_or (entries_of bytes.now) i 0 }
 {
-    three(bytes, ENTRY_SIZE * i) as u64
+    number(&all(bytes)[i]) as u64
 }
 
-// The entry at a byte: three bytes that are there and make a PGN.
-pub fn read_entry(bytes: &[u8], at: usize) -> Entry
+// The PGN at a byte, if three bytes are there and make one.
+pub fn read_entry(bytes: &[u8], at: usize) -> Option<u32>
     ensures { result ≡ entry_at bytes.now at }
 {
-    if bytes.len() < ENTRY_SIZE {
-        return Entry::Wrong;
-    }
-    if bytes.len() - ENTRY_SIZE < at {
-        return Entry::Wrong;
-    }
-    let pgn = three(bytes, at);
+    let pgn = number(bytes.get(at..)?.first_chunk()?);
     if identifier::is_pgn(pgn) {
-        Entry::Pgn(pgn)
+        Some(pgn)
     } else {
-        Entry::Wrong
+        None
     }
 }
 
@@ -66,31 +59,35 @@ pub fn is_whole(bytes: &[u8]) -> bool
     bytes.len() % ENTRY_SIZE == 0
 }
 
-// The number from 1 of the first entry that is no PGN, or 0.
+// The place of the first that is no PGN.
+fn first_other(entries: &[[u8; ENTRY_SIZE]]) -> Option<usize>
+    ensures { result ≡ position (λ entry. not (is_pgn (packed entry))) entries.now }
+{
+    entries
+        .iter()
+        .position(|entry| !identifier::is_pgn(number(entry)))
+}
+
+// The number from 1 of the first entry that is no PGN, or 0, as 22's answer tells it: `first_wrong` of the specs.
 pub fn first_wrong(bytes: &[u8]) -> usize
     ensures { result ≡ first_wrong (entries_of bytes.now) }
 {
-    let mut at: usize = 0;
-    while at + ENTRY_SIZE <= bytes.len() {
-        let Entry::Pgn(_) = read_entry(bytes, at) else {
-            return at / ENTRY_SIZE + 1;
-        };
-        at += ENTRY_SIZE;
+    match first_other(all(bytes)) {
+        Some(place) => place + 1,
+        None => 0,
     }
-    0
+}
+
+// Whether one of the entries is x.
+pub fn has(entries: &[[u8; ENTRY_SIZE]], x: u64) -> bool
+    ensures { result ≡ list_any (λ entry. packed entry == x) entries.now }
+{
+    entries.iter().any(|entry| number(entry) as u64 == x)
 }
 
 // Whether the entries name x.
 pub fn names(bytes: &[u8], x: u64) -> bool
     ensures { result ≡ listed x (entries_of bytes.now) }
 {
-    let end = count(bytes);
-    let mut i = 0;
-    while i < end {
-        if entry_at(bytes, i) == x {
-            return true;
-        }
-        i += 1;
-    }
-    false
+    has(all(bytes), x)
 }

@@ -1,14 +1,13 @@
 -- Asking a pair: a cleared one permits all, and another answers by its search, and where that found nothing by its NAME entries. Assumes nothing.
 use mathlib.Core.Path.{◌≡◌, refl, sym}
 use mathlib.Core.Bool.{Bool, true, false, cond, ◌||◌}
-use mathlib.Core.Option.{Option, none, some}
+use Rattle.std.specs.Prelude.{Option, None, Some}
 use mathlib.Core.List.{List, []}
-use Prim.Native.Nat.{ℕ, ◌+◌, ◌-◌, ◌≤◌, ◌<◌, zero-le}
+use Prim.Native.Nat.{ℕ, ◌+◌, ◌≤◌, ◌<◌, zero-le}
 use native.Mathlib.Omega.{arith}
 use lib.ListN.{get_or}
 use Rattle.entries.specs.Entries.{listed}
-use Rattle.sorted_list.specs.SortedList.{Probed, halving_in, halved, found_mark, Finding}
-use Rattle.sorted_list.proofs.Ceiling.{mark_found, mark_absent}
+use Rattle.sorted_list.specs.SortedList.{halving_in, halved, Finding}
 use Rattle.filter.specs.declared.Reason.{Reason}
 use Rattle.filter.specs.declared.Asked.{Asked}
 use Rattle.filter.specs.Filter.{mode_place, list_of, names_in, sorted_in, front_of, filter_of, meant, is_permanent, reason_of, reason_by_list, asked, Asking}
@@ -44,48 +43,45 @@ ask_permanent h = record { answer = rw h; small = zero-le }
 -- without NAME entries the search alone answers
 none_match : (pgn : ℕ) (sender : Option ℕ) → (matched_by pgn sender [] ≡ false) × (place_of pgn sender [] ≡ 0)
 unfolding any_match place_in
-none_match pgn none = (refl, refl)
-none_match pgn (some name) = (refl, refl)
+none_match pgn None = (refl, refl)
+none_match pgn (Some name) = (refl, refl)
 
 pub ask_cleared : {words : List ℕ} {pgn : ℕ} (sender : Option ℕ) → is_permanent pgn ≡ false → get_or words mode_place 0 ≡ 0
     → Asking words pgn sender (answer Reason.Cleared 0)
 unfolding asked filter_of meant reason_of halved halving_in
 ask_cleared {pgn = pgn} sender other h = record { answer = rw (other, h, (none_match pgn sender).1) refl; small = zero-le }
 
-module _ (words : List ℕ) (pgn : ℕ) {r : ℕ} (other : is_permanent pgn ≡ false) (F : Finding (filter_of words).sorted pgn r) where
-  abbrev p : Probed
-  p = halved pgn (filter_of words).sorted
-
+module _ (words : List ℕ) (pgn : ℕ) {found : Bool} {probes : ℕ} (other : is_permanent pgn ≡ false) (F : Finding (filter_of words).sorted pgn found probes) where
   by_search : (sender : Option ℕ) (n : ℕ) (here : Bool) {reason : Reason} → Why words here reason
-      → (p.found || matched_by pgn sender (filter_of words).named) ≡ here
-      → p.probes + cond p.found 0 (place_of pgn sender (filter_of words).named) ≡ n
+      → (found || matched_by pgn sender (filter_of words).named) ≡ here
+      → probes + cond found 0 (place_of pgn sender (filter_of words).named) ≡ n
       → answer reason n ≡ asked (filter_of words) pgn sender
   unfolding asked
-  by_search sender n here reason l q = rw (other, l, q, why words here reason)
+  by_search sender n here reason l q = rw (other, ← F.answer, l, q, why words here reason)
 
-  pub ask_found : (sender : Option ℕ) {reason : Reason} → found_mark ≤ r → Why words true reason → Asking words pgn sender (answer reason (r - found_mark))
-  ask_found sender h reason =
-      let M = mark_found F h in
-      record { answer = by_search sender (r - found_mark) true reason (rw M.0) (rw M.0 (omega (arith, M.1))); small = omega (arith, F.few, M.1) }
+  -- the search alone answers
+  alone : (b : Bool) → ((b || false) ≡ b) × (probes + cond b 0 0 ≡ probes)
+  alone true = (refl, omega arith)
+  alone false = (refl, omega arith)
 
-  pub ask_absent : (sender : Option ℕ) {reason : Reason} → r < found_mark → get_or words mode_place 0 < 3 → Why words false reason
-      → Asking words pgn sender (answer reason r)
+  pub ask_listed : (sender : Option ℕ) {reason : Reason} → get_or words mode_place 0 < 3 → Why words found reason → Asking words pgn sender (answer reason probes)
   unfolding filter_of
-  ask_absent sender h low reason =
-      let M = mark_absent F h in
-      let none = plain_names (get_or words mode_place 0) (front_of words (list_of words)) (names_of (names_in words)) (front_of words (sorted_in words)) low in
+  ask_listed sender low reason =
+      let no_names = plain_names (get_or words mode_place 0) (front_of words (list_of words)) (names_of (names_in words)) (front_of words (sorted_in words)) low in
       record {
-        answer = by_search sender r false reason (rw (M.0, none, (none_match pgn sender).0)) (rw (M.0, none, (none_match pgn sender).1) (omega (arith, M.1)));
-        small = omega (arith, F.few, M.1);
+        answer = by_search sender probes found reason (rw (no_names, (none_match pgn sender).0) (alone found).0) (rw (no_names, (none_match pgn sender).1) (alone found).1);
+        small = omega (arith, F.few);
       }
 
-  pub ask_names : {sender : Option ℕ} {reason : Reason} {found : Bool} {compared : ℕ} → r < found_mark → 3 ≤ get_or words mode_place 0
-      → Searching (names_in words) pgn sender found compared → Why words found reason → Asking words pgn sender (answer reason (r + compared))
+  pub ask_found : {sender : Option ℕ} {reason : Reason} → found ≡ true → Why words true reason → Asking words pgn sender (answer reason probes)
+  ask_found {sender} e reason = record { answer = by_search sender probes true reason (rw e) (rw e (omega arith)); small = omega (arith, F.few) }
+
+  pub ask_names : {sender : Option ℕ} {reason : Reason} {matched : Bool} {compared : ℕ} → found ≡ false → 3 ≤ get_or words mode_place 0
+      → Searching (names_in words) pgn sender matched compared → Why words matched reason → Asking words pgn sender (answer reason (probes + compared))
   unfolding filter_of
-  ask_names {sender} {found = found} {compared = compared} h high S reason =
-      let M = mark_absent F h in
+  ask_names {sender} {matched = matched} {compared = compared} e high S reason =
       let names = with_names_lem (get_or words mode_place 0) (front_of words (list_of words)) (names_of (names_in words)) (front_of words (sorted_in words)) high in
       record {
-        answer = by_search sender (r + compared) found reason (rw (M.0, names) (sym S.answer)) (rw (M.0, names) (omega (arith, S.count, M.1)));
-        small = omega (arith, F.few, S.small, M.1);
+        answer = by_search sender (probes + compared) matched reason (rw (e, names) (sym S.answer)) (rw (e, names) (omega (arith, S.count)));
+        small = omega (arith, F.few, S.small);
       }

@@ -2,12 +2,12 @@
 use mathlib.Core.Path.{◌≡◌, refl, sym, ap, ◌∙◌}
 use mathlib.Core.Bool.{Bool, true, false, cond, ◌||◌, false≢true, true≢false}
 use mathlib.Core.List.{List, [], ◌∷◌}
-use Prim.Native.Nat.{ℕ, zero, suc, ◌+◌, ◌≤◌, ◌<◌, min, zero-le}
+use Prim.Native.Nat.{ℕ, zero, suc, ◌+◌, ◌-◌, ◌≤◌, ◌<◌, min, zero-le}
 use native.Mathlib.Omega.{arith}
 use borrow.Author.Tests.{lt-ltb, ne_eqb}
 use lib.Dec.{eqb, ltb, eqb-suc-zero}
 use lib.ListN.{length, get_or, take, drop, set, length-take, length-drop}
-use lib.Seq.{get_or-take, get_or-drop, length-take-le}
+use lib.Seq.{get_or-take, get_or-drop, take-take, length-take-le}
 use Rattle.filter.specs.declared.Reason.{Reason}
 use Rattle.filter.specs.Filter.{mode_place, count_place, list_place, list_of, names_place, names_in, sorted_place, sorted_in, front_of, block_size, clear, is_block, meant, filter_of, reported_mode, reason_of, Counting, is_cleared}
 use Rattle.pgn_list.specs.PgnList.{list_size}
@@ -124,6 +124,10 @@ unfolding filter_of
 sorted_front {words} {n} long C =
     let same : length (list_of words) ≡ length (sorted_in words) = list_long words (omega (arith, long)) ∙ sym (sorted_long words long) in
     rw C.number (sorted_of (get_or words mode_place 0) (get_or words count_place 0) (list_of words) (names_of (names_in words)) (sorted_in words) same)
+
+-- the first n from a place on, as a slice has them, where k follow it
+pub front_part : (a n k : ℕ) (words : List ℕ) → n ≤ k → take (a + n - a) (drop a words) ≡ take n (take k (drop a words))
+front_part a n k words h = let e : a + n - a ≡ n = omega arith in rw (e, take-take n k (drop a words) h)
 
 -- ---- counting
 module _ {words : List ℕ} (long : names_place ≤ length words) where

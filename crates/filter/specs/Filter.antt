@@ -1,7 +1,6 @@
 -- One directed pair's filter: what its block of words means, and what asking it answers.
 -- Assumes nothing.
-use Rattle.std.specs.Prelude.{ℕ, zero, suc, ◌+◌, ◌≤◌, Bool, true, false, cond, not, ◌||◌, ◌≡◌, List, [], ◌∷◌, length, take, drop, get_or, eqb}
-use Rattle.std.proofs.Math.Option.{Option}
+use Rattle.std.specs.Prelude.{ℕ, zero, suc, ◌+◌, ◌≤◌, Bool, true, false, cond, not, ◌||◌, ◌≡◌, List, [], length, take, drop, get_or, eqb, Option}
 use Rattle.identifier.specs.Identifier.{request, address_claimed}
 use Rattle.entries.specs.Entries.{listed}
 use Rattle.pgn_list.specs.PgnList.{list_size}

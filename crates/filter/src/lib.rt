@@ -2,17 +2,15 @@
 // those the PGNs in rising order; and what is asked of it.
 #![tactic(auto)]
 
-ghost use Rattle.std.specs.Prelude.{◌≡◌, List, ℕ, ◌<◌, ◌≤◌, length, get_or, leb};
-ghost use Rattle.std.proofs.Math.Option.{Option};
+ghost use Rattle.std.specs.Prelude.{◌≡◌, List, ℕ, ◌<◌, ◌≤◌, length, get_or, leb, Option};
 ghost use Rattle.entries.specs.Entries.{listed};
-ghost use Rattle.name_entries.specs.NameEntries.{NameEntry, sender_of};
+ghost use Rattle.name_entries.specs.NameEntries.{NameEntry};
 ghost use Rattle.sorted_list.specs.SortedList.{Finding, most_probes};
 ghost use Rattle.filter.specs.Filter.{mode_place, names_place, block_size, meant, filter_of, is_cleared, reported_mode};
 ghost use Rattle.filter.specs.Filter.{is_permanent, is_block, reason_of, reason_by_list, crosses, reason_number, Asking, Counting};
 
-use name_entries::Sender;
 use pgn_list::LIST_SIZE;
-use sorted_list::FOUND;
+use sorted_list::Probed;
 
 // Where a block has its mode, its count and its list, up to LIST_END. The NAME entries stand behind it; what asks or changes the list alone is lent a block
 // without them too, as a plan has it.
@@ -41,19 +39,19 @@ pub const PASS: u64 = 2;
 pub const BLOCK_NAMED: u64 = 3;
 
 // Why a frame crosses a pair or not. NotAsked is of a port whose pair is not asked.
-#[derive(Clone, Copy)]
+#[derive(Clone, Copy, Debug, PartialEq, Eq)]
 pub enum Reason {
-    NotAsked,
-    Permanent,
-    Cleared,
-    ListedInPass,
-    NotListedInBlock,
-    StoppedAsListed,
-    StoppedAsNotListed,
+    NotAsked = 0,
+    Permanent = 1,
+    Cleared = 2,
+    ListedInPass = 3,
+    NotListedInBlock = 4,
+    StoppedAsListed = 5,
+    StoppedAsNotListed = 6,
 }
 
 // What asking a pair answers.
-#[derive(Clone, Copy)]
+#[derive(Clone, Copy, Debug, PartialEq, Eq)]
 pub struct Asked {
     pub reason: Reason,
     pub compared: u32,
@@ -64,30 +62,17 @@ impl Reason {
     pub fn number(self) -> u32
         ensures { result ≡ reason_number self }
     {
-        match self {
-            Reason::NotAsked => 0,
-            Reason::Permanent => 1,
-            Reason::Cleared => 2,
-            Reason::ListedInPass => 3,
-            Reason::NotListedInBlock => 4,
-            Reason::StoppedAsListed => 5,
-            Reason::StoppedAsNotListed => 6,
-        }
+        self as u32
     }
 
     // Whether the frame crosses.
     pub fn crosses(self) -> bool
         ensures { result ≡ crosses self }
     {
-        match self {
-            Reason::NotAsked => false,
-            Reason::Permanent => true,
-            Reason::Cleared => true,
-            Reason::ListedInPass => true,
-            Reason::NotListedInBlock => true,
-            Reason::StoppedAsListed => false,
-            Reason::StoppedAsNotListed => false,
-        }
+        matches!(
+            self,
+            Reason::Permanent | Reason::Cleared | Reason::ListedInPass | Reason::NotListedInBlock
+        )
     }
 }
 
@@ -119,12 +104,7 @@ pub fn count(block: &[u64]) -> usize
     if block[MODE] == CLEARED {
         return 0;
     }
-    let n = block[COUNT];
-    if n < LIST_SIZE as u64 {
-        n as usize
-    } else {
-        LIST_SIZE
-    }
+    block[COUNT].min(LIST_SIZE as u64) as usize
 }
 
 // The PGN at index i of the list.
@@ -132,8 +112,7 @@ pub fn pgn_at(block: &[u64], i: usize) -> u64
     requires { (names_place ≤ length block.now) × (i < length (filter_of block.now).entries) }
     ensures { result ≡ get_or (filter_of block.now).entries i 0 }
 {
-    let at = LIST + i;
-    block[at]
+    block[LIST + i]
 }
 
 // Whether the list holds a PGN.
@@ -142,27 +121,23 @@ pub fn lists(block: &[u64], pgn: u64) -> bool
     ensures { result ≡ listed pgn (filter_of block.now).entries }
 {
     let n = count(block);
-    pgn_list::find(&block[LIST..LIST_END], n, pgn) != n
+    pgn_list::is_listed(&block[LIST..LIST + n], pgn)
 }
 
 // Whether a PGN is permanent: address claims and requests cross every pair.
+#[tactic(auto, unfolding(crate::specs::Filter::is_permanent))]
 pub fn is_permanent(pgn: u32) -> bool
     ensures { result ≡ is_permanent pgn }
 {
-    if pgn == identifier::ADDRESS_CLAIMED {
-        return true;
-    }
-    pgn == identifier::REQUEST
+    pgn == identifier::ADDRESS_CLAIMED || pgn == identifier::REQUEST
 }
 
 // Whether a mode word blocks.
+#[tactic(auto, unfolding(crate::specs::Filter::is_block))]
 fn is_block(mode: u64) -> bool
     ensures { result ≡ is_block mode }
 {
-    if mode == BLOCK {
-        return true;
-    }
-    mode == BLOCK_NAMED
+    mode == BLOCK || mode == BLOCK_NAMED
 }
 
 // Why a PGN that is not permanent crosses a pair or not, by the mode word and whether the PGN is listed.
@@ -204,13 +179,13 @@ pub fn has_names(block: &[u64]) -> bool
     BLOCK_NAMED <= block[MODE]
 }
 
-// Looks a PGN up by halving: how many entries were compared, and FOUND more where it is listed.
-fn probe(block: &[u64], pgn: u32) -> u32
+// Looks a PGN up by halving.
+fn probe(block: &[u64], pgn: u32) -> Probed
     requires { length block.now ≡ block_size }
-    ensures { Finding (filter_of block.now).sorted pgn result }
+    ensures { Finding (filter_of block.now).sorted pgn result.found result.probes }
 {
     let n = count(block);
-    sorted_list::find(&block[SORTED..BLOCK_SIZE], n, pgn as u64)
+    sorted_list::find(&block[SORTED..SORTED + n], pgn as u64)
 }
 
 // Why a PGN crosses a pair without NAME entries or not, and how many entries were compared: forwarding rules 2 and 5. Who sent it has no say.
@@ -231,23 +206,17 @@ pub fn ask_plain(block: &[u64], pgn: u32) -> Asked
             compared: 0,
         };
     }
-    let probes = probe(block, pgn);
-    if FOUND <= probes {
-        return Asked {
-            reason: by_list(mode, true),
-            compared: probes - FOUND,
-        };
-    }
+    let plain = probe(block, pgn);
     Asked {
-        reason: by_list(mode, false),
-        compared: probes,
+        reason: by_list(mode, plain.found),
+        compared: plain.probes,
     }
 }
 
 // Why a PGN from a sender crosses a pair with NAME entries or not: they are looked at where its list has not the PGN.
-pub fn ask_named(block: &[u64], pgn: u32, sender: Sender) -> Asked
+pub fn ask_named(block: &[u64], pgn: u32, sender: Option<u64>) -> Asked
     requires { (length block.now ≡ block_size) × (3 ≤ get_or block.now mode_place 0) }
-    ensures { Asking block.now pgn (sender_of sender) result }
+    ensures { Asking block.now pgn sender result }
 {
     if is_permanent(pgn) {
         return Asked {
@@ -256,16 +225,16 @@ pub fn ask_named(block: &[u64], pgn: u32, sender: Sender) -> Asked
         };
     }
     let mode = block[MODE];
-    let probes = probe(block, pgn);
-    if FOUND <= probes {
+    let plain = probe(block, pgn);
+    if plain.found {
         return Asked {
             reason: by_list(mode, true),
-            compared: probes - FOUND,
+            compared: plain.probes,
         };
     }
     let names = name_entries::search(&block[LIST_END..SORTED], pgn as u64, sender);
     Asked {
         reason: by_list(mode, names.found),
-        compared: probes + names.compared,
+        compared: plain.probes + names.compared,
     }
 }

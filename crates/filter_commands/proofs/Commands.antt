@@ -3,10 +3,10 @@ use mathlib.Core.Path.{◌≡◌, refl, sym, ap, ◌∙◌}
 use mathlib.Core.Bool.{Bool, true, false, cond, not, and-false, false≢true, true≢false}
 use mathlib.Core.List.{List, [], ◌∷◌}
 use Prim.Native.Nat.{ℕ, zero, suc, ◌-◌, ◌≤◌, ◌<◌}
-use native.Mathlib.Decide.{dec_lt}
 use native.Mathlib.Omega.{arith}
-use borrow.Author.Tests.{eqb-false, ltb-false, lt-ltb, le-ltb}
-use lib.Dec.{ltb}
+use borrow.Author.Rules.{rules}
+use borrow.Author.Tests.{eqb-false, lt-ltb, le-ltb}
+use lib.Dec.{eqb, ltb}
 use lib.ListN.{length, get_or, set, take, drop, length-set, take-append-drop}
 use lib.Seq.{length-take-le}
 use Rattle.storage.proofs.Parts.{back}
@@ -16,7 +16,8 @@ use Rattle.sorted_list.specs.SortedList.{put_all, appended, fitted}
 use Rattle.pgn_list.specs.PgnList.{list_size, add_all, delete_all}
 use Rattle.filter_commands.specs.Changes.{would_pass, lacks, may_add, may_delete, may_create, with_list, added, deleted, mode_for, created, Changing, Adding, Deleting, Creating}
 use Rattle.entries.specs.Entries.{every}
-use Rattle.pgn_list.specs.Steps.{Finding, Extending, Keeping}
+use Rattle.std.specs.Prelude.{Option, None, Some, IsSome, is_some, position}
+use Rattle.pgn_list.specs.Steps.{Extended, Extending, Keeping}
 use Rattle.filter_commands.specs.Steps.{Relisted, Resorted, Growing}
 use Rattle.filter.proofs.Meaning.{list_whole, cleared_test, cleared_none, front, sorted_front}
 use Rattle.filter_commands.proofs.Sorting.{Written, written, put_in_order}
@@ -35,12 +36,11 @@ few_entries : (list xs : List ℕ) (n : ℕ) → n ≤ length list → length xs
 few_entries list xs n fits l small =
     le-ltb list_size (length (add_all (take n list) xs)) (omega (arith, not_longer (take n list) xs, length-take-le n list fits))
 
-counted : {entry exit : List ℕ} {n : ℕ} {xs : List ℕ} {r : ℕ} → Extending entry exit n xs r → ltb list_size (length (add_all (take n entry) xs)) ≡ ltb list_size r
-counted {entry} {exit} {n} {xs} {r} E =
-    elim (dec_lt list_size r) [
-      | yes h ↦ rw (lt-ltb list_size r h) (lt-ltb list_size (length (add_all (take n entry) xs)) (omega (arith, E.number)))
-      | no h ↦ let l : r ≤ list_size = omega arith in rw (le-ltb list_size r l) (le-ltb list_size (length (add_all (take n entry) xs)) (omega (arith, E.number)))
-    ]
+counted_none : (entry : List ℕ) (n : ℕ) (xs : List ℕ) → list_size < length (add_all (take n entry) xs) → ltb list_size (length (add_all (take n entry) xs)) ≡ true
+counted_none entry n xs h = lt-ltb list_size (length (add_all (take n entry) xs)) h
+
+counted_some : {entry exit : List ℕ} {n : ℕ} {xs : List ℕ} {held : ℕ} → Extended entry exit n xs held → ltb list_size (length (add_all (take n entry) xs)) ≡ false
+counted_some {entry} {exit} {n} {xs} E = le-ltb list_size (length (add_all (take n entry) xs)) (omega (arith, E.number, E.inside))
 
 -- what would_pass answers, without a trial and with one
 module _ {words : List ℕ} (xs : List ℕ) {n : ℕ} (long : length words ≡ block_size) (C : Counting words n) where
@@ -48,9 +48,10 @@ module _ {words : List ℕ} (xs : List ℕ) {n : ℕ} (long : length words ≡ b
   unfolding would_pass
   pass_few h = rw (← (front C)) (few_entries (list_of words) xs n (omega (arith, C.small, list_whole words long)) h C.small)
 
-  pub pass_tried : {list exit : List ℕ} {r : ℕ} → list ≡ list_of words → Extending list exit n xs r → would_pass (filter_of words) xs ≡ ltb list_size r
+  pub pass_tried : (list exit : List ℕ) (r : Option ℕ) → list ≡ list_of words → Extending list exit n xs r → is_some r ≡ not (would_pass (filter_of words) xs)
   unfolding would_pass
-  pass_tried q E = rw (← (front C), ← q) (counted E)
+  pass_tried list exit None q h = rw (← (front C), ← q, counted_none list n xs h)
+  pass_tried list exit (Some held) q E = rw (← (front C), ← q, counted_some E)
 
 -- ---- a block with another list
 -- the same mode with another list
@@ -84,44 +85,38 @@ in_order words xs {n} long small W e R =
     rw first (put_in_order W e (rw (W.behind, W.list, e) at R))
 
 -- it can be: there are not fewer than before
-pub not_fewer : {list tried xs : List ℕ} {n held : ℕ} → length list ≡ list_size → n ≤ list_size → Extending list tried n xs held → n ≤ held
+pub not_fewer : {list tried xs : List ℕ} {n held : ℕ} → length list ≡ list_size → n ≤ list_size → Extended list tried n xs held → n ≤ held
 not_fewer {list} {tried} {xs} {n} l small E = omega (arith, E.number, longer (take n list) xs, length-take-le n list (omega arith))
 
 pub written_long : (words ys : List ℕ) (r : ℕ) → length words ≡ block_size → length ys ≡ list_size → length (set (back list_place list_size words ys) count_place r) ≡ block_size
 written_long words ys r long h = (written words ys r long h).long ∙ long
 
-pub grow_few : (words xs : List ℕ) {ys : List ℕ} {n held : ℕ} → length words ≡ block_size → n ≤ list_size → length xs ≤ list_size - n
-    → Extending (list_of words) ys n xs held → held ≤ list_size
-grow_few words xs {n = n} long small l E =
-    let few = few_entries (list_of words) xs n (omega (arith, list_whole words long)) l small in
-    omega (arith, E.number, ltb-false list_size (length (add_all (take n (list_of words)) xs)) few)
+-- few entries are never too many
+pub grow_few : (words xs ys : List ℕ) {n : ℕ} (r : Option ℕ) → length words ≡ block_size → n ≤ list_size → length xs ≤ list_size - n
+    → Extending (list_of words) ys n xs r → IsSome r
+grow_few words xs ys {n = n} None long small l h =
+    absurd (true≢false (sym (counted_none (list_of words) n xs h) ∙ few_entries (list_of words) xs n (omega (arith, list_whole words long)) l small))
+grow_few words xs ys (Some held) long small l E = search rules
 
-module _ {words xs : List ℕ} {n held : ℕ} (long : length words ≡ block_size) (small : n ≤ list_size) where
-  pub grow_part : {exit : List ℕ} (ys : List ℕ) → length xs ≤ list_size - n → length ys ≡ list_size → Extending (list_of words) ys n xs held
-      → Sorted n held (set (back list_place list_size words ys) count_place held) exit → Growing words exit n xs true
-  grow_part {exit} ys l h E R =
-      let few = few_entries (list_of words) xs n (omega (arith, list_whole words long)) l small in
-      record { done = rw few; grown = λ _. in_order words xs long small (written words ys held long h) (E.entries (grow_few words xs long small l E)) R; refused = λ f. absurd (true≢false f) }
-
+module _ {words xs : List ℕ} {n : ℕ} (long : length words ≡ block_size) (small : n ≤ list_size) where
   -- a list that was not changed, lent as a part that came back
-  pub grow_not : {ys : List ℕ} → ys ≡ list_of words → Extending (list_of words) ys n xs held → list_size < held → Growing words (back list_place list_size words ys) n xs false
-  grow_not {ys} same E h = record {
-    done = rw (counted E, lt-ltb list_size held h);
+  pub grow_not : {ys : List ℕ} → ys ≡ list_of words → list_size < length (add_all (take n (list_of words)) xs) → Growing words (back list_place list_size words ys) n xs false
+  grow_not {ys} same h = record {
+    done = rw (counted_none (list_of words) n xs h);
     grown = λ f. absurd (false≢true f);
     refused = λ _. rw same (rw (take-append-drop list_size (drop list_place words)) (take-append-drop list_place words));
   }
 
-  module _ {list tried : List ℕ} (copy : list ≡ list_of words) (E : Extending list tried n xs held) where
-    pub grow_over : list_size < held → Growing words words n xs false
-    grow_over h =
-        record { done = rw (← copy, counted E, lt-ltb list_size held h); grown = λ f. absurd (false≢true f); refused = λ _. refl }
+  module _ {list : List ℕ} (copy : list ≡ list_of words) where
+    pub grow_over : list_size < length (add_all (take n list) xs) → Growing words words n xs false
+    grow_over h = record { done = rw (← copy, counted_none list n xs h); grown = λ f. absurd (false≢true f); refused = λ _. refl }
 
-    pub grow_put : {exit : List ℕ} (ys : List ℕ) → ys ≡ tried → length ys ≡ list_size → held ≤ list_size
+    pub grow_put : {tried exit : List ℕ} {held : ℕ} (ys : List ℕ) → Extended list tried n xs held → ys ≡ tried → length ys ≡ list_size
         → Sorted n held (set (back list_place list_size words ys) count_place held) exit → Growing words exit n xs true
-    grow_put {exit} ys same l h R =
+    grow_put {held = held} ys E same l R =
         record {
-          done = rw (← copy, counted E, le-ltb list_size held h);
-          grown = λ _. in_order words xs long small (written words ys held long l) (rw (← copy, same) (E.entries h)) R;
+          done = rw (← copy, counted_some E);
+          grown = λ _. in_order words xs long small (written words ys held long l) (rw (← copy, same) E.entries) R;
           refused = λ f. absurd (true≢false f);
         }
 
@@ -150,17 +145,14 @@ only_one [] h e = absurd (omega arith)
 only_one (y ∷ []) h e = rw e
 only_one (y ∷ z ∷ xs) h e = absurd (omega arith)
 
-module _ {words : List ℕ} {n x i : ℕ} (long : length words ≡ block_size) (C : Counting words n) (F : Finding (list_of words) n x i) where
-  fits : n ≤ length (list_of words)
-  fits = omega (arith, C.small, list_whole words long)
-
-  pub one_absent : i ≡ n → lacks (filter_of words) (x ∷ []) ≡ true
+module _ {words : List ℕ} {n : ℕ} (x : ℕ) (C : Counting words n) where
+  pub one_absent : position (λ y. eqb y x) (take n (list_of words)) ≡ None → lacks (filter_of words) (x ∷ []) ≡ true
   unfolding lacks every
-  one_absent h = rw (← (front C), absent fits F h)
+  one_absent h = rw (← (front C), absent x (take n (list_of words)) h)
 
-  pub one_listed : (i ≡ n → ⊥) → lacks (filter_of words) (x ∷ []) ≡ false
+  pub one_listed : {i : ℕ} → position (λ y. eqb y x) (take n (list_of words)) ≡ Some i → lacks (filter_of words) (x ∷ []) ≡ false
   unfolding lacks every
-  one_listed h = rw (← (front C), present fits F h)
+  one_listed h = rw (← (front C), present x (take n (list_of words)) h)
 
 module _ (words xs : List ℕ) where
   abbrev less : Filter
@@ -225,3 +217,9 @@ module _ (passing : Bool) (words xs : List ℕ) where
       pub create_block : passing ≡ false → Creating passing words (set grown 0 1) xs true
       unfolding meant mode_for
       create_block p = create_done 1 (rw p)
+
+pub not_same : (a b : Bool) → not a ≡ not b → a ≡ b
+not_same true true e = refl
+not_same false false e = refl
+not_same true false e = absurd (false≢true e)
+not_same false true e = absurd (true≢false e)

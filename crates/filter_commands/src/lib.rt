@@ -20,7 +20,7 @@ pub fn lacks(block: &[u64], bytes: &[u8]) -> bool
     ensures { result ≡ lacks (filter_of block.now) (entries_of bytes.now) }
 {
     let n = filter::count(block);
-    !pgn_list::lists_all(&block[LIST..LIST_END], n, bytes)
+    !pgn_list::lists_all(&block[LIST..LIST + n], bytes)
 }
 
 // The block's PGNs, its free part too.
@@ -29,11 +29,7 @@ fn copied(block: &[u64]) -> [u64; LIST_SIZE]
     ensures { result ≡ list_of block.now }
 {
     let mut list = [0u64; LIST_SIZE];
-    let mut i = 0;
-    while i < LIST_SIZE {
-        list[i] = block[LIST + i];
-        i += 1;
-    }
+    list.copy_from_slice(&block[LIST..LIST_END]);
     list
 }
 
@@ -47,19 +43,7 @@ pub fn would_pass(block: &[u64], bytes: &[u8]) -> bool
         return false;
     }
     let mut list = copied(block);
-    LIST_SIZE < pgn_list::extend(&mut list, n, bytes)
-}
-
-// Writes a list over another.
-fn put(over: &mut [u64], list: &[u64])
-    requires { (length over.old ≡ list_size) × (length list.now ≡ list_size) }
-    ensures { over.new ≡ list.now }
-{
-    let mut i = 0;
-    while i < LIST_SIZE {
-        over[i] = list[i];
-        i += 1;
-    }
+    pgn_list::extend(&mut list, n, bytes).is_none()
 }
 
 // Puts the PGNs of a block's list from index n up to `held` in among those that are searched, of which there are n.
@@ -67,11 +51,9 @@ fn sort_in(block: &mut [u64], n: usize, held: usize)
     requires { (length block.old ≡ block_size) × (n ≤ held) × (held ≤ list_size) }
     ensures { Resorted block.old block.new (put_all (take n (sorted_in block.old)) (drop n (take held (list_of block.old)))) held }
 {
-    let mut i = n;
-    while i < held {
+    for i in n..held {
         let x = block[LIST + i];
         sorted_list::insert(&mut block[SORTED..BLOCK_SIZE], i, x);
-        i += 1;
     }
 }
 
@@ -82,17 +64,16 @@ fn grow(block: &mut [u64], n: usize, bytes: &[u8]) -> bool
     ensures { Growing block.old block.new n (entries_of bytes.now) result }
 {
     if entries::count(bytes) <= LIST_SIZE - n {
-        let held = pgn_list::extend(&mut block[LIST..LIST_END], n, bytes);
+        let held = pgn_list::extend(&mut block[LIST..LIST_END], n, bytes).unwrap();
         block[COUNT] = held as u64;
         sort_in(block, n, held);
         return true;
     }
     let mut list = copied(block);
-    let held = pgn_list::extend(&mut list, n, bytes);
-    if LIST_SIZE < held {
+    let Some(held) = pgn_list::extend(&mut list, n, bytes) else {
         return false;
-    }
-    put(&mut block[LIST..LIST_END], &list);
+    };
+    block[LIST..LIST_END].copy_from_slice(&list);
     block[COUNT] = held as u64;
     sort_in(block, n, held);
     true
@@ -103,10 +84,9 @@ fn grow_by_one(block: &mut [u64], n: usize, x: u64) -> bool
     requires { (length block.old ≡ block_size) × (n ≤ list_size) }
     ensures { Growing block.old block.new n (x ∷ []) result }
 {
-    let held = pgn_list::extend_by_one(&mut block[LIST..LIST_END], n, x);
-    if LIST_SIZE < held {
+    let Some(held) = pgn_list::extend_by_one(&mut block[LIST..LIST_END], n, x) else {
         return false;
-    }
+    };
     block[COUNT] = held as u64;
     sort_in(block, n, held);
     true
@@ -132,8 +112,7 @@ fn sort_out_one(block: &mut [u64], n: usize, held: usize, x: u64)
     requires { (length block.old ≡ block_size) × (n ≤ list_size) × (held ≤ list_size) }
     ensures { Resorted block.old block.new (fitted held (delete_all (take n (sorted_in block.old)) (x ∷ []))) held }
 {
-    let at = pgn_list::find(&block[SORTED..BLOCK_SIZE], n, x);
-    let kept = pgn_list::close_up(&mut block[SORTED..BLOCK_SIZE], at, n, x);
+    let kept = pgn_list::remove(&mut block[SORTED..BLOCK_SIZE], n, x);
     sorted_list::fit(&mut block[SORTED..BLOCK_SIZE], kept, held);
 }
 
@@ -151,10 +130,9 @@ fn delete_one(block: &mut [u64], n: usize, x: u64) -> bool
     requires { (length block.old ≡ block_size) × Counting block.old n × (is_cleared (filter_of block.old).mode ≡ false) }
     ensures { Deleting block.old block.new (x ∷ []) result }
 {
-    let i = pgn_list::find(&block[LIST..LIST_END], n, x);
-    if i == n {
+    let Some(i) = pgn_list::find(&block[LIST..LIST + n], x) else {
         return false;
-    }
+    };
     let kept = pgn_list::close_up(&mut block[LIST..LIST_END], i, n, x);
     block[COUNT] = kept as u64;
     sort_out_one(block, n, kept, x);
@@ -224,10 +202,10 @@ pub fn clear(block: &mut [u64])
 fn first_entry(bytes: &[u8]) -> u64
     ensures { result ≡ get_or (entries_of bytes.now) 0 0 }
 {
-    if entries::count(bytes) == 0 {
-        return 0;
+    match entries::all(bytes) {
+        [] => 0,
+        [first, ..] => entries::number(first) as u64,
     }
-    entries::entry_at(bytes, 0)
 }
 
 // Whether a NAME entry would be the ninth: refusal 16. One already there is none.

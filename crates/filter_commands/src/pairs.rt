@@ -6,7 +6,7 @@ ghost use Rattle.filter_commands.specs.Changes.{Changing};
 ghost use Rattle.filter_commands.specs.Pairs.{holds_of, may_of, change_of};
 
 // What is asked of a pair before a command.
-#[derive(Clone, Copy)]
+#[derive(Clone, Copy, Debug, PartialEq, Eq)]
 pub enum Question {
     IsCleared,
     IsNotCleared,
@@ -16,7 +16,7 @@ pub enum Question {
 }
 
 // What a command with entries does to a pair. A NAME entry's PGN is the command's one entry.
-#[derive(Clone, Copy)]
+#[derive(Clone, Copy, Debug, PartialEq, Eq)]
 pub enum Change {
     Adds,
     Deletes,

@@ -11,13 +11,7 @@ use lib.Seq.{sets, sets-eq, drop-length, take_all, take-suc, take-suc-set}
 use Rattle.storage.specs.Bytes.{packed, bytes_of}
 use Rattle.storage.proofs.Bytes.{packed_back, bytes_of_length}
 use Rattle.queue.specs.declared.Frame.{Frame}
-use Rattle.queue.specs.declared.Taken.{Taken}
-use Rattle.queue.specs.declared.Taken.TheVariants.{Given, Nothing}
-use Rattle.flat_answers.specs.Answers.{bytes_length, bytes_of_frame, Telling}
-
--- as many words as there is room for, stored from the first on, are the words
-pub stored : (words room : List ℕ) → length room ≡ length words → sets room 0 words ≡ words
-stored words room e = sets-eq words room 0 (omega arith) ∙ rw (zero-add (length words), ← e, drop-length room) (append-nil words)
+use Rattle.flat_answers.specs.Answers.{bytes_length, bytes_of_frame}
 
 -- the bytes of a word that is cut after l bytes
 pub cut : (n l w : ℕ) → l ≤ n → bytes_of n (w % 2 ^ (8 * l)) ≡ take l (bytes_of n w) ++ replicate (n - l) 0
@@ -71,11 +65,3 @@ module _ {word i : ℕ} {bytes : List ℕ} where
       let done : i ≡ bytes_length = omega (arith, W.within) in
       let e = rw done at W.front in
       sym (take_all bytes_length bytes (omega (arith, W.long))) ∙ e ∙ take_all bytes_length (bytes_of bytes_length word) (omega (arith, bytes_of_length bytes_length word))
-
--- ---- a take that is told
-module _ {told bytes : List ℕ} {taken : Taken} where
-  pub told_nothing : taken ≡ Nothing → told ≡ 0 ∷ 0 ∷ 0 ∷ [] → Telling told bytes bytes taken 0
-  told_nothing is t = record { number = refl; tells = rw is t; writes = rw is }
-
-  pub told_frame : {written : List ℕ} {f : Frame} → taken ≡ Given f → told ≡ 1 ∷ f.id ∷ f.len ∷ [] → written ≡ bytes_of_frame f → Telling told bytes written taken 0
-  told_frame is t w = record { number = refl; tells = rw is t; writes = rw is w }

@@ -1,13 +1,11 @@
 -- What an answer is as words and bytes, in the order of include/deorasaeng.h.
 -- Assumes nothing.
-use Rattle.std.specs.Prelude.{ℕ, ◌-◌, cond, ◌≡◌, List, [], ◌∷◌, ◌++◌, take, replicate, get_or}
+use Rattle.std.specs.Prelude.{ℕ, ◌-◌, cond, ◌≡◌, List, [], ◌∷◌, ◌++◌, take, replicate, get_or, Option, Some, None}
 use Rattle.storage.specs.Bytes.{bytes_of}
 use Rattle.queue.specs.declared.Frame.{Frame}
-use Rattle.queue.specs.declared.Taken.{Taken}
-use Rattle.queue.specs.declared.Taken.TheVariants.{Given, Nothing}
 use Rattle.queue.specs.declared.Tally.{Tally}
 use Rattle.address_claims.specs.Events.{event_number, old_name}
-use Rattle.bridge.specs.declared.FrameAnswer.{FrameAnswer}
+use Rattle.bridge.specs.Told.{FrameTold}
 use Rattle.unit.specs.declared.Unit.{Unit}
 use Rattle.unit.specs.Own.{claim_word}
 
@@ -16,7 +14,7 @@ abbrev pub frame_length : ℕ
 frame_length = 8
 
 -- consumed (0, 1), accepted ports, lost ports, claim event, old NAME, ports where the unit's own frame was lost, entries compared, reasons
-abbrev pub frame_words : FrameAnswer → List ℕ
+abbrev pub frame_words : FrameTold → List ℕ
 frame_words a = cond a.consumed 1 0 ∷ a.accepted ∷ a.lost ∷ event_number a.event ∷ old_name a.event ∷ a.unsent ∷ a.compared ∷ a.reasons ∷ []
 
 -- ---- a take
@@ -27,22 +25,21 @@ abbrev pub bytes_length : ℕ
 bytes_length = 8
 
 -- 1 for a frame and 0 for nothing waiting, identifier, length
-abbrev pub take_words : Taken → List ℕ
-take_words (Given f) = 1 ∷ f.id ∷ f.len ∷ []
-take_words Nothing = 0 ∷ 0 ∷ 0 ∷ []
+abbrev pub take_words : Option Frame → List ℕ
+take_words (Some f) = 1 ∷ f.id ∷ f.len ∷ []
+take_words None = 0 ∷ 0 ∷ 0 ∷ []
 
 -- "the frame's bytes, 0 past its length"
 unfoldable pub bytes_of_frame : Frame → List ℕ
 bytes_of_frame f = take f.len (bytes_of bytes_length f.bytes) ++ replicate (bytes_length - f.len) 0
 
 -- "untouched when nothing waits"
-abbrev pub bytes_of_taken : Taken → List ℕ → List ℕ
-bytes_of_taken (Given f) bytes = bytes_of_frame f
-bytes_of_taken Nothing bytes = bytes
+abbrev pub bytes_of_taken : Option Frame → List ℕ → List ℕ
+bytes_of_taken (Some f) bytes = bytes_of_frame f
+bytes_of_taken None bytes = bytes
 
 -- the contract of telling a take that is done
-pub record Telling (told bytes written : List ℕ) (taken : Taken) (r : ℕ) : Type 0 where
-  pub number : r ≡ 0
+pub record Telling (told bytes written : List ℕ) (taken : Option Frame) : Type 0 where
   pub tells : told ≡ take_words taken
   pub writes : written ≡ bytes_of_taken taken bytes
 
@@ -53,11 +50,6 @@ unit_length = 5
 -- claim state (0 Unstarted, 1 Claiming, 2 Claimed, 3 Lost), address (254 for none), preferred address, NAME, number of ports
 abbrev pub unit_words : Unit → List ℕ
 unit_words own = claim_word own.claim ∷ own.address ∷ own.preferred ∷ own.name ∷ own.ports ∷ []
-
--- the contract of telling it, which is done
-pub record TellingUnit (told : List ℕ) (own : Unit) (r : ℕ) : Type 0 where
-  pub number : r ≡ 0
-  pub tells : told ≡ unit_words own
 
 -- ---- what is counted at a port
 abbrev pub counts_length : ℕ

@@ -1,6 +1,7 @@
 -- The loops over the ports: where any such loop stands after n ports, and one more; then a frame by any question that is asked of a port, and the unit's own. Assumes nothing.
+use Rattle.std.specs.Prelude.{None, Option, Some}
 use mathlib.Core.Path.{◌≡◌, refl, sym, ap, ◌∙◌}
-use mathlib.Core.Bool.{Bool, true, false, true≢false, cond}
+use mathlib.Core.Bool.{Bool, false, true≢false, cond}
 use mathlib.Core.List.{List, [], ◌∷◌}
 use Prim.Native.Nat.{ℕ, ◌+◌, ◌*◌, ◌/◌, ◌%◌, ◌^◌, ◌≤◌, ◌<◌}
 use native.Mathlib.Nat.{add-zero, mul-zero, pow-suc, pow-succ', pow-le-pow_right, div-one, div-div-eq-div-mul}
@@ -16,7 +17,6 @@ use Rattle.sorted_list.specs.SortedList.{most_probes}
 use Rattle.name_entries.specs.NameEntries.{most_names}
 use Rattle.queue.specs.declared.Frame.{Frame}
 use Rattle.queue.specs.Queue.{Queued, sent_all, idle}
-use Rattle.unit.specs.declared.Sent.TheVariants.{One}
 use Rattle.forwarding.specs.declared.Came.{Came}
 use Rattle.forwarding.specs.declared.Offered.{Offered}
 use Rattle.forwarding.specs.declared.Share.{Share}
@@ -27,7 +27,6 @@ use Rattle.forwarding.specs.Steps.{changed_to, came_of, joins, misses, forwarded
 use Rattle.unit.proofs.Ports.{each_later, each_step, turn_step, turn_same, turn_none, mask_bit, mask_step, digits_step, digits_small, total_step, mask_small, choice_small, each_none, mask_none}
 use Rattle.record.proofs.Regions.{queues_long}
 use Rattle.forwarding.proofs.Sends.{joins_is, misses_is}
-use Rattle.unit.specs.declared.Sent.{Sent}
 
 -- ---- any loop over the ports
 -- where it stands: each of the first n queues is changed by itself, what is lost there is counted, and the bit is the next port's
@@ -158,15 +157,15 @@ module _ {ports : ℕ} {start : List ℕ} {question : ℕ → Asked} {f : Frame}
 
 -- ---- the unit's own frame
 pub record Telling (ports : ℕ) (start : List ℕ) (f : Frame) (words : List ℕ) (lost bit n : ℕ) : Type 0 where
-  pub along : Along ports start (λ q x. sent_all x (f ∷ [])) (λ q. loses_own (One f) (row_at (model_of ports start) q)) (λ q. lost_own ports) words bit n
-  pub answer : lost ≡ unsent_to n (model_of ports start) (One f)
+  pub along : Along ports start (λ q x. sent_all x (f ∷ [])) (λ q. loses_own (Some f) (row_at (model_of ports start) q)) (λ q. lost_own ports) words bit n
+  pub answer : lost ≡ unsent_to n (model_of ports start) (Some f)
 
 module _ {ports : ℕ} {start : List ℕ} {f : Frame} where
   pub telling_start : ports ≤ 8 → length start ≡ record_length ports → Telling ports start f start 0 1 0
   unfolding unsent_to mask
   telling_start few h = record { along = along_start few h; answer = refl }
 
-  pub telling_done : {words : List ℕ} {lost bit n : ℕ} → n ≡ ports → Telling ports start f words lost bit n → Announcing ports start words (One f) lost
+  pub telling_done : {words : List ℕ} {lost bit n : ℕ} → n ≡ ports → Telling ports start f words lost bit n → Announcing ports start words (Some f) lost
   unfolding announced_to
   telling_done e T = record { answer = rw e at T.answer; state = rw e at T.along.state }
 
@@ -178,22 +177,22 @@ module _ {ports : ℕ} {start : List ℕ} {f : Frame} where
           along_more T.along more h
           (J.state
           ∙ ap
-          (λ row. with_losses (with_queue (model_of ports words) n (sent_all (queue_on (model_of ports words) n) (f ∷ []))) (cond (loses_own (One f) row) (lost_own ports (model_of ports words).seen.losses) (model_of ports words).seen.losses))
+          (λ row. with_losses (with_queue (model_of ports words) n (sent_all (queue_on (model_of ports words) n) (f ∷ []))) (cond (loses_own (Some f) row) (lost_own ports (model_of ports words).seen.losses) (model_of ports words).seen.losses))
           (row_still T.along));
       answer =
-          let e : r ≡ cond (loses_own (One f) (row_at (model_of ports start) n)) (2 ^ n) 0 = rw (row_still T.along, T.along.weight) at J.answer in
+          let e : r ≡ cond (loses_own (Some f) (row_at (model_of ports start) n)) (2 ^ n) 0 = rw (row_still T.along, T.along.weight) at J.answer in
           rw (T.answer, e, mask_step);
     }
 
     pub told_sums : (lost + r < 256) × (2 * bit ≤ 256)
     unfolding unsent_to
     told_sums = (
-      mask_sum T.along (λ q. loses_own (One f) (row_at (model_of ports start) q)) more T.answer (rw J.answer (choice_small (loses_own (One f) (row_at (model_of ports words) n)) bit)),
+      mask_sum T.along (λ q. loses_own (Some f) (row_at (model_of ports start) q)) more T.answer (rw J.answer (choice_small (loses_own (Some f) (row_at (model_of ports words) n)) bit)),
       omega (arith, bit_small T.along more),
     )
 
 -- where it sends none
-pub told_nothing : {ports : ℕ} {words : List ℕ} {s : Sent} → s ≡ Sent.Nothing → Announcing ports words words s 0
+pub told_nothing : {ports : ℕ} {words : List ℕ} {s : Option Frame} → s ≡ None → Announcing ports words words s 0
 unfolding announced_to unsent_to
 told_nothing {ports} {words} e = record {
   answer = rw (e, mask_none ports);

@@ -1,5 +1,5 @@
 -- How far a frame has gone: at the start, past its own port, past another, at the end. Assumes nothing.
-use mathlib.Core.Path.{◌≡◌}
+use mathlib.Core.Path.{◌≡◌, sym, ◌∙◌}
 use mathlib.Core.Logic.{inl}
 use mathlib.Core.List.{List}
 use Prim.Native.Nat.{ℕ, ◌+◌, ◌-◌, ◌*◌, ◌^◌, ◌≤◌, ◌<◌}
@@ -56,28 +56,36 @@ module _ {ports : ℕ} {start : List ℕ} {p pgn : ℕ} {f : Frame} (few : ports
       → Offering ports start words (question ports p pgn f (model_of ports start).rest) f (way_share way)
   gone_done G e = going_done e (going G)
 
-  module _ {words : List ℕ} {way : Way} (port : p < ports) (G : Gone ports start words p pgn f way) (more : way.to < ports) where
-    pub gone_past : p ≡ way.to → Gone ports start words p pgn f (way_past way)
+  module _ {words : List ℕ} {way : Way} {to : ℕ} (port : p < ports) (G : Gone ports start words p pgn f way) (is : way.to ≡ to) (to_more : to < ports) where
+    more : way.to < ports
+    more = omega (arith, is)
+
+    pub gone_past : p ≡ to → Gone ports start words p pgn f (way_past way) × ((way_past way).to ≡ to + 1)
     unfolding way_past
-    gone_past e =
-        gone (way_past way) (going_self (going G) more (asked_still (question ports p pgn f) (going G) (send_self pgn e))) (stand_self port G.standing e)
+    gone_past own =
+        let e : p ≡ way.to = own ∙ sym is in
+        (gone (way_past way) (going_self (going G) more (asked_still (question ports p pgn f) (going G) (send_self pgn e))) (stand_self port G.standing e), omega (arith, is))
 
     pub past_small : (way.bit ≤ 128) × (way.weight ≤ 2 ^ 28) × (way.to ≤ 8)
     past_small = (bit_small (going G).along more, weight_small (going G) more, omega arith)
 
-    module _ (other : p ≡ way.to → ⊥) where
+    module _ (away : p ≡ to → ⊥) where
+      other : p ≡ way.to → ⊥
+      other e = away (e ∙ is)
+
       -- the pair's filter lies in the record
       pub pair_in_lem : way.at + filter_length ≤ length words
       pair_in_lem = omega (arith, G.whole, stand_pair port G.standing other, stand_count port G.standing other more)
 
-      module _ {after : List ℕ} {s : Offered} (S : SendingAt words after way.at way.to pgn f s) where
+      module _ {after : List ℕ} {s : Offered} (S : SendingAt words after way.at to pgn f s) where
         came : Sending ports words after (question ports p pgn f (model_of ports start).rest way.to) way.to f s
         came =
-            asked_still (question ports p pgn f) (going G) (S ports p more other (stand_count port G.standing other more) (stand_pair port G.standing other))
+            let T : SendingAt words after way.at way.to pgn f s = rw is S in
+            asked_still (question ports p pgn f) (going G) (T ports p more other (stand_count port G.standing other more) (stand_pair port G.standing other))
 
-        pub gone_after : length after ≡ length words → Gone ports start after p pgn f (way_after way s)
+        pub gone_after : length after ≡ length words → Gone ports start after p pgn f (way_after way s) × ((way_after way s).to ≡ to + 1)
         unfolding way_after
-        gone_after long = gone (way_after way s) (going_more (going G) came more (omega (arith, long, G.whole))) (stand_next port G.standing other)
+        gone_after long = (gone (way_after way s) (going_more (going G) came more (omega (arith, long, G.whole))) (stand_next port G.standing other), omega (arith, is))
 
         pub room : Room way s
         room = record {

@@ -1,14 +1,13 @@
 -- docs/RULES.md, "Forwarding", rules 2, 3 and 5, at each port by itself; and what is counted of the frames that are lost there.
 -- Assumes nothing.
-use Rattle.std.specs.Prelude.{ℕ, Bool, false, not, ◌&&◌, cond, List, [], ◌∷◌, get_or, set, eqb}
+use Rattle.std.specs.Prelude.{ℕ, Bool, false, not, ◌&&◌, cond, List, [], ◌∷◌, get_or, set, eqb, None, Option, Some}
 use Rattle.delivery.specs.Row.{room}
 use Rattle.filter.specs.declared.Reason.{Reason}
 use Rattle.filter.specs.declared.Asked.{Asked}
-use Rattle.filter.specs.Filter.{Filter, clear, crosses, asked}
+use Rattle.filter.specs.Filter.{clear, crosses, asked}
 use Rattle.queue.specs.declared.Frame.{Frame}
 use Rattle.queue.specs.Queue.{size}
 use Rattle.losses.specs.Losses.{one_more}
-use Rattle.unit.specs.declared.Sent.{Sent}
 use Rattle.unit.specs.Model.{Rest, pair_at, general_at}
 use Rattle.addresses.specs.Table.{name_at}
 
@@ -32,9 +31,9 @@ abbrev pub loses : Asked → List Frame → Bool
 loses v row = crosses v.reason && not (room size row)
 
 -- whether the unit's own frame is lost at a row
-abbrev pub loses_own : Sent → List Frame → Bool
-loses_own Sent.Nothing row = false
-loses_own (Sent.One f) row = not (room size row)
+abbrev pub loses_own : Option Frame → List Frame → Bool
+loses_own None row = false
+loses_own (Some f) row = not (room size row)
 
 -- ---- docs/RULES.md, "Parameters": losses count "one for each frame and lost port"
 -- one more in the counter in place i

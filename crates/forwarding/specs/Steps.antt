@@ -1,6 +1,6 @@
 -- The contracts of the loops over the ports: what each does to the model of a record, at one port and at all.
 -- Assumes nothing.
-use Rattle.std.specs.Prelude.{ℕ, ◌+◌, ◌-◌, ◌*◌, ◌^◌, ◌≤◌, ◌<◌, Bool, true, false, cond, ◌⊎◌, ◌≡◌, List, [], ◌∷◌, length}
+use Rattle.std.specs.Prelude.{ℕ, ◌+◌, ◌-◌, ◌*◌, ◌^◌, ◌≤◌, ◌<◌, Bool, true, false, cond, ◌⊎◌, ◌≡◌, List, [], ◌∷◌, length, Option, Some}
 use Rattle.delivery.specs.Row.{room}
 use Rattle.filter.specs.declared.Asked.{Asked}
 use Rattle.filter.specs.Filter.{crosses, reason_number, block_size as filter_length}
@@ -9,7 +9,6 @@ use Rattle.name_entries.specs.NameEntries.{most_names}
 use Rattle.identifier.specs.Identifier.{sa_of}
 use Rattle.queue.specs.declared.Frame.{Frame}
 use Rattle.queue.specs.Queue.{Queued, size, sent_all, joined}
-use Rattle.unit.specs.declared.Sent.{Sent}
 use Rattle.unit.specs.Ports.{each, in_turn, mask, digits, total}
 use Rattle.unit.specs.Model.{Model, queue_on, row_at, with_queue, with_queues, with_losses, pairs_from, pair_at, record_length, model_of}
 use Rattle.unit.specs.Count.{pair_count}
@@ -147,20 +146,20 @@ pub record Forwarding (ports : ℕ) (before after : List ℕ) (p : ℕ) (questio
   pub state : model_of ports after ≡ forwarded_to ports (model_of ports before) p question f
 
 -- ---- the unit's own frame
-unfoldable pub announced_to : ℕ → Model → Sent → Model
+unfoldable pub announced_to : ℕ → Model → Option Frame → Model
 announced_to ports m s = changed_to ports m (λ q x. sent_all x (frames_sent s)) (λ q. loses_own s (row_at m q)) (λ q. lost_own ports)
 
-unfoldable pub unsent_to : ℕ → Model → Sent → ℕ
+unfoldable pub unsent_to : ℕ → Model → Option Frame → ℕ
 unsent_to n m s = mask (λ q. loses_own s (row_at m q)) n
 
 -- at port q
 pub record OwnJoining (ports : ℕ) (before after : List ℕ) (q bit : ℕ) (f : Frame) (r : ℕ) : Type 0 where
-  pub answer : r ≡ cond (loses_own (Sent.One f) (row_at (model_of ports before) q)) bit 0
+  pub answer : r ≡ cond (loses_own (Some f) (row_at (model_of ports before) q)) bit 0
   pub state : model_of ports after
       ≡ with_losses
       (with_queue (model_of ports before) q (sent_all (queue_on (model_of ports before) q) (f ∷ [])))
-      (cond (loses_own (Sent.One f) (row_at (model_of ports before) q)) (lost_own ports (model_of ports before).seen.losses) (model_of ports before).seen.losses)
+      (cond (loses_own (Some f) (row_at (model_of ports before) q)) (lost_own ports (model_of ports before).seen.losses) (model_of ports before).seen.losses)
 
-pub record Announcing (ports : ℕ) (before after : List ℕ) (s : Sent) (r : ℕ) : Type 0 where
+pub record Announcing (ports : ℕ) (before after : List ℕ) (s : Option Frame) (r : ℕ) : Type 0 where
   pub answer : r ≡ unsent_to ports (model_of ports before) s
   pub state : model_of ports after ≡ announced_to ports (model_of ports before) s

@@ -1,7 +1,7 @@
 // Forwarding: a frame from one port at every other, and the unit's own frame at all.
 #![tactic(auto)]
 
-ghost use Rattle.std.specs.Prelude.{◌≡◌, false, List, ℕ, ◌+◌, ◌*◌, ◌^◌, ◌≤◌, ◌<◌, length, get_or};
+ghost use Rattle.std.specs.Prelude.{◌≡◌, false, List, Some, ℕ, ◌+◌, ◌*◌, ◌^◌, ◌≤◌, ◌<◌, length, get_or};
 ghost use Rattle.filter.specs.Filter.{block_size as filter_length};
 ghost use Rattle.sorted_list.specs.SortedList.{most_probes};
 ghost use Rattle.name_entries.specs.NameEntries.{most_names};
@@ -14,7 +14,6 @@ ghost use Rattle.forwarding.specs.Steps.{Losing, LosingAll, Joining, Sending, Se
 
 use filter::Asked;
 use queue::Frame;
-use unit::Sent;
 
 // What came of a frame: accepted and lost ports as masks, bit p - 1 for port p; the reasons, four bits a port, port p's from bit 4(p - 1); the entries
 // compared.
@@ -42,8 +41,7 @@ pub fn join(words: &mut [u64], ports: usize, from: usize, to: usize, f: Frame) -
     requires { (ports ≤ 8) × (length words.old ≡ record_length ports) × (from < ports) × (to < ports) × (from ≡ to → ⊥) }
     ensures { Joining ports words.old words.new from to f result }
 {
-    let waits = record::join_row(words, to, f);
-    if waits {
+    if record::join_row(words, to, f) {
         return true;
     }
     count_loss(words, ports, from, to);
@@ -71,28 +69,17 @@ fn carry(words: &mut [u64], to: usize, v: Asked, f: Frame) -> Offered
     requires { (rows_from + queue_length * to + queue_length ≤ length words.old) × (v.compared ≤ most_probes + most_names) }
     ensures { (ports : ℕ) → to < ports → Sending ports words.old words.new v to f result }
 {
-    let why = v.reason;
-    let reason = why.number();
-    let compared = v.compared;
-    if why.crosses() {
-        let waits = record::join_row(words, to, f);
-        if waits {
-            return Offered {
-                came: Came::Joined,
-                reason,
-                compared,
-            };
-        }
-        return Offered {
-            came: Came::Lost,
-            reason,
-            compared,
-        };
-    }
+    let came = if !v.reason.crosses() {
+        Came::Stopped
+    } else if record::join_row(words, to, f) {
+        Came::Joined
+    } else {
+        Came::Lost
+    };
     Offered {
-        came: Came::Stopped,
-        reason,
-        compared,
+        came,
+        reason: v.reason.number(),
+        compared: v.compared,
     }
 }
 
@@ -136,8 +123,7 @@ impl Way {
     {
         let mut accepted = self.accepted;
         let mut lost = self.lost;
-        let came = s.came;
-        match came {
+        match s.came {
             Came::Stopped => {}
             Came::Joined => {
                 accepted += self.bit;
@@ -164,14 +150,10 @@ impl Way {
         ensures { result ≡ way_past self }
     {
         Way {
-            accepted: self.accepted,
-            lost: self.lost,
-            reasons: self.reasons,
-            compared: self.compared,
             bit: 2 * self.bit,
             weight: 16 * self.weight,
-            at: self.at,
             to: self.to + 1,
+            ..self
         }
     }
 
@@ -203,16 +185,14 @@ fn offer_by_lists(words: &mut [u64], ports: usize, from: usize, pgn: u32, f: Fra
         at: record::filters_from(ports, from),
         to: 0,
     };
-    while way.to < ports {
-        let at = way.at;
-        let to = way.to;
+    for to in 0..ports {
         if from == to {
             way = way.past();
         } else {
-            if record::has_names(words, at) {
+            if record::has_names(words, way.at) {
                 return way;
             }
-            let s = send_by_list(words, at, to, pgn, f);
+            let s = send_by_list(words, way.at, to, pgn, f);
             way = way.after(s);
         }
     }
@@ -225,13 +205,11 @@ fn offer_rest(words: &mut [u64], ports: usize, from: usize, pgn: u32, f: Frame, 
     ensures { (start : List ℕ) → Gone ports start words.old from pgn f gone → Offering ports start words.new (verdict ports (model_of ports start).rest from pgn (sa_of f.id)) f result }
 {
     let mut way = gone;
-    while way.to < ports {
-        let at = way.at;
-        let to = way.to;
+    for to in way.to..ports {
         if from == to {
             way = way.past();
         } else {
-            let s = send(words, at, to, pgn, f);
+            let s = send(words, way.at, to, pgn, f);
             way = way.after(s);
         }
     }
@@ -256,13 +234,11 @@ fn count_losses(words: &mut [u64], ports: usize, from: usize, lost: u32)
     ensures { LosingAll ports words.old words.new from (λ q. bit_at lost q) }
 {
     let mut set = lost;
-    let mut to: usize = 0;
-    while to < ports {
+    for to in 0..ports {
         if set % 2 == 1 {
             count_loss(words, ports, from, to);
         }
-        set = set / 2;
-        to += 1;
+        set /= 2;
     }
 }
 
@@ -283,8 +259,7 @@ fn join_own(words: &mut [u64], ports: usize, to: usize, bit: u32, f: Frame) -> u
     requires { (ports ≤ 8) × (length words.old ≡ record_length ports) × (to < ports) }
     ensures { OwnJoining ports words.old words.new to bit f result }
 {
-    let waits = record::join_row(words, to, f);
-    if waits {
+    if record::join_row(words, to, f) {
         return 0;
     }
     let general = record::general_at(ports);
@@ -295,26 +270,24 @@ fn join_own(words: &mut [u64], ports: usize, to: usize, bit: u32, f: Frame) -> u
 // The unit's own frame at every port, the ports where it is lost.
 fn join_all(words: &mut [u64], ports: usize, f: Frame) -> u32
     requires { (ports ≤ 8) × (length words.old ≡ record_length ports) }
-    ensures { Announcing ports words.old words.new (Sent.One f) result }
+    ensures { Announcing ports words.old words.new (Some f) result }
 {
     let mut lost: u32 = 0;
     let mut bit: u32 = 1;
-    let mut port: usize = 0;
-    while port < ports {
+    for port in 0..ports {
         lost += join_own(words, ports, port, bit, f);
-        bit = 2 * bit;
-        port += 1;
+        bit *= 2;
     }
     lost
 }
 
 // What the unit sends of its own, to every port; the ports where it is lost.
-pub fn announce(words: &mut [u64], ports: usize, sent: Sent) -> u32
+pub fn announce(words: &mut [u64], ports: usize, sent: Option<Frame>) -> u32
     requires { (ports ≤ 8) × (length words.old ≡ record_length ports) }
     ensures { Announcing ports words.old words.new sent result }
 {
     match sent {
-        Sent::Nothing => 0,
-        Sent::One(f) => join_all(words, ports, f),
+        None => 0,
+        Some(f) => join_all(words, ports, f),
     }
 }

@@ -6,26 +6,40 @@ use Prim.Native.Nat.{ℕ, ◌-◌, ◌≤◌}
 use native.Mathlib.Omega.{arith}
 use borrow.Author.Tests.{eq-eqb, ne_eqb}
 use lib.ListN.{length}
+use Rattle.std.specs.Prelude.{Option, Ok, Err}
 use Rattle.identifier.specs.Identifier.{pgn_of, sa_of}
 use Rattle.addresses.specs.Table.{name_at}
 use Rattle.filter.specs.declared.Asked.{Asked}
 use Rattle.queue.specs.declared.Frame.{Frame}
-use Rattle.address_claims.specs.declared.Event.{Event}
-use Rattle.unit.specs.declared.Sent.{Sent}
 use Rattle.claims.specs.declared.Acted.{Acted as Done}
 use Rattle.unit.specs.Model.{Model, model_of, record_length}
 use Rattle.unit.specs.Own.{consumes}
+use Rattle.checks.specs.declared.refusal.Refusal.{Refusal}
+use Rattle.checks.specs.declared.refusal.Refusal.TheVariants.{WrongLength}
 use Rattle.checks.specs.Ports.{no_port}
+use Rattle.checks.specs.Refusals.{number}
 use Rattle.refusals.specs.Refusals.{frame_refusal, length_refusal}
 use Rattle.forwarding.specs.Forwarding.{silent, verdict}
 use Rattle.forwarding.specs.Steps.{Joining, announced_to, Announcing}
 use Rattle.claims.specs.Claims.{frame_of, is_claim, frame_acted}
 use Rattle.claims.specs.Steps.{Acting}
 use Rattle.record.specs.Steps.{PairAsking}
-use Rattle.frame_parts.specs.Parts.{Changing, turned_away, arrival, pair_refusal, asked_of, ask_answer, PartAsking, join_answer, joined_model, PartJoining, act_answer, PartActing, announce_answer, PartAnnouncing}
+use Rattle.frame_parts.specs.Parts.{Changing, Answering, arrived, pair_refusal, PartAsking, joined_model, PartJoining, PartActing, PartAnnouncing}
 use Rattle.unit.proofs.Own.{own_ports}
 use Rattle.claims.proofs.Count.{acted_ports}
+use Rattle.checks.proofs.Refusals.{number_positive}
 use Rattle.refusals.proofs.Checks.{none, port_in, frame_goes}
+
+-- ---- any part's answer
+module _ {A : Type 0} {n : ℕ} {value : A} where
+  pub turned_away : (refusal : Refusal) → number refusal ≡ n → Answering n value (Err refusal)
+  turned_away refusal e = record { number = e; given = tt }
+
+  pub answered : {given : A} → n ≡ 0 → given ≡ value → Answering n value (Ok given)
+  answered z e = record { number = sym z; given = e }
+
+no_zero : (refusal : Refusal) {n : ℕ} → number refusal ≡ n → n ≡ 0 → ⊥
+no_zero refusal e z = omega (arith, number_positive refusal, e, z)
 
 -- ---- any part that changes the record
 module _ {ports : ℕ} {before : List ℕ} {refusal : ℕ} {then : Model} where
@@ -40,17 +54,6 @@ module _ {ports : ℕ} {before : List ℕ} {refusal : ℕ} {then : Model} where
     refused = λ h. absurd (h z);
   }
 
--- ---- arrive
-module _ (ports : ℕ) (words : List ℕ) (port id : ℕ) (bytes : List ℕ) {n : ℕ} (e : n ≡ frame_refusal ports (length words) port id (length bytes)) where
-  pub arrive_refused : (n ≡ 0 → ⊥) → turned_away n ≡ arrival ports (length words) (model_of ports words).rest port id bytes
-  unfolding arrival
-  arrive_refused h = rw (← e, ne_eqb n 0 h)
-
-  pub arrive_goes : {f : Frame} {consumed claim : Bool} → n ≡ 0 → f ≡ frame_of id bytes → consumed ≡ consumes (model_of ports words).rest.own id → claim ≡ is_claim f
-      → record { refusal = 0; frame = f; consumed = consumed; claim = claim } ≡ arrival ports (length words) (model_of ports words).rest port id bytes
-  unfolding arrival
-  arrive_goes z g c k = rw (← e, eq-eqb n 0 z, k, c, g)
-
 -- ---- from one port to another
 pub pair_goes : (ports lent from to id len : ℕ) → pair_refusal ports lent from to id len ≡ 0 → (lent ≡ record_length ports) × (1 ≤ from) × (from ≤ ports) × (1 ≤ to) × (to ≤ ports)
 unfolding pair_refusal
@@ -60,58 +63,50 @@ pair_goes ports lent from to id len e =
     let p = port_in ports to a.0 in
     (t.0, t.1, t.2, p.0, p.1)
 
+-- ---- arrive
+pub arrival : (ports id : ℕ) (words bytes : List ℕ) {refusal : ℕ} {f : Frame} {consumed claim : Bool} → refusal ≡ 0 → f ≡ frame_of id bytes → consumed ≡ consumes (model_of ports words).rest.own id → claim ≡ is_claim f
+    → Answering refusal (arrived (model_of ports words).rest (frame_of id bytes)) (Ok (record { frame = f; consumed = consumed; claim = claim }))
+arrival ports id words bytes z g c k = answered z (rw (k, c, g))
+
 -- ---- ask
-module _ {ports : ℕ} (words : List ℕ) (from to id : ℕ) {n : ℕ} (e : n ≡ pair_refusal ports (length words) from to id 0) where
-  pub ask_refused : (n ≡ 0 → ⊥) → PartAsking ports words from to id (asked_of n silent)
-  unfolding ask_answer
-  ask_refused h = record { answer = rw (← e, ne_eqb n 0 h); small = omega arith }
+module _ {ports : ℕ} (words : List ℕ) (from to id : ℕ) where
+  module _ (goes : pair_refusal ports (length words) from to id 0 ≡ 0) where
+    pub ask_self : from ≡ to → PartAsking ports words from to id (Ok silent)
+    unfolding verdict
+    ask_self s = record { answer = answered goes (rw (s, eq-eqb (to - 1) (to - 1) refl)); small = omega arith }
 
-  pub ask_self : n ≡ 0 → from ≡ to → PartAsking ports words from to id (asked_of 0 silent)
-  unfolding ask_answer verdict
-  ask_self z s = record { answer = rw (← e, eq-eqb n 0 z, s, eq-eqb (to - 1) (to - 1) refl); small = omega arith }
-
-  pub ask_pair : {pgn sa : ℕ} {v : Asked} → n ≡ 0 → (from - 1 ≡ to - 1 → ⊥) → pgn ≡ pgn_of id → sa ≡ sa_of id
-      → PairAsking ports words (from - 1) (to - 1) pgn (name_at (model_of ports words).rest.table sa) v → PartAsking ports words from to id (asked_of 0 v)
-  unfolding ask_answer verdict
-  ask_pair z h g s P = record { answer = rw (← e, eq-eqb n 0 z, ne_eqb (from - 1) (to - 1) h, ← g, ← s, ← P.answer); small = P.small }
+    pub ask_pair : {pgn sa : ℕ} {v : Asked} → (from - 1 ≡ to - 1 → ⊥) → pgn ≡ pgn_of id → sa ≡ sa_of id
+        → PairAsking ports words (from - 1) (to - 1) pgn (name_at (model_of ports words).rest.table sa) v → PartAsking ports words from to id (Ok v)
+    unfolding verdict
+    ask_pair h g s P = record { answer = answered goes (rw (ne_eqb (from - 1) (to - 1) h, ← g, ← s, ← P.answer)); small = P.small }
 
 -- ---- join
-module _ {ports : ℕ} {words : List ℕ} (from to : ℕ) (f : Frame) {n : ℕ} (e : n ≡ pair_refusal ports (length words) from to f.id f.len) where
-  pub join_refused : (n ≡ 0 → ⊥) → PartJoining ports words words from to f (record { refusal = n; accepted = false })
-  unfolding join_answer
-  join_refused h = record { answer = rw (← e, ne_eqb n 0 h); change = unchanged (λ z. h (e ∙ z)) }
+module _ {ports : ℕ} {words : List ℕ} (from to : ℕ) (f : Frame) where
+  module _ (goes : pair_refusal ports (length words) from to f.id f.len ≡ 0) where
+    pub join_self : from ≡ to → PartJoining ports words words from to f (Ok false)
+    unfolding joined_model
+    join_self s = record { answer = answered goes (rw (eq-eqb from to s)); change = changed goes refl (rw (eq-eqb from to s)) (rw (eq-eqb from to s)) }
 
-  pub join_self : n ≡ 0 → from ≡ to → PartJoining ports words words from to f (record { refusal = 0; accepted = false })
-  unfolding join_answer joined_model
-  join_self z s = record { answer = rw (← e, z, eq-eqb from to s); change = changed (sym e ∙ z) refl (rw (eq-eqb from to s)) (rw (eq-eqb from to s)) }
-
-  pub joined : {after : List ℕ} {w : Bool} → n ≡ 0 → (from ≡ to → ⊥) → length after ≡ length words → Joining ports words after (from - 1) (to - 1) f w → PartJoining ports words after from to f (record { refusal = 0; accepted = w })
-  unfolding join_answer joined_model
-  joined z h long J = record { answer = rw (← e, z, ne_eqb from to h, J.answer); change = changed (sym e ∙ z) long (rw (ne_eqb from to h) J.state) (rw (ne_eqb from to h)) }
+    pub joined : {after : List ℕ} {w : Bool} → (from ≡ to → ⊥) → length after ≡ length words → Joining ports words after (from - 1) (to - 1) f w → PartJoining ports words after from to f (Ok w)
+    unfolding joined_model
+    joined h long J = record { answer = answered goes (rw (ne_eqb from to h, J.answer)); change = changed goes long (rw (ne_eqb from to h) J.state) (rw (ne_eqb from to h)) }
 
 -- ---- act
-module _ {ports : ℕ} {words : List ℕ} (port : ℕ) (consumed : Bool) (f : Frame) {n : ℕ} (e : n ≡ frame_refusal ports (length words) port f.id f.len) where
-  pub act_refused : (n ≡ 0 → ⊥) → PartActing ports words words port consumed f (record { refusal = n; event = Event.Nothing; sent = Sent.Nothing })
-  unfolding act_answer
-  act_refused h = record { answer = rw (← e, ne_eqb n 0 h); change = unchanged (λ z. h (e ∙ z)) }
-
-  pub acted : {after : List ℕ} {d : Done} → n ≡ 0 → length after ≡ length words → Acting ports words after (frame_acted (model_of ports words).rest port consumed f) d
-      → PartActing ports words after port consumed f (record { refusal = 0; event = d.event; sent = d.sent })
-  unfolding act_answer
-  acted z long A = record { answer = rw (← e, eq-eqb n 0 z, A.event, A.sent); change = changed (sym e ∙ z) long A.state (acted_ports (model_of ports words).rest port consumed f) }
+module _ {ports : ℕ} {words : List ℕ} (port : ℕ) (consumed : Bool) (f : Frame) where
+  pub acted : {after : List ℕ} {d : Done} → frame_refusal ports (length words) port f.id f.len ≡ 0 → length after ≡ length words → Acting ports words after (frame_acted (model_of ports words).rest port consumed f) d
+      → PartActing ports words after port consumed f (Ok d)
+  acted goes long A = record { answer = answered goes (rw (← A.event, ← A.sent)); change = changed goes long A.state (acted_ports (model_of ports words).rest port consumed f) }
 
 -- ---- announce
-module _ {ports : ℕ} {words : List ℕ} {s : Sent} where
-  pub announce_short : (length words ≡ record_length ports → ⊥) → PartAnnouncing ports words words s (record { refusal = 2; unsent = 0 })
-  unfolding announce_answer length_refusal
-  announce_short h = record { answer = rw (ne_eqb (length words) (record_length ports) h); change = unchanged (λ z. two (rw (ne_eqb (length words) (record_length ports) h) at z)) }
-    where
-      two : ◌≡◌ {A = ℕ} 2 0 → ⊥
-      two z = omega arith
+module _ {ports : ℕ} {words : List ℕ} {s : Option Frame} where
+  pub announce_short : (length words ≡ record_length ports → ⊥) → PartAnnouncing ports words words s (Err WrongLength)
+  unfolding length_refusal
+  announce_short h =
+      let e : 2 ≡ length_refusal ports (length words) = rw (ne_eqb (length words) (record_length ports) h) in
+      record { answer = turned_away WrongLength e; change = unchanged (no_zero WrongLength e) }
 
-  pub announced : {after : List ℕ} {u : ℕ} → length words ≡ record_length ports → length after ≡ length words → Announcing ports words after s u → PartAnnouncing ports words after s (record { refusal = 0; unsent = u })
-  unfolding announce_answer length_refusal announced_to
-  announced full long A = record {
-    answer = rw (eq-eqb (length words) (record_length ports) full, A.answer);
-    change = changed (rw (eq-eqb (length words) (record_length ports) full)) long A.state refl;
-  }
+  pub announced : {after : List ℕ} {u : ℕ} → length words ≡ record_length ports → length after ≡ length words → Announcing ports words after s u → PartAnnouncing ports words after s (Ok u)
+  unfolding length_refusal announced_to
+  announced full long A =
+      let goes : length_refusal ports (length words) ≡ 0 = rw (eq-eqb (length words) (record_length ports) full) in
+      record { answer = answered goes A.answer; change = changed goes long A.state refl }

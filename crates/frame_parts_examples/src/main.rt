@@ -2,12 +2,13 @@
 // other part by part, and after each the answers and every word of the two records are compared. So with two, four and eight ports. Then what each part refuses.
 #![tactic(auto)]
 
-ghost use Rattle.std.specs.Prelude.{◌≡◌, ◌<◌, ◌≤◌, length};
+ghost use Rattle.std.specs.Prelude.{◌<◌, ◌≤◌, length, IfSome};
 
 use bench_records::{FRAME_SIZE, TAKE_SIZE};
 use bridge::{FrameAnswer, Unit};
+use checks::Refusal;
+use filter::{Asked, Reason};
 use queue::Frame;
-use unit::Sent;
 
 // The most bytes that are read.
 const MOST: usize = 65536;
@@ -37,6 +38,14 @@ fn number(rt: &impl Print, n: u64) {
     let _ = print!(rt; "{n} ");
 }
 
+// The number of a refusal, 0 of none.
+fn refusal_number<T: Drop>(answer: Result<T, Refusal>) -> u32 {
+    match answer {
+        Ok(_) => 0,
+        Err(refusal) => refusal.number(),
+    }
+}
+
 // ---- the call of a frame, from its parts
 // What came of a frame at the ports from the eighth down: where it crossed and was accepted, a bit each, and the reasons, four bits each.
 #[derive(Drop)]
@@ -47,34 +56,20 @@ struct Crossings {
     compared: u32,
 }
 
-// 1 for true.
-fn flag(on: bool) -> u32 {
-    if on {
-        return 1;
-    }
-    0
-}
-
-// A frame joins where it crosses.
-fn join(words: &mut [u64], from: u32, to: u32, f: Frame, crosses: bool) -> bool {
-    if crosses {
-        let joined = frame_parts::join(words, from, to, f);
-        return joined.accepted;
-    }
-    false
-}
-
-// One port more, whose pair is asked. A part refuses a port that there isn't.
+// One port more, whose pair is asked. A part refuses a port that there isn't: no pair is asked there.
 fn cross(words: &mut [u64], from: u32, to: u32, f: Frame, c: Crossings) -> Crossings {
-    let asked = frame_parts::ask(words, from, to, f.id);
+    let asked = frame_parts::ask(words, from, to, f.id).unwrap_or(Asked {
+        reason: Reason::NotAsked,
+        compared: 0,
+    });
     let reason = asked.reason;
     let crosses = reason.crosses();
-    let accepted = join(words, from, to, f, crosses);
+    let accepted = crosses && frame_parts::join(words, from, to, f) == Ok(true);
     Crossings {
-        crossed: (c.crossed << 1) | flag(crosses),
-        accepted: (c.accepted << 1) | flag(accepted),
+        crossed: (c.crossed << 1) | u32::from(crosses),
+        accepted: (c.accepted << 1) | u32::from(accepted),
         reasons: (c.reasons << 4) | reason.number() as u64,
-        compared: std::num::wrapping_add_u32(c.compared, asked.compared),
+        compared: c.compared.wrapping_add(asked.compared),
     }
 }
 
@@ -86,52 +81,38 @@ fn cross_all(words: &mut [u64], from: u32, f: Frame, ports: u32) -> Crossings {
         reasons: 0,
         compared: 0,
     };
-    let mut to = ports;
-    while 0 < to {
+    for to in (1..=ports).rev() {
         c = cross(words, from, to, f, c);
-        to -= 1;
     }
     c
 }
 
-// A consumed frame crosses to no port.
-fn ports_of(consumed: bool) -> u32 {
-    if consumed {
-        return 0;
-    }
-    Unit::MOST_PORTS
-}
-
-// The answer's words; the refusal.
+// The answer's words; or the refusal.
 fn frame_by_parts(
     words: &mut [u64],
     port: u32,
     id: u32,
     bytes: &[u8],
     answer: &mut [u64; WORDS],
-) -> u32 {
-    let a = frame_parts::arrive(words, port, id, bytes);
-    if a.refusal != 0 {
-        return a.refusal;
-    }
+) -> Result<(), Refusal> {
+    let a = frame_parts::arrive(words, port, id, bytes)?;
     let f = a.frame;
-    let c = cross_all(words, port, f, ports_of(a.consumed));
-    let done = frame_parts::act(words, port, a.consumed, f);
-    let event = done.event;
-    let sent = done.sent;
-    let own = frame_parts::announce(words, sent);
+    // a consumed frame crosses to no port
+    let ports = if a.consumed { 0 } else { Unit::MOST_PORTS };
+    let c = cross_all(words, port, f, ports);
+    let done = frame_parts::act(words, port, a.consumed, f)?;
+    let unsent = frame_parts::announce(words, done.sent)?;
     let told = FrameAnswer {
-        refusal: 0,
         consumed: a.consumed,
         accepted: c.accepted,
         lost: c.crossed ^ c.accepted,
-        event,
-        unsent: own.unsent,
+        event: done.event,
+        unsent,
         compared: c.compared,
         reasons: c.reasons,
     };
     flat_answers::tell_frame(answer, told);
-    0
+    Ok(())
 }
 
 // The call itself.
@@ -141,47 +122,26 @@ fn frame_whole(
     id: u32,
     bytes: &[u8],
     answer: &mut [u64; WORDS],
-) -> u32 {
-    let a = bridge::frame(words, port, id, bytes);
+) -> Result<(), Refusal> {
+    let a = bridge::frame(words, port, id, bytes)?;
     flat_answers::tell_frame(answer, a);
-    a.refusal
+    Ok(())
 }
 
 // ---- both beside each other
-// Whether two records or answers are the same, word for word.
-fn same(a: &[u64], b: &[u64]) -> bool {
-    if a.len() != b.len() {
-        return false;
-    }
-    let mut i: usize = 0;
-    while i < a.len() {
-        if a[i] != b[i] {
-            return false;
-        }
-        i += 1;
-    }
-    true
-}
-
-fn same_answer(a: &[u64; WORDS], b: &[u64; WORDS]) -> bool {
-    same(a, b)
-}
-
 // One more where it is so.
 fn count(counts: &mut [u64; COUNTS], i: usize, so: bool)
     requires { i < 11 }
 {
     if so {
-        counts[i] = std::num::wrapping_add_u64(counts[i], 1);
+        counts[i] = counts[i].wrapping_add(1);
     }
 }
 
 // The words of an answer.
 fn count_words(counts: &mut [u64; COUNTS], answer: &[u64; WORDS]) {
-    let mut i: usize = 0;
-    while i < WORDS {
-        count(counts, i, answer[i] != 0);
-        i += 1;
+    for (i, word) in answer.iter().enumerate() {
+        count(counts, i, *word != 0);
     }
 }
 
@@ -196,9 +156,9 @@ fn play(
 ) {
     let mut answer = [0u64; WORDS];
     let mut other = [0u64; WORDS];
-    let refusal = frame_whole(whole, port, id, bytes, &mut answer);
-    let refused = frame_by_parts(parts, port, id, bytes, &mut other);
-    let is_same = refusal == refused && same_answer(&answer, &other) && same(whole, parts);
+    let refusal = refusal_number(frame_whole(whole, port, id, bytes, &mut answer));
+    let refused = refusal_number(frame_by_parts(parts, port, id, bytes, &mut other));
+    let is_same = refusal == refused && answer == other && &*whole == &*parts;
     count_words(counts, &answer);
     count(counts, 8, true);
     count(counts, 9, refusal != 0);
@@ -215,34 +175,37 @@ fn end_of(len: u8) -> usize
     7 + len as usize
 }
 
-// The record at the front of a log on both units; its size, or 0 where the log ends. A take follows the last frame.
-fn step(whole: &mut [u64], parts: &mut [u64], log: &[u8], counts: &mut [u64; COUNTS]) -> usize
-    ensures { result ≤ length log.now }
+// The record at the front of a log on both units: its size, none where the log ends. A take follows the last frame.
+fn step(
+    whole: &mut [u64],
+    parts: &mut [u64],
+    log: &[u8],
+    counts: &mut [u64; COUNTS],
+) -> Option<usize>
+    ensures { IfSome result (λ n. (0 < n) × (n ≤ length log.now)) }
 {
     if log.len() < TAKE_SIZE {
-        return 0;
+        return None;
     }
-    let port = bench_records::wide(log[1]);
+    let port = u32::from(log[1]);
     if log[0] == 2 {
-        bridge::take(whole, port);
-        bridge::take(parts, port);
-        return TAKE_SIZE;
+        let _ = bridge::take(whole, port);
+        let _ = bridge::take(parts, port);
+        return Some(TAKE_SIZE);
     }
     if log.len() <= FRAME_SIZE {
-        return 0;
+        return None;
     }
     let id = bench_records::id_of(log);
     let end = end_of(log[6]);
     play(whole, parts, port, id, &log[7..end], counts);
-    FRAME_SIZE
+    Some(FRAME_SIZE)
 }
 
 fn play_all(whole: &mut [u64], parts: &mut [u64], log: &[u8], counts: &mut [u64; COUNTS]) {
-    let mut used: usize = 0;
-    let mut size: usize = 1;
-    while 0 < size {
-        size = step(whole, parts, &log[used..], counts);
-        used += size;
+    let mut rest = log;
+    'records: while let Some(size) = step(whole, parts, rest, counts) {
+        rest = &rest[size..];
     }
 }
 
@@ -261,19 +224,17 @@ fn create_lists(words: &mut [u64]) {
 
 // Power-on, Start, Quiet, and lists.
 fn key_on(words: &mut [u64], ports: u32) {
-    Unit::power_on_ports(words, NAME, ADDRESS, ports);
-    bridge::start(words);
-    bridge::quiet(words);
+    let _ = Unit::power_on_ports(words, NAME, ADDRESS, ports);
+    let _ = bridge::start(words);
+    let _ = bridge::quiet(words);
     create_lists(words);
 }
 
 // A line: the number of ports, and what is counted.
 fn print_counts(rt: &impl Print, counts: &[u64; COUNTS], ports: u32) {
     number(rt, ports as u64);
-    let mut i: usize = 0;
-    while i < COUNTS {
-        number(rt, counts[i]);
-        i += 1;
+    for n in counts {
+        number(rt, *n);
     }
     text(rt, b"\n");
 }
@@ -292,11 +253,7 @@ fn record_length(ports: u32) -> usize
     requires { (2 ≤ ports) × (ports ≤ 8) }
     ensures { result ≤ 6266 }
 {
-    let length = Unit::record_length(ports as usize);
-    if MOST_WORDS < length {
-        return MOST_WORDS;
-    }
-    length
+    Unit::record_length(ports as usize).min(MOST_WORDS)
 }
 
 fn with_ports(rt: &impl Print, log: &[u8], ports: u32)
@@ -312,31 +269,39 @@ fn with_ports(rt: &impl Print, log: &[u8], ports: u32)
 // Calls in rows: the port, the other port, the identifier, the length.
 const ROW: usize = 7;
 
-const ROWS: [u8; 56] =
-    *b"\x01\x02\x0C\xF0\x04\x27\x08\x02\x02\x0C\xF0\x04\x27\x08\x00\x02\x20\xF0\x04\xFF\x09\x01\x05\x20\xF0\x04\xFF\x09\x01\x02\x20\xF0\x04\xFF\x09\x01\x02\x0C\xF0\x04\xFF\x09\x01\x02\x0C\xF0\x04\xFF\x08\x01\x02\x0C\xF0\x04\xFE\x08";
+const ROWS: [[u8; ROW]; 8] = [
+    *b"\x01\x02\x0C\xF0\x04\x27\x08",
+    *b"\x02\x02\x0C\xF0\x04\x27\x08",
+    *b"\x00\x02\x20\xF0\x04\xFF\x09",
+    *b"\x01\x05\x20\xF0\x04\xFF\x09",
+    *b"\x01\x02\x20\xF0\x04\xFF\x09",
+    *b"\x01\x02\x0C\xF0\x04\xFF\x09",
+    *b"\x01\x02\x0C\xF0\x04\xFF\x08",
+    *b"\x01\x02\x0C\xF0\x04\xFE\x08",
+];
 
 // What the parts give that are about a pair.
 fn pair_numbers(rt: &impl Print, words: &mut [u64], from: u32, to: u32, f: Frame) {
     let asked = frame_parts::ask(words, from, to, f.id);
-    number(rt, asked.refusal as u64);
+    number(rt, refusal_number(asked) as u64);
     let joined = frame_parts::join(words, from, to, f);
-    number(rt, joined.refusal as u64);
+    number(rt, refusal_number(joined) as u64);
 }
 
 // What the others give that change the record.
 fn act_numbers(rt: &impl Print, words: &mut [u64], from: u32, f: Frame) {
     let acted = frame_parts::act(words, from, false, f);
-    number(rt, acted.refusal as u64);
-    let own = frame_parts::announce(words, Sent::Nothing);
-    number(rt, own.refusal as u64);
+    number(rt, refusal_number(acted) as u64);
+    let own = frame_parts::announce(words, None);
+    number(rt, refusal_number(own) as u64);
 }
 
 // What the first part gives, and the whole call.
 fn frame_numbers(rt: &impl Print, words: &mut [u64], from: u32, id: u32, bytes: &[u8]) {
     let arrived = frame_parts::arrive(words, from, id, bytes);
-    number(rt, arrived.refusal as u64);
+    number(rt, refusal_number(arrived) as u64);
     let whole = bridge::frame(words, from, id, bytes);
-    number(rt, whole.refusal as u64);
+    number(rt, refusal_number(whole) as u64);
 }
 
 // A row's ports, identifier and length.
@@ -357,26 +322,20 @@ fn refuse_frame(rt: &impl Print, words: &mut [u64], from: u32, to: u32, f: Frame
 }
 
 // A row on a record.
-fn refuse(rt: &impl Print, words: &mut [u64], row: &[u8])
-    requires { length row.now ≡ 7 }
-{
+fn refuse(rt: &impl Print, words: &mut [u64], row: [u8; ROW]) {
     let bytes = [0u8; 9];
-    let len = bench_records::wide(row[6]) % 10;
+    let len = u32::from(row[6]) % 10;
     let n = len as usize;
-    let id = bench_records::id_of(row);
+    let id = bench_records::id_of(&row);
     let f = Frame { id, len, bytes: 0 };
-    let from = bench_records::wide(row[0]);
-    let to = bench_records::wide(row[1]);
-    refuse_frame(rt, words, from, to, f, &bytes[0..n]);
+    let from = u32::from(row[0]);
+    let to = u32::from(row[1]);
+    refuse_frame(rt, words, from, to, f, &bytes[..n]);
 }
 
 fn refuse_all(rt: &impl Print, words: &mut [u64]) {
-    let mut i: usize = 0;
-    while i < 8 {
-        let at = ROW * i;
-        let end = at + ROW;
-        refuse(rt, words, &ROWS[at..end]);
-        i += 1;
+    for row in ROWS {
+        refuse(rt, words, row);
     }
 }
 

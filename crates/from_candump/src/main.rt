@@ -3,14 +3,18 @@
 // with --bitrate 250000 behind it, takes stand where buses of that rate would send.
 #![tactic(auto)]
 
+mod buffer;
 mod buses;
 
-ghost use Rattle.std.specs.Prelude.{◌≡◌, ◌+◌, ◌<◌, ◌≤◌, length};
+ghost use Rattle.std.specs.Prelude.{◌≤◌, length, IfSome};
 
+use bench_io::Pieces;
+use bench_records::FRAME_SIZE;
+use buffer::Buffer;
+use buses::Buses;
+use candump_log::Reason;
 use line_parts::arguments;
 use std::env::Env;
-use std::io::Read;
-use std::num::wrapping_add_u64;
 
 // The bytes that are kept of a line: more than any line has that is a frame's. A longer one is cut, and has no line feed then.
 const LINE: usize = 256;
@@ -24,484 +28,216 @@ const BLOCK: usize = 4096;
 // The bytes of records that are kept at a time.
 const RECORDS: usize = 65536;
 
-// What the arguments ask for, if it is known: a map of so many bytes, which is empty for the strict form, and a bit rate, 0 for no takes.
+// What lines are passed over for, in the order of the reasons.
+const REASONS: usize = 6;
+
+const WORDS: [&[u8]; REASONS] = [
+    b"passed over, interface not in the map: ",
+    b"passed over, 11-bit identifier: ",
+    b"passed over, remote frame: ",
+    b"passed over, CAN FD frame: ",
+    b"passed over, error frame: ",
+    b"passed over, no line of candump's: ",
+];
+
+// What the arguments ask for: a map, which is empty for the strict form, and a bit rate for takes.
 #[derive(Drop)]
 struct Arguments {
-    known: bool,
-    length: usize,
-    rate: u64,
+    map: Buffer<BLOCK>,
+    rate: Option<u64>,
 }
 
-// What bytes of text came to: how far the line is that has begun, the bytes of records that are to be written, the lines passed, whether all could be written.
-#[derive(Clone, Copy)]
-struct Fed {
-    len: usize,
-    written: usize,
-    place: u64,
-    more: bool,
-}
-
-// How far the text is: the line that has begun, the lines passed, whether it goes on.
+// The text as far as it is turned.
 #[derive(Drop)]
-struct Turn {
-    len: usize,
-    place: u64,
-    more: bool,
+struct Text<'a, R: Print + Eprint> {
+    rt: &'a R,
+    map: &'a [u8],
+    buses: Buses,
+    // the line that has begun, and the lines before it
+    line: Buffer<LINE>,
+    passed: u64,
+    // the records that are to be written, and whether some could not be
+    records: Buffer<RECORDS>,
+    failed: bool,
+    // the lines of a real bus that were turned, and those passed over by their reasons
+    turned: u64,
+    passed_over: [u64; REASONS],
 }
 
-// One more line that is passed over, by the reason, or that is turned, by none.
-fn count(words: &mut [u64], reason: usize) {
-    let n = buses::get(words, reason);
-    buses::set(words, reason, wrapping_add_u64(n, 1));
-}
-
-// Bytes put into a buffer, as far as it has room; the answer is how many.
-fn put_bytes(out: &mut [u8], bytes: &[u8]) -> usize
-    ensures { result ≤ length out.old }
-{
-    let mut i = 0;
-    while i < out.len() && i < bytes.len() {
-        out[i] = bytes[i];
-        i += 1;
-    }
-    i
-}
-
-// A frame's record, behind the takes that come before it.
-fn put_frame(line: &[u8], record: &[u8], words: &mut [u64], out: &mut [u8], written: usize) -> usize
-    requires { written ≤ length out.old }
-    ensures { result ≤ length out.old }
-{
-    count(words, 0);
-    let port = port_of(record);
-    let time = buses::time_of(line);
-    let next = buses::before(words, port, time, out, written);
-    buses::arrive(words, port, time);
-    next + put_bytes(&mut out[next..], record)
-}
-
-// The port of a record.
-fn port_of(record: &[u8]) -> usize {
-    if record.len() < 2 {
-        return 0;
-    }
-    bench_records::wide(record[1]) as usize
-}
-
-// A line as `candump -l` writes it; the answer is where the records then end. What is passed over is counted.
-fn turn_mapped(map: &[u8], line: &[u8], words: &mut [u64], out: &mut [u8], written: usize) -> usize
-    requires { written ≤ length out.old }
-    ensures { result ≤ length out.old }
-{
+// The record of a line as `candump -l` writes it, or why it is passed over.
+fn mapped_record(map: &[u8], line: &[u8]) -> Result<[u8; FRAME_SIZE], Reason> {
     let mut space = [0u8; candump_log::ROOM];
-    let strict: &mut [u8] = &mut space;
-    let made = candump_log::rewrite(map, line, strict);
-    if made.reason != 0 {
-        count(words, made.reason);
-        return written;
-    }
-    let end = made.length;
-    let text = &strict[..];
-    let mut bytes = [0u8; bench_records::FRAME_SIZE];
-    let record: &mut [u8] = &mut bytes;
-    let number = bench_records::to_record(&text[0..end], record);
-    if number != 0 {
-        count(words, candump_log::reason(&text[0..end]));
-        return written;
-    }
-    put_frame(line, &record[..], words, out, written)
-}
-
-// A line of the strict form. A refusal is told.
-fn turn_strict(rt: &impl Eprint, line: &[u8], place: u64, out: &mut [u8], written: usize) -> usize
-    requires { written ≤ length out.old }
-    ensures { result ≤ length out.old }
-{
-    let mut bytes = [0u8; bench_records::FRAME_SIZE];
-    let record: &mut [u8] = &mut bytes;
-    let number = bench_records::to_record(line, record);
-    if number != 0 {
-        bench_io::tell_refused(rt, place, number);
-        return written;
-    }
-    written + put_bytes(&mut out[written..], &record[..])
-}
-
-// A line that has ended, as records behind those that are to be written.
-fn end_line(
-    rt: &impl Eprint,
-    map: &[u8],
-    line: &[u8],
-    words: &mut [u64],
-    out: &mut [u8],
-    written: usize,
-    place: u64,
-) -> usize
-    requires { written ≤ length out.old }
-    ensures { result ≤ length out.old }
-{
-    if 0 < map.len() {
-        return turn_mapped(map, line, words, out, written);
-    }
-    turn_strict(rt, line, place, out, written)
-}
-
-// A byte at the end of the line that has begun, where there is room.
-fn put_byte(line: &mut [u8], len: usize, byte: u8) -> usize
-    requires { len ≤ length line.old }
-    ensures { result ≤ length line.old }
-{
-    if len < line.len() {
-        line[len] = byte;
-        return len + 1;
-    }
-    len
-}
-
-// Records are written where another line might not have room behind them.
-fn make_room(rt: &(impl Print + Eprint), out: &[u8], fed: Fed) -> Fed
-    requires { fed.written ≤ length out.now }
-    ensures { (result.len ≡ fed.len) × (result.written ≤ length out.now) }
-{
-    let written = fed.written;
-    if ROOM <= out.len() - written {
-        return fed;
-    }
-    let is_written = bench_io::write(rt, &out[0..written]);
-    Fed {
-        len: fed.len,
-        written: 0,
-        place: fed.place,
-        more: fed.more && is_written,
+    let end = candump_log::rewrite(map, line, &mut space)?;
+    let strict = &space[..end];
+    let mut record = [0u8; FRAME_SIZE];
+    match bench_records::to_record(strict, &mut record) {
+        Ok(()) => Ok(record),
+        Err(_) => Err(candump_log::why_no_frame(strict)),
     }
 }
 
-// One byte of text: the line goes on, or is whole.
-fn feed_byte(
-    rt: &(impl Print + Eprint),
-    map: &[u8],
-    line: &mut [u8],
-    words: &mut [u64],
-    out: &mut [u8],
-    fed: Fed,
-    byte: u8,
-) -> Fed
-    requires { (fed.len ≤ length line.old) × (fed.written ≤ length out.old) }
-    ensures { (result.len ≤ length line.old) × (result.written ≤ length out.old) }
-{
-    let len = put_byte(line, fed.len, byte);
-    if byte != b'\n' {
-        return Fed {
-            len,
-            written: fed.written,
-            place: fed.place,
-            more: fed.more,
-        };
-    }
-    let roomy = make_room(rt, out, fed);
-    let written = roomy.written;
-    let place = wrapping_add_u64(fed.place, 1);
-    let next = end_line(rt, map, &line[0..len], words, out, written, place);
-    Fed {
-        len: 0,
-        written: next,
-        place,
-        more: roomy.more,
-    }
-}
-
-// Bytes of text: each line that ends in them is turned.
-fn feed(
-    rt: &(impl Print + Eprint),
-    map: &[u8],
-    text: &[u8],
-    line: &mut [u8],
-    words: &mut [u64],
-    out: &mut [u8],
-    begun: usize,
-    passed: u64,
-) -> Fed
-    requires { begun ≤ length line.old }
-    ensures { (result.len ≤ length line.old) × (result.written ≤ length out.old) }
-{
-    let mut fed = Fed {
-        len: begun,
-        written: 0,
-        place: passed,
-        more: true,
-    };
-    let mut i = 0;
-    while i < text.len() {
-        fed = feed_byte(rt, map, line, words, out, fed, text[i]);
-        i += 1;
-    }
-    fed
-}
-
-// A last line that has no line feed: as `candump -l` writes it, it is a frame all the same, and in the strict form none.
-fn last_line(
-    rt: &impl Eprint,
-    map: &[u8],
-    line: &mut [u8],
-    words: &mut [u64],
-    out: &mut [u8],
-    begun: usize,
-    passed: u64,
-) -> usize
-    requires { begun ≤ length line.old }
-    ensures { result ≤ length out.old }
-{
-    if begun == 0 {
-        return 0;
-    }
-    let place = wrapping_add_u64(passed, 1);
-    if map.len() == 0 {
-        return end_line(rt, map, &line[0..begun], words, out, 0, place);
-    }
-    let len = put_byte(line, begun, b'\n');
-    end_line(rt, map, &line[0..len], words, out, 0, place)
-}
-
-// The end of the text: a last line without its line feed, and the takes of what waits then.
-fn end_text(
-    rt: &(impl Print + Eprint),
-    map: &[u8],
-    line: &mut [u8],
-    words: &mut [u64],
-    out: &mut [u8],
-    begun: usize,
-    passed: u64,
-)
-    requires { begun ≤ length line.old }
-{
-    let written = last_line(rt, map, line, words, out, begun, passed);
-    let is_written = bench_io::write(rt, &out[0..written]);
-    if is_written {
-        let drained = buses::drain(words, out);
-        bench_io::write(rt, &out[0..drained]);
-    }
-}
-
-// Bytes of text that were read: its records are written, and it goes on if that could be done.
-fn pass(
-    rt: &(impl Print + Eprint),
-    map: &[u8],
-    text: &[u8],
-    line: &mut [u8],
-    words: &mut [u64],
-    out: &mut [u8],
-    begun: usize,
-    passed: u64,
-) -> Turn
-    requires { begun ≤ length line.old }
-    ensures { result.len ≤ length line.old }
-{
-    let fed = feed(rt, map, text, line, words, out, begun, passed);
-    let written = fed.written;
-    let is_written = bench_io::write(rt, &out[0..written]);
-    Turn {
-        len: fed.len,
-        place: fed.place,
-        more: fed.more && is_written,
-    }
-}
-
-// One read of the text.
-fn read_some(
-    rt: &(impl Print + Eprint),
-    input: &mut impl Read,
-    map: &[u8],
-    block: &mut [u8],
-    line: &mut [u8],
-    words: &mut [u64],
-    out: &mut [u8],
-    begun: usize,
-    passed: u64,
-) -> Turn
-    requires { begun ≤ length line.old }
-    ensures { result.len ≤ length line.old }
-{
-    let filled = bench_io::refill(rt, input, block, 0);
-    let end = filled.end;
-    if filled.failed {
-        return Turn {
-            len: 0,
-            place: passed,
-            more: false,
-        };
-    }
-    if filled.last {
-        end_text(rt, map, line, words, out, begun, passed);
-        return Turn {
-            len: 0,
-            place: passed,
-            more: false,
-        };
-    }
-    pass(rt, map, &block[0..end], line, words, out, begun, passed)
-}
-
-// The whole text. A proved loop has to end, and nothing says that the input does: so the turns are counted, from a number that no run uses up.
-fn read_all(
-    rt: &(impl Print + Eprint),
-    input: &mut impl Read,
-    map: &[u8],
-    block: &mut [u8],
-    line: &mut [u8],
-    words: &mut [u64],
-    out: &mut [u8],
-) {
-    let mut len = 0;
-    let mut place: u64 = 0;
-    let mut more = true;
-    let mut turns = u64::MAX;
-    while 0 < turns && more {
-        let turn = read_some(rt, input, map, block, line, words, out, len, place);
-        len = turn.len;
-        place = turn.place;
-        more = turn.more;
-        turns -= 1;
-    }
-}
-
-// The lines passed over for a reason, told if there are some.
-fn tell_count(err: &impl Print, words: &[u64], reason: usize, text: &[u8]) -> u64 {
-    let n = buses::get(words, reason);
-    if 0 < n {
-        bench_io::tell(err, text, n);
-    }
-    n
-}
-
-// What was passed over; the answer is not 0 if something was.
-fn tell_counts(err: &impl Print, words: &[u64]) -> u64 {
-    let a = tell_count(
-        err,
-        words,
-        candump_log::NOT_MAPPED,
-        b"passed over, interface not in the map: ",
-    );
-    let b = tell_count(
-        err,
-        words,
-        candump_log::ELEVEN_BITS,
-        b"passed over, 11-bit identifier: ",
-    );
-    let c = tell_count(
-        err,
-        words,
-        candump_log::REMOTE,
-        b"passed over, remote frame: ",
-    );
-    let d = tell_count(
-        err,
-        words,
-        candump_log::FLEXIBLE,
-        b"passed over, CAN FD frame: ",
-    );
-    let e = tell_count(
-        err,
-        words,
-        candump_log::ERROR,
-        b"passed over, error frame: ",
-    );
-    let f = tell_count(
-        err,
-        words,
-        candump_log::NO_LINE,
-        b"passed over, no line of candump's: ",
-    );
-    wrapping_add_u64(
-        wrapping_add_u64(wrapping_add_u64(a, b), wrapping_add_u64(c, d)),
-        wrapping_add_u64(e, f),
-    )
-}
-
-// What became of the lines; that none was turned, where there were some.
-fn tell_end(err: &impl Print, words: &[u64]) {
-    let over = tell_counts(err, words);
-    if 0 < over && buses::get(words, 0) == 0 {
-        bench_io::tell(err, b"nothing was turned, of lines: ", over);
-    }
-}
-
-// The text by a map, which is empty for the strict form, and a bit rate.
-fn turn_text(rt: HostRuntime, map: &[u8], rate: u64) {
-    let mut space = [0u8; BLOCK];
-    let block: &mut [u8] = &mut space;
-    let mut begun = [0u8; LINE];
-    let line: &mut [u8] = &mut begun;
-    let mut state = [0u64; buses::WORDS];
-    let words: &mut [u64] = &mut state;
-    buses::begin(words, rate);
-    let mut records = [0u8; RECORDS];
-    let out: &mut [u8] = &mut records;
-    read_all(&rt, &mut rt.stdin(), map, block, line, words, out);
-    tell_end(&rt.stderr(), words);
-}
-
-// Whether two words are the same.
-fn is_word(word: &[u8], other: &[u8]) -> bool {
-    if word.len() != other.len() {
-        return false;
-    }
-    let mut i = 0;
-    while i < word.len() && i < other.len() {
-        if word[i] != other[i] {
-            return false;
+impl<R: Print + Eprint> Text<'_, R> {
+    // The records that are there, written.
+    fn flush(&mut self) {
+        if !bench_io::write(self.rt, self.records.as_slice()) {
+            self.failed = true;
         }
-        i += 1;
+        self.records.clear();
     }
-    true
+
+    // A line as `candump -l` writes it: a frame's record stands behind the takes that come before it. What is passed over is counted.
+    fn turn_mapped(&mut self) {
+        match mapped_record(self.map, self.line.as_slice()) {
+            Ok(record) => {
+                self.turned = self.turned.wrapping_add(1);
+                let time = buses::time_of(self.line.as_slice());
+                self.buses.before(record[1], time, &mut self.records);
+                self.buses.arrive(record[1], time);
+                self.records.push(&record);
+            }
+            Err(reason) => {
+                let count = &mut self.passed_over[reason as usize];
+                *count = count.wrapping_add(1);
+            }
+        }
+    }
+
+    // A line of the strict form. A refusal is told.
+    fn turn_strict(&mut self) {
+        let mut record = [0u8; FRAME_SIZE];
+        match bench_records::to_record(self.line.as_slice(), &mut record) {
+            Ok(()) => self.records.push(&record),
+            Err(refusal) => bench_io::tell_refused(self.rt, self.passed, refusal.number()),
+        }
+    }
+
+    // A line that has ended, as records behind those that are to be written.
+    fn end_line(&mut self) {
+        self.passed = self.passed.wrapping_add(1);
+        if self.map.is_empty() {
+            self.turn_strict();
+        } else {
+            self.turn_mapped();
+        }
+        self.line.clear();
+    }
+
+    // One byte of text: the line goes on, or is whole. Records are written where a line might not have room behind them.
+    fn feed(&mut self, byte: u8) {
+        self.line.push(&[byte]);
+        if byte == b'\n' {
+            if self.records.room() < ROOM {
+                self.flush();
+            }
+            self.end_line();
+        }
+    }
+
+    // The end of the text: a last line without its line feed, which as `candump -l` writes it is a frame all the same, and in the strict form none; and the takes of what
+    // waits then.
+    fn end_text(&mut self) {
+        if !self.line.is_empty() {
+            if !self.map.is_empty() {
+                self.line.push(b"\n");
+            }
+            self.end_line();
+        }
+        self.flush();
+        if !self.failed {
+            self.buses.drain(&mut self.records);
+            self.flush();
+        }
+    }
+
+    // What became of the lines: what was passed over, and that none was turned, where there were some.
+    fn tell_end(&self, err: &impl Print) {
+        let mut over: u64 = 0;
+        for (count, words) in self.passed_over.iter().zip(WORDS) {
+            if 0 < *count {
+                bench_io::tell(err, words, *count);
+            }
+            over = over.wrapping_add(*count);
+        }
+        if 0 < over && self.turned == 0 {
+            bench_io::tell(err, b"nothing was turned, of lines: ", over);
+        }
+    }
 }
 
-// The bit rate behind a map, if there is one: a number that is not 0.
-fn read_rate(rt: &impl Env, buffer: &mut [u8]) -> u64 {
+impl<R: Print + Eprint> Pieces for Text<'_, R> {
+    fn take(&mut self, piece: &[u8], last: bool) -> Option<usize> {
+        if last {
+            self.end_text();
+            return None;
+        }
+        for byte in piece {
+            self.feed(*byte);
+        }
+        self.flush();
+        if self.failed {
+            return None;
+        }
+        Some(piece.len())
+    }
+}
+
+// An argument, which is empty where there is none or it is longer.
+fn argument(rt: &impl Env, place: usize) -> Buffer<BLOCK> {
+    let mut bytes = [0u8; BLOCK];
+    let len = arguments::put(rt, place, &mut bytes);
+    Buffer { bytes, len }
+}
+
+// The bit rate behind a map: a number that is not 0.
+fn read_rate(rt: &impl Env) -> Option<u64> {
     if !arguments::is_given(rt, 4) || arguments::is_given(rt, 5) {
-        return 0;
+        return None;
     }
-    let k = arguments::put(rt, 3, buffer);
-    if !is_word(&buffer[0..k], b"--bitrate") {
-        return 0;
+    if argument(rt, 3).as_slice() != b"--bitrate".as_slice() {
+        return None;
     }
-    let k = arguments::put(rt, 4, buffer);
-    buses::number(&buffer[0..k])
+    let rate = buses::number(argument(rt, 4).as_slice());
+    if rate == 0 { None } else { Some(rate) }
 }
 
-// A map is put into the buffer.
-fn read_arguments(rt: &impl Env, buffer: &mut [u8]) -> Arguments
-    ensures { result.length ≤ length buffer.old }
-{
+// None where the arguments ask for nothing that is known.
+fn read_arguments(rt: &impl Env) -> Option<Arguments> {
     if !arguments::is_given(rt, 1) {
-        return Arguments {
-            known: true,
-            length: 0,
-            rate: 0,
-        };
+        return Some(Arguments {
+            map: Buffer::new(),
+            rate: None,
+        });
     }
-    let rate = read_rate(rt, buffer);
-    let k = arguments::put(rt, 1, buffer);
-    let is_map = is_word(&buffer[0..k], b"--map");
-    let length = arguments::put(rt, 2, buffer);
-    let known = is_map && candump_log::is_map(&buffer[0..length]);
-    Arguments {
-        known: known && (!arguments::is_given(rt, 3) || 0 < rate),
-        length,
-        rate,
+    let map = argument(rt, 2);
+    if argument(rt, 1).as_slice() != b"--map".as_slice() || !candump_log::is_map(map.as_slice()) {
+        return None;
     }
+    if !arguments::is_given(rt, 3) {
+        return Some(Arguments { map, rate: None });
+    }
+    let rate = Some(read_rate(rt)?);
+    Some(Arguments { map, rate })
 }
 
 fn main(rt: HostRuntime) {
-    let mut space = [0u8; BLOCK];
-    let buffer: &mut [u8] = &mut space;
-    let asked = read_arguments(&rt, buffer);
-    let end = asked.length;
-    if asked.known {
-        let map = &buffer[..];
-        turn_text(rt, &map[0..end], asked.rate);
-    } else {
+    let Some(asked) = read_arguments(&rt) else {
         let _ = rt.eprintln(
             "arguments: none, or --map INTERFACE=PORT,INTERFACE=PORT.. with ports 1 to 4, and behind it --bitrate RATE",
         );
-    }
+        return;
+    };
+    let mut text = Text {
+        rt: &rt,
+        map: asked.map.as_slice(),
+        buses: Buses::new(asked.rate),
+        line: Buffer::new(),
+        passed: 0,
+        records: Buffer::new(),
+        failed: false,
+        turned: 0,
+        passed_over: [0u64; REASONS],
+    };
+    let mut block = [0u8; BLOCK];
+    bench_io::read_pieces(&rt, &mut rt.stdin(), &mut block, &mut text);
+    text.tell_end(&rt.stderr());
 }

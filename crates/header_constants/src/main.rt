@@ -2,12 +2,10 @@
 // refusals are those of calls that are refused so, the words of an answer are told by where the code writes a value.
 #![tactic(auto)]
 
-ghost use Rattle.std.specs.Prelude.{◌≤◌, length};
-
 use address_claims::Event;
 use bridge::FrameAnswer;
 use filter::Reason;
-use queue::{Frame, Taken, Tally};
+use queue::{Frame, Tally};
 use unit::{Claim, Unit};
 
 // The most bytes that are read.
@@ -16,73 +14,45 @@ const MOST: usize = 65536;
 // What stands for a number.
 const MARK: u8 = b'@';
 
-// Where the next mark stands, or the end.
-fn marked(text: &[u8], from: usize) -> usize
-    requires { from ≤ length text.now }
-    ensures { (from ≤ result) × (result ≤ length text.now) }
-{
-    let mut at = from;
-    while at < text.len() {
-        if text[at] == MARK {
-            return at;
-        }
-        at += 1;
-    }
-    at
-}
-
-// The text up to the next mark, and a number in its place: where the text goes on.
-fn next(rt: &impl Print, text: &[u8], from: usize, number: u64) -> usize
-    requires { from ≤ length text.now }
-    ensures { result ≤ length text.now }
-{
-    let at = marked(text, from);
-    let _ = rt.write_all(&text[from..at]);
-    if at < text.len() {
-        let _ = rt.print(number);
-        return at + 1;
-    }
-    at
-}
-
-// The same with one number after the other.
-fn all(rt: &impl Print, text: &[u8], from: usize, numbers: &[u64]) -> usize
-    requires { from ≤ length text.now }
-    ensures { result ≤ length text.now }
-{
-    let mut at = from;
-    let mut i: usize = 0;
-    while i < numbers.len() {
-        at = next(rt, text, at, numbers[i]);
-        i += 1;
-    }
-    at
-}
-
 // Where a value stands in an answer.
 fn place_of(answer: &[u64], value: u64) -> u64 {
-    let mut i: usize = 0;
-    while i < answer.len() {
-        if answer[i] == value {
-            return i as u64;
-        }
-        i += 1;
-    }
-    answer.len() as u64
+    let place = answer.iter().position(|word| *word == value);
+    place.unwrap_or(answer.len()) as u64
 }
 
-// The same with the places of values in an answer.
-fn places(rt: &impl Print, text: &[u8], from: usize, answer: &[u64], values: &[u64]) -> usize
-    requires { from ≤ length text.now }
-    ensures { result ≤ length text.now }
-{
-    let mut at = from;
-    let mut i: usize = 0;
-    while i < values.len() {
-        at = next(rt, text, at, place_of(answer, values[i]));
-        i += 1;
+// The header, and the rest of its text, which is not written yet.
+#[derive(Drop)]
+struct Header<'a, R: Print> {
+    rt: &'a R,
+    rest: &'a [u8],
+}
+
+impl<R: Print> Header<'_, R> {
+    // The text up to the next mark, and a number in its place.
+    fn put(&mut self, number: u64) {
+        let mark = self.rest.iter().position(|c| *c == MARK);
+        let (text, rest) = self.rest.split_at(mark.unwrap_or(self.rest.len()));
+        let _ = self.rt.write_all(text);
+        self.rest = rest;
+        if let Some((_, rest)) = rest.split_first() {
+            let _ = self.rt.print(number);
+            self.rest = rest;
+        }
     }
-    at
+
+    // The same with one number after the other.
+    fn put_all(&mut self, numbers: &[u64]) {
+        for number in numbers {
+            self.put(*number);
+        }
+    }
+
+    // The same with the places of values in an answer.
+    fn put_places(&mut self, answer: &[u64], values: &[u64]) {
+        for value in values {
+            self.put(place_of(answer, *value));
+        }
+    }
 }
 
 // ---- the numbers of refusals, each by a call that is refused so
@@ -138,8 +108,8 @@ fn tool(words: &mut [u64], payload: &[u8]) -> u64 {
 }
 
 // NOT_CLAIMED, of an Unstarted unit.
-fn early_number(words: &mut [u64]) -> [u64; 1] {
-    [tool(words, b"\x00\x12\xFF\xFF\xFF\xFF\xFF\xFF")]
+fn early_number(words: &mut [u64]) -> u64 {
+    tool(words, b"\x00\x12\xFF\xFF\xFF\xFF\xFF\xFF")
 }
 
 // WRONG_PAYLOAD, WRONG_ADDRESS, WRONG_FUNCTION.
@@ -209,11 +179,6 @@ fn pgns(words: &mut [u64]) -> [u64; 2] {
     ]
 }
 
-// VERSION, as the library tells it.
-fn version() -> [u64; 1] {
-    [deorasaeng::deorasaeng_version()]
-}
-
 // The number that a plan of one segment is given, by the segment on two ports of its unit.
 fn plan_number(segment: u64) -> u64 {
     let mut answer = [0u64; deorasaeng::PLAN_WORDS];
@@ -230,24 +195,19 @@ fn plan_numbers() -> [u64; 2] {
 }
 
 // VERSION, and the numbers of an Unstarted unit.
-fn early_numbers(rt: &impl Print, text: &[u8], words: &mut [u64]) -> usize
-    ensures { result ≤ length text.now }
-{
-    let mut at = all(rt, text, 0, &version());
-    at = all(rt, text, at, &call_numbers(words));
-    at = all(rt, text, at, &frame_numbers(words));
-    all(rt, text, at, &early_number(words))
+fn early_numbers(header: &mut Header<impl Print>, words: &mut [u64]) {
+    header.put(deorasaeng::deorasaeng_version());
+    header.put_all(&call_numbers(words));
+    header.put_all(&frame_numbers(words));
+    header.put(early_number(words));
 }
 
 // The numbers of a Claimed one.
-fn claimed_numbers(rt: &impl Print, text: &[u8], from: usize, words: &mut [u64]) -> usize
-    requires { from ≤ length text.now }
-    ensures { result ≤ length text.now }
-{
-    let mut at = all(rt, text, from, &message_numbers(words));
-    at = all(rt, text, at, &payload_numbers(words));
-    at = all(rt, text, at, &list_numbers(words));
-    all(rt, text, at, &late_numbers(words))
+fn claimed_numbers(header: &mut Header<impl Print>, words: &mut [u64]) {
+    header.put_all(&message_numbers(words));
+    header.put_all(&payload_numbers(words));
+    header.put_all(&list_numbers(words));
+    header.put_all(&late_numbers(words));
 }
 
 // ---- published numbers
@@ -263,18 +223,6 @@ fn record_lengths() -> [u64; 6] {
         refusals::LONGEST_MESSAGE as u64,
         flat_answers::FRAME_BYTES as u64,
         Unit::QUEUES_AT as u64,
-    ]
-}
-
-// RECORD_WORDS_2, 3, 5, 6, 7, 8.
-fn other_lengths() -> [u64; 6] {
-    [
-        Unit::record_length(2) as u64,
-        Unit::record_length(3) as u64,
-        Unit::record_length(5) as u64,
-        Unit::record_length(6) as u64,
-        Unit::record_length(7) as u64,
-        Unit::record_length(8) as u64,
     ]
 }
 
@@ -337,7 +285,6 @@ fn reasons() -> [u64; 7] {
 fn frame_answer() -> [u64; deorasaeng::FRAME_WORDS] {
     let mut answer = [0u64; deorasaeng::FRAME_WORDS];
     let told = FrameAnswer {
-        refusal: 0,
         consumed: true,
         accepted: 2,
         lost: 3,
@@ -362,7 +309,7 @@ fn take_answer() -> [u64; deorasaeng::TAKE_WORDS] {
         len: 3,
         bytes: 0,
     };
-    flat_answers::tell_taken(&mut answer, &mut bytes, Taken::Given(f));
+    flat_answers::tell_taken(&mut answer, &mut bytes, Some(f));
     answer
 }
 
@@ -414,52 +361,49 @@ fn counts_answer() -> [u64; deorasaeng::COUNTS_WORDS] {
 const COUNTS_VALUES: [u64; 3] = [1, 9, 10];
 
 // The lengths and numbers that stand in the header before the words of the answers.
-fn published(rt: &impl Print, text: &[u8], from: usize, words: &mut [u64]) -> usize
-    requires { from ≤ length text.now }
-    ensures { result ≤ length text.now }
-{
-    let mut at = all(rt, text, from, &plan_numbers());
-    at = all(rt, text, at, &pgns(words));
-    at = all(rt, text, at, &PORT_COUNTS);
-    at = all(rt, text, at, &record_lengths());
-    at = all(rt, text, at, &other_lengths());
-    all(rt, text, at, &LENGTHS)
+fn published(header: &mut Header<impl Print>, words: &mut [u64]) {
+    header.put_all(&plan_numbers());
+    header.put_all(&pgns(words));
+    header.put_all(&PORT_COUNTS);
+    header.put_all(&record_lengths());
+    // RECORD_WORDS_2, 3, 5, 6, 7, 8
+    for ports in 2..9 {
+        if ports != 4 {
+            header.put(Unit::record_length(ports) as u64);
+        }
+    }
+    header.put_all(&LENGTHS);
 }
 
 // What a frame, a take and a message are answered with, and the reasons.
-fn answers(rt: &impl Print, text: &[u8], from: usize, words: &mut [u64]) -> usize
-    requires { from ≤ length text.now }
-    ensures { result ≤ length text.now }
-{
-    let mut at = places(rt, text, from, &frame_answer(), &FRAME_VALUES);
-    at = all(rt, text, at, &reasons());
-    at = places(rt, text, at, &take_answer(), &TAKE_VALUES);
-    places(rt, text, at, &message_answer(words), &MESSAGE_VALUES)
+fn answers(header: &mut Header<impl Print>, words: &mut [u64]) {
+    header.put_places(&frame_answer(), &FRAME_VALUES);
+    header.put_all(&reasons());
+    header.put_places(&take_answer(), &TAKE_VALUES);
+    header.put_places(&message_answer(words), &MESSAGE_VALUES);
 }
 
 // What Start tells, what is read of the unit and of a port, states and events.
-fn readings(rt: &impl Print, text: &[u8], from: usize, words: &mut [u64]) -> usize
-    requires { from ≤ length text.now }
-    ensures { result ≤ length text.now }
-{
-    let mut at = places(rt, text, from, &claim(words), &START_VALUES);
-    at = places(rt, text, at, &unit_answer(), &UNIT_VALUES);
-    at = places(rt, text, at, &counts_answer(), &COUNTS_VALUES);
-    at = all(rt, text, at, &states());
-    all(rt, text, at, &events())
+fn readings(header: &mut Header<impl Print>, words: &mut [u64]) {
+    header.put_places(&claim(words), &START_VALUES);
+    header.put_places(&unit_answer(), &UNIT_VALUES);
+    header.put_places(&counts_answer(), &COUNTS_VALUES);
+    header.put_all(&states());
+    header.put_all(&events());
 }
 
 // The header.
 fn write_header(rt: &impl Print, text: &[u8]) {
+    let mut header = Header { rt, rest: text };
     let mut words = [0u64; Unit::RECORD_LENGTH];
-    let mut at = early_numbers(rt, text, &mut words);
+    early_numbers(&mut header, &mut words);
     claim(&mut words);
-    at = claimed_numbers(rt, text, at, &mut words);
+    claimed_numbers(&mut header, &mut words);
     claim(&mut words);
-    at = published(rt, text, at, &mut words);
-    at = answers(rt, text, at, &mut words);
-    at = readings(rt, text, at, &mut words);
-    let _ = rt.write_all(&text[at..]);
+    published(&mut header, &mut words);
+    answers(&mut header, &mut words);
+    readings(&mut header, &mut words);
+    let _ = rt.write_all(header.rest);
 }
 
 fn main(rt: HostRuntime) {

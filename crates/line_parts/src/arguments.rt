@@ -18,3 +18,9 @@ pub fn put(rt: &impl Env, place: usize, buffer: &mut [u8]) -> usize
         Err(_) => 0,
     }
 }
+
+// One, if it is given and a buffer has room for it.
+pub fn get<'a>(rt: &impl Env, place: usize, buffer: &'a mut [u8]) -> Option<&'a [u8]> {
+    let n = rt.arg(place, buffer).ok()?;
+    Some(&buffer[..n])
+}

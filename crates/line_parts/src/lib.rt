@@ -1,6 +1,10 @@
-// What programs that read and write lines share: the words of a line, a line made in a lent buffer, and the arguments.
+// What programs that read and write lines share: lines read, the words of a line, a line that is made, and the arguments.
 #![tactic(auto)]
 
 pub mod arguments;
-pub mod print;
+mod made;
+mod read;
 pub mod words;
+
+pub use made::{Hex, Line, Ports};
+pub use read::{Failure, LONGEST, read_lines};

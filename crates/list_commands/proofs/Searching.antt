@@ -17,7 +17,8 @@ use Rattle.filter_commands.specs.declared.pairs.Question.TheVariants.{IsCleared,
 use Rattle.filter_commands.specs.declared.pairs.Change.{Change}
 use Rattle.filter_commands.specs.declared.pairs.Change.TheVariants.{Adds, Deletes, Creates, Names}
 use Rattle.filter_commands.specs.Pairs.{holds_of}
-use Rattle.list_commands.specs.Commands.{first_pair, names, holds_at, any_below, any_named, first_below, held_before, absent_in, absent_at, list_checks, list_refusal}
+use Rattle.list_commands.specs.declared.Absent.{Absent}
+use Rattle.list_commands.specs.Commands.{target_of, first_pair, names, holds_at, any_below, any_named, first_below, held_before, absent_in, absent_at, list_checks, list_refusal}
 use Rattle.list_commands.specs.Steps.{Naming, Stopping}
 use Rattle.list_commands.proofs.PairLoop.{any_found, any_none}
 
@@ -157,6 +158,20 @@ module _ {ports from to first end : ℕ} (N : Naming ports from to first end) {p
 
   pub entry_short : k < length xs
   entry_short = rw entry_is (lacking_short (get_or pairs i clear) xs (S.here inside).0)
+
+  -- where the search stopped is what the rules name
+  pub absent_found : (entry pgn port : ℕ) → k ≡ entry - 1 → 0 < entry → pgn ≡ get_or xs k 0 → port ≡ suc (target_of (from - 1) (i - first_pair ports from))
+      → ◌≡◌ {A = Absent} (record { entry = entry; pgn = pgn; to = port }) (absent_at ports xs from to pairs)
+  absent_found entry pgn port e more p q =
+      let f : entry ≡ suc (held_before (get_or pairs i clear).entries xs) = omega (arith, entry_is) in
+      rw (← absent_is) (rw (f, p, q, entry_is))
+
+-- a search that found none of them found none that lacks one
+pub none_absent : {ports from to first end : ℕ} → Naming ports from to first end → (pairs : List Filter) (xs : List ℕ)
+    → ((j : ℕ) → first ≤ j → j < end → lacks (get_or pairs j clear) xs ≡ false) → any_named ports (ports - 1) (holds_of Lacks xs) from to pairs ≡ true → ⊥
+none_absent {ports} {from} {to} {first} {end} N pairs xs none lacking =
+    let S : Stopping pairs xs first end end 0 = record { least = N.forward; most = omega arith; before = none; here = λ h. absurd (omega arith) } in
+    omega (arith, inside N S lacking)
 
 -- ---- 17 is given for a PGN that is absent, and for nothing else
 two : (m n : ℕ) (a b : Bool) → (m ≡ 17 → ⊥) → (n ≡ 17 → ⊥) → cond a m (cond b n 0) ≡ 17 → ⊥

@@ -1,12 +1,16 @@
 -- The contracts of a command: what it does to the model of a record.
 -- Assumes nothing.
-use Rattle.std.specs.Prelude.{ℕ, ◌+◌, ◌-◌, ◌≤◌, ◌<◌, Bool, true, false, ◌≡◌, List, get_or}
+use Rattle.std.specs.Prelude.{ℕ, ◌+◌, ◌-◌, ◌≤◌, ◌<◌, Bool, true, false, ◌≡◌, List, get_or, Option, MatchOption}
+use Rattle.checks.specs.Checks.{Check as Numbered, check}
+use Rattle.checks.specs.Refusals.{number}
 use Rattle.filter.specs.Filter.{Filter, clear}
 use Rattle.filter_commands.specs.Changes.{lacks}
 use Rattle.unit.specs.Model.{with_rest, with_pairs, model_of}
 use Rattle.filter_commands.specs.declared.pairs.Change.{Change}
-use Rattle.filter_commands.specs.Pairs.{change_of}
-use Rattle.list_commands.specs.Commands.{first_pair, names, Beside, change_named, list_refusal, commanded, held_before}
+use Rattle.filter_commands.specs.Pairs.{holds_of, change_of}
+use Rattle.list_commands.specs.declared.Check.{Check}
+use Rattle.list_commands.specs.declared.Stop.{Stop}
+use Rattle.list_commands.specs.Commands.{first_pair, names, Beside, any_named, change_named, list_refusal, commanded, held_before}
 
 -- the pairs from a port that are named, by their places among the pairs: those from `first` up to `end`, and no other
 pub record Naming (ports from to first end : ℕ) : Type 0 where
@@ -46,3 +50,13 @@ pub record Stopping (pairs : List Filter) (xs : List ℕ) (first end i k : ℕ) 
   pub most : i ≤ end
   pub before : (j : ℕ) → first ≤ j → j < i → lacks (get_or pairs j clear) xs ≡ false
   pub here : i < end → (lacks (get_or pairs i clear) xs ≡ true) × (k ≡ held_before (get_or pairs i clear).entries xs)
+
+-- none of the pairs lacks one, or where the search stopped
+abbrev pub Seeking : List Filter → List ℕ → ℕ → ℕ → Option Stop → Type 0
+Seeking pairs xs first end r =
+    MatchOption r ((j : ℕ) → first ≤ j → j < end → lacks (get_or pairs j clear) xs ≡ false)
+    (λ stop. Stopping pairs xs first end stop.pair (stop.entry - 1) × (stop.pair < end) × (0 < stop.entry) × (stop.pgn ≡ get_or xs (stop.entry - 1) 0))
+
+-- a check, as the rules have it
+abbrev pub asked_of : Check → ℕ → List ℕ → ℕ → ℕ → List Filter → Numbered
+asked_of c ports xs from to pairs = check (any_named ports (ports - 1) (holds_of c.question xs) from to pairs) (number c.refusal)

@@ -1,23 +1,39 @@
 // A command on the pairs from a port: judged on all that it names before any is changed.
 #![tactic(auto)]
 
-ghost use Rattle.std.specs.Prelude.{◌≡◌, true, ℕ, suc, ◌+◌, ◌-◌, ◌≤◌, length};
+ghost use Rattle.std.specs.Prelude.{◌≡◌, true, ℕ, suc, ◌+◌, ◌-◌, ◌≤◌, List, [], ◌∷◌, length};
+ghost use Rattle.checks.specs.Refusals.{number_in};
 ghost use Rattle.entries.specs.Entries.{entries_of};
-ghost use Rattle.filter.specs.Filter.{clear};
+ghost use Rattle.filter.specs.Filter.{Filter, clear};
 ghost use Rattle.unit.specs.Count.{pair_count};
 ghost use Rattle.unit.specs.Model.{model_of, record_length};
-ghost use Rattle.list_commands.specs.Commands.{target_of, first_pair, any_named, list_refusal, absent_at};
+ghost use Rattle.list_commands.specs.Commands.{target_of, first_pair, any_named, list_checks, list_refusal, absent_at};
 ghost use Rattle.filter_commands.specs.Pairs.{holds_of};
 ghost use Rattle.filter_commands.specs.declared.pairs.Question.{Question};
-ghost use Rattle.list_commands.specs.Steps.{Naming, PairsChanging, Trying, Commanding, Stopping};
+ghost use Rattle.list_commands.specs.Steps.{Naming, PairsChanging, Trying, Commanding, Seeking, asked_of};
 
+use checks::Refusal;
 use filter_commands::pairs::{Change, Question};
 
-// The pairs that a command names, by their places among the pairs: those from `first` up to `end`.
-#[derive(Drop)]
+// To 15: all pairs from a port.
+const ALL_PORTS: u32 = 15;
+
+// The pairs that a command names, by their places among the pairs of a unit with so many ports: those from `first` up to `end`.
+#[derive(Clone, Copy)]
 struct Named {
+    ports: usize,
     first: usize,
     end: usize,
+    ghost few: { ports ≤ 8 },
+    ghost ordered: { first ≤ end },
+    ghost inside: { end ≤ pair_count ports },
+}
+
+// A question to each pair that is named, and why a command is refused where the answer is yes for one.
+#[derive(Clone, Copy)]
+struct Check {
+    question: Question,
+    refusal: Refusal,
 }
 
 // The place of a port's first pair among the pairs.
@@ -31,141 +47,149 @@ fn first_pair(ports: usize, from: u32) -> usize
 // The pairs from a port that a To names: one, by 15 all, and none where it is no other port.
 fn pairs_named(ports: usize, from: u32, to: u32) -> Named
     requires { (ports ≤ 8) × (1 ≤ from) × (from ≤ ports) }
-    ensures { Naming ports from to result.first result.end × (result.end ≤ pair_count ports) }
+    ensures { Naming result.ports from to result.first result.end × (result.ports ≡ ports) }
 {
     let row = first_pair(ports, from);
-    if to == 15 {
+    let q = to as usize;
+    if to == ALL_PORTS {
         return Named {
+            ports,
             first: row,
             end: row + (ports - 1),
         };
     }
-    let q = to as usize;
-    if to < from {
-        if 0 < to {
-            return Named {
-                first: row + (q - 1),
-                end: row + q,
-            };
-        }
+    if 0 < to && to < from {
         return Named {
-            first: row,
-            end: row,
+            ports,
+            first: row + (q - 1),
+            end: row + q,
         };
     }
-    if from < to {
-        if q <= ports {
-            return Named {
-                first: row + (q - 2),
-                end: row + (q - 1),
-            };
-        }
+    if from < to && q <= ports {
+        return Named {
+            ports,
+            first: row + (q - 2),
+            end: row + (q - 1),
+        };
     }
     Named {
+        ports,
         first: row,
         end: row,
     }
 }
 
-// Whether the answer is yes for a pair that is named.
-fn any(
-    words: &[u64],
-    ports: usize,
-    first: usize,
-    end: usize,
-    question: Question,
-    entries: &[u8],
-) -> bool
-    requires { (ports ≤ 8) × (length words.now ≡ record_length ports) × (first ≤ end) × (end ≤ pair_count ports) }
-    ensures { (from to : ℕ) → Naming ports from to first end → result ≡ any_named ports (ports - 1) (holds_of question (entries_of entries.now)) from to (model_of ports words.now).rest.pairs }
+// What a change is refused for, the first before the second.
+#[tactic(auto, unfolding(crate::specs::Commands::list_checks))]
+fn checks_of(change: Change) -> (Check, Check)
+    ensures { (ports from to : ℕ) (xs : List ℕ) (pairs : List Filter) → list_checks ports change xs from to pairs ≡ asked_of result.0 ports xs from to pairs ∷ asked_of result.1 ports xs from to pairs ∷ [] }
 {
-    let mut i = first;
-    while i < end {
-        if record::question(words, ports, i, question, entries) {
-            return true;
-        }
-        i += 1;
-    }
-    false
-}
-
-// Changes each pair that is named, up to one that may not be changed. Tells whether all were.
-fn change_each(
-    words: &mut [u64],
-    ports: usize,
-    first: usize,
-    end: usize,
-    change: Change,
-    entries: &[u8],
-) -> bool
-    requires { (ports ≤ 8) × (length words.old ≡ record_length ports) × (first ≤ end) × (end ≤ pair_count ports) }
-    ensures { (from to : ℕ) → Naming ports from to first end → Trying ports words.old words.new from to first end change (entries_of entries.now) result }
-{
-    let mut i = first;
-    while i < end {
-        if !record::change(words, ports, i, change, entries) {
-            return false;
-        }
-        i += 1;
-    }
-    true
-}
-
-// The number that a command is refused with by the lists, or 0.
-fn refusal(
-    words: &[u64],
-    ports: usize,
-    first: usize,
-    end: usize,
-    change: Change,
-    entries: &[u8],
-) -> u32
-    requires { (ports ≤ 8) × (length words.now ≡ record_length ports) × (first ≤ end) × (end ≤ pair_count ports) }
-    ensures { (from to : ℕ) → Naming ports from to first end → result ≡ list_refusal ports change (entries_of entries.now) from to (model_of ports words.now).rest.pairs }
-{
+    let full = Check {
+        question: Question::WouldPass,
+        refusal: Refusal::Full,
+    };
+    let cleared = Check {
+        question: Question::IsCleared,
+        refusal: Refusal::Cleared,
+    };
     match change {
-        Change::Adds => {
-            if any(words, ports, first, end, Question::IsCleared, entries) {
-                return 15;
-            }
-            if any(words, ports, first, end, Question::WouldPass, entries) {
-                return 16;
-            }
-            0
-        }
+        Change::Adds => (cleared, full),
         Change::Deletes => {
-            if any(words, ports, first, end, Question::IsCleared, entries) {
-                return 15;
-            }
-            if any(words, ports, first, end, Question::Lacks, entries) {
-                return 17;
-            }
-            0
+            let absent = Check {
+                question: Question::Lacks,
+                refusal: Refusal::Absent,
+            };
+            (cleared, absent)
         }
         Change::Creates(_) => {
-            if any(words, ports, first, end, Question::IsNotCleared, entries) {
-                return 14;
-            }
-            if any(words, ports, first, end, Question::WouldPass, entries) {
-                return 16;
-            }
-            0
+            let not_cleared = Check {
+                question: Question::IsNotCleared,
+                refusal: Refusal::NotCleared,
+            };
+            (not_cleared, full)
         }
         Change::Names { name, mask } => {
-            if any(words, ports, first, end, Question::IsCleared, entries) {
-                return 15;
-            }
-            let full = Question::NamesFull { name, mask };
-            if any(words, ports, first, end, full, entries) {
-                return 16;
-            }
-            0
+            let names_full = Check {
+                question: Question::NamesFull { name, mask },
+                refusal: Refusal::Full,
+            };
+            (cleared, names_full)
         }
+    }
+}
+
+impl Named {
+    // Whether the answer is yes for one of them.
+    fn any(self, words: &[u64], question: Question, entries: &[u8]) -> bool
+        requires { length words.now ≡ record_length self.ports }
+        ensures { (from to : ℕ) → Naming self.ports from to self.first self.end → result ≡ any_named self.ports (self.ports - 1) (holds_of question (entries_of entries.now)) from to (model_of self.ports words.now).rest.pairs }
+    {
+        for pair in self.first..self.end {
+            if record::question(words, self.ports, pair, question, entries) {
+                return true;
+            }
+        }
+        false
+    }
+
+    // Whether a change is refused by the lists, and why.
+    fn check(self, words: &[u64], change: Change, entries: &[u8]) -> Result<(), Refusal>
+        requires { length words.now ≡ record_length self.ports }
+        ensures { (from to : ℕ) → Naming self.ports from to self.first self.end → number_in result ≡ list_refusal self.ports change (entries_of entries.now) from to (model_of self.ports words.now).rest.pairs }
+    {
+        let (first, second) = checks_of(change);
+        if self.any(words, first.question, entries) {
+            return Err(first.refusal);
+        }
+        if self.any(words, second.question, entries) {
+            return Err(second.refusal);
+        }
+        Ok(())
+    }
+
+    // Changes each of them, up to one that may not be changed. Tells whether all were.
+    fn change(self, words: &mut [u64], change: Change, entries: &[u8]) -> bool
+        requires { length words.old ≡ record_length self.ports }
+        ensures { (from to : ℕ) → Naming self.ports from to self.first self.end → Trying self.ports words.old words.new from to self.first self.end change (entries_of entries.now) result }
+    {
+        for pair in self.first..self.end {
+            if !record::change(words, self.ports, pair, change, entries) {
+                return false;
+            }
+        }
+        true
+    }
+
+    // Clears each of them.
+    fn clear(self, words: &mut [u64])
+        requires { length words.old ≡ record_length self.ports }
+        ensures { (from to : ℕ) → Naming self.ports from to self.first self.end → PairsChanging self.ports words.old words.new from to (λ _. clear) }
+    {
+        for pair in self.first..self.end {
+            record::clear(words, self.ports, pair);
+        }
+    }
+
+    // The first entry that is absent, in one pair after the other.
+    fn first_absent(self, words: &[u64], entries: &[u8]) -> Option<Stop>
+        requires { length words.now ≡ record_length self.ports }
+        ensures { Seeking (model_of self.ports words.now).rest.pairs (entries_of entries.now) self.first self.end result }
+    {
+        for pair in self.first..self.end {
+            for entry in 0..entries::count(entries) {
+                let pgn = entries::entry_at(entries, entry);
+                if !record::lists(words, self.ports, pair, pgn) {
+                    let entry = entry + 1;
+                    return Some(Stop { pair, entry, pgn });
+                }
+            }
+        }
+        None
     }
 }
 
 // A command with entries: on all pairs that it names, or refused on none. Several are judged before one is changed; a single one is judged by the change, and
-// the number looked for if that was not done.
+// the reason looked for if that was not done.
 pub fn command(
     words: &mut [u64],
     ports: usize,
@@ -173,33 +197,18 @@ pub fn command(
     to: u32,
     change: Change,
     entries: &[u8],
-) -> u32
+) -> Result<(), Refusal>
     requires { (ports ≤ 8) × (length words.old ≡ record_length ports) × (1 ≤ from) × (from ≤ ports) }
-    ensures { Commanding ports words.old words.new from to change (entries_of entries.now) result }
+    ensures { Commanding ports words.old words.new from to change (entries_of entries.now) (number_in result) }
 {
     let named = pairs_named(ports, from, to);
     if named.first + 1 < named.end {
-        let number = refusal(words, ports, named.first, named.end, change, entries);
-        if number != 0 {
-            return number;
-        }
+        named.check(words, change, entries)?;
     }
-    if change_each(words, ports, named.first, named.end, change, entries) {
-        return 0;
+    if named.change(words, change, entries) {
+        return Ok(());
     }
-    refusal(words, ports, named.first, named.end, change, entries)
-}
-
-// Clears each pair that is named.
-fn clear_each(words: &mut [u64], ports: usize, first: usize, end: usize)
-    requires { (ports ≤ 8) × (length words.old ≡ record_length ports) × (first ≤ end) × (end ≤ pair_count ports) }
-    ensures { (from to : ℕ) → Naming ports from to first end → PairsChanging ports words.old words.new from to (λ _. clear) }
-{
-    let mut i = first;
-    while i < end {
-        record::clear(words, ports, i);
-        i += 1;
-    }
+    named.check(words, change, entries)
 }
 
 // Clear: on all pairs that it names.
@@ -207,45 +216,23 @@ pub fn clear(words: &mut [u64], ports: usize, from: u32, to: u32)
     requires { (ports ≤ 8) × (length words.old ≡ record_length ports) × (1 ≤ from) × (from ≤ ports) }
     ensures { PairsChanging ports words.old words.new from to (λ _. clear) }
 {
-    let named = pairs_named(ports, from, to);
-    clear_each(words, ports, named.first, named.end);
+    pairs_named(ports, from, to).clear(words);
 }
 
 // Where a PGN is absent: the number of its entry from 1, the To port of the pair, the PGN.
-#[derive(Clone, Copy)]
+#[derive(Clone, Copy, Debug, PartialEq, Eq)]
 pub struct Absent {
     pub entry: usize,
     pub pgn: u64,
     pub to: u32,
 }
 
-// Where a search stopped: the place of the pair among the pairs, and how many entries were found in its list.
-#[derive(Drop)]
+// Where a search stopped: the place of the pair among the pairs, the number of the entry from 1, its PGN.
+#[derive(Clone, Copy)]
 struct Stop {
     pair: usize,
     entry: usize,
-}
-
-// Looks for the first entry that is absent, in the pairs that are named one after the other.
-fn first_absent(words: &[u64], ports: usize, first: usize, end: usize, entries: &[u8]) -> Stop
-    requires { (ports ≤ 8) × (length words.now ≡ record_length ports) × (first ≤ end) × (end ≤ pair_count ports) }
-    ensures { Stopping (model_of ports words.now).rest.pairs (entries_of entries.now) first end result.pair result.entry }
-{
-    let n = entries::count(entries);
-    let mut pair = first;
-    let mut entry: usize = 0;
-    'search: while pair < end {
-        entry = 0;
-        while entry < n {
-            let pgn = entries::entry_at(entries, entry);
-            if !record::lists(words, ports, pair, pgn) {
-                break 'search;
-            }
-            entry += 1;
-        }
-        pair += 1;
-    }
-    Stop { pair, entry }
+    pgn: u64,
 }
 
 // The other port that the kth pair from a port leads to.
@@ -259,24 +246,21 @@ fn leads_to(from: u32, k: usize) -> u32
     k as u32 + 2
 }
 
-// Where a Delete names a PGN that is absent, if it does: 0 throughout if not.
-pub fn where_absent(words: &[u64], ports: usize, from: u32, to: u32, entries: &[u8]) -> Absent
+// Where a Delete names a PGN that is absent, if it does.
+pub fn where_absent(
+    words: &[u64],
+    ports: usize,
+    from: u32,
+    to: u32,
+    entries: &[u8],
+) -> Option<Absent>
     requires { (ports ≤ 8) × (length words.now ≡ record_length ports) × (1 ≤ from) × (from ≤ ports) }
-    ensures { any_named ports (ports - 1) (holds_of Question.Lacks (entries_of entries.now)) from to (model_of ports words.now).rest.pairs ≡ true → result ≡ absent_at ports (entries_of entries.now) from to (model_of ports words.now).rest.pairs }
+    ensures { any_named ports (ports - 1) (holds_of Question.Lacks (entries_of entries.now)) from to (model_of ports words.now).rest.pairs ≡ true → result ≡ Some (absent_at ports (entries_of entries.now) from to (model_of ports words.now).rest.pairs) }
 {
-    let named = pairs_named(ports, from, to);
-    let stop = first_absent(words, ports, named.first, named.end, entries);
-    let k = stop.pair - first_pair(ports, from);
-    if stop.entry < entries::count(entries) {
-        return Absent {
-            entry: stop.entry + 1,
-            to: leads_to(from, k),
-            pgn: entries::entry_at(entries, stop.entry),
-        };
-    }
-    Absent {
-        entry: 0,
-        to: 0,
-        pgn: 0,
-    }
+    let stop = pairs_named(ports, from, to).first_absent(words, entries)?;
+    Some(Absent {
+        entry: stop.entry,
+        to: leads_to(from, stop.pair - first_pair(ports, from)),
+        pgn: stop.pgn,
+    })
 }

@@ -14,8 +14,7 @@ use lib.Seq.{get_or-set_same, get_or-set_other}
 use Rattle.losses.specs.Losses.{one_more}
 use Rattle.queue.specs.declared.Frame.{Frame}
 use Rattle.network_message.specs.Commands.{Ports, Good}
-use Rattle.network_message.specs.declared.Command.{Command}
-use Rattle.network_message.specs.declared.Command.TheVariants.{Refused, Request, WithEntries, Clear, AddressList, Parameter, Reset, PairParameter, PairReset}
+use Rattle.network_message.specs.Asked.{Asked, Refused, Request, WithEntries, Clear, AddressList, Parameter, Reset, PairParameter, PairReset}
 use Rattle.network_message.specs.Decoding.{function_of, pair_of, from_of, to_of, decoded}
 use Rattle.network_message.proofs.Passing.{answered_by, by_function}
 use Rattle.network_message.proofs.Decoding.{decoded_good}
@@ -62,7 +61,7 @@ Resetting ports payload losses =
     × ((l : List ℕ) → losses l ≡ set l (pair_at ports (from_of (pair_of payload) - 1) (to_of (pair_of payload) - 1)) 0))
     × ((function_of payload ≡ 130 → ⊥) → (function_of payload ≡ 133 → ⊥) → (l : List ℕ) → losses l ≡ l)
 
-abbrev Does : ℕ → Rest → ℕ → List ℕ → Command → Type 0
+abbrev Does : ℕ → Rest → ℕ → List ℕ → Asked → Type 0
 Does ports rest requester payload c =
     Good ports payload c → (performed_by ports rest requester payload c).number ≡ 0 → Resetting ports payload (performed_by ports rest requester payload c).losses
 
@@ -102,7 +101,7 @@ module _ (ports : ℕ) (rest : Rest) (port requester : ℕ) (payload : List ℕ)
       go false e y = absurd (eqb-false (message_refusal ports lent lentReply rest port requester (length payload)) 0 e y)
 
 -- ---- how many counters there are stays
-losses_long : (ports : ℕ) (rest : Rest) (requester : ℕ) (payload : List ℕ) (c : Command) (l : List ℕ) → length ((performed_by ports rest requester payload c).losses l) ≡ length l
+losses_long : (ports : ℕ) (rest : Rest) (requester : ℕ) (payload : List ℕ) (c : Asked) (l : List ℕ) → length ((performed_by ports rest requester payload c).losses l) ≡ length l
 unfolding performed_by
 losses_long ports rest requester payload (Refused number entry) l = refl
 losses_long ports rest requester payload (Request from to) l = refl

@@ -1,15 +1,19 @@
 -- What was made is what the contracts of the functions give: of each call `Pre → Post`, the clauses `requires` and `ensures` of the functions themselves, read off
 -- by the toolchain, as an implication, so that whoever has it has to prove each `Pre` itself. (a, (b, tt)) are a function's arguments; a lent slice is a
 -- reference, and `.now` what lies in it; κs are lifetimes, which no contract reads. Proved as `cited` in proofs/Cited.antt. Assumes nothing.
-use Rattle.std.specs.Prelude.{List, ℕ}
+use Rattle.std.specs.Prelude.{List, ℕ, Option, Result, ⊤}
 use contract.Lifetimes.{Lfts}
 use Rattle.std.specs.Borrow.{Bor, MutBor}
-use Rattle.bridge.specs.declared.FrameAnswer.{FrameAnswer}
-use Rattle.bridge.specs.declared.TakeAnswer.{TakeAnswer}
+use Rattle.checks.specs.declared.refusal.Refusal.{Refusal}
+use Rattle.checks.specs.Refusals.{number_in}
+use Rattle.queue.specs.declared.Frame.{Frame}
+use Rattle.queue.specs.declared.Tally.{Tally}
+use Rattle.unit.specs.declared.Unit.{Unit}
 use Rattle.message_answers.specs.declared.MessageAnswer.{MessageAnswer}
-use Rattle.bridge.specs.declared.StartAnswer.{StartAnswer}
-use Rattle.bridge.specs.declared.UnitAnswer.{UnitAnswer}
-use Rattle.bridge.specs.declared.CountsAnswer.{CountsAnswer}
+use Rattle.message_answers.specs.Answers.{message_told}
+use Rattle.bridge.specs.declared.FrameAnswer.{FrameAnswer}
+use Rattle.bridge.specs.declared.Started.{Started as StartAnswer}
+use Rattle.bridge.specs.Told.{frame_told, take_told, start_told, unit_told, counts_told}
 use Rattle.unit.proofs.Unit.power_on_ports.Reads as power_on
 use Rattle.bridge.proofs.frame.Reads as frame
 use Rattle.bridge.proofs.take.Reads as take
@@ -22,35 +26,35 @@ use Rattle.made.specs.Made.{Powered, Arrived, Took, Handed, Started, Quieted, To
 
 pub record Cited : Type 0 where
   -- power-on, with a NAME, a preferred address and a count of ports
-  pub powered : (κs : Lfts 1) (w w' : MutBor (List ℕ)) (name preferred count r : ℕ)
+  pub powered : (κs : Lfts 1) (w w' : MutBor (List ℕ)) (name preferred count : ℕ) (r : Result ⊤ Refusal)
       → (power_on.Pre κs (w, (name, (preferred, (count, tt)))) → power_on.Post κs (w, (name, (preferred, (count, tt)))) r (w', (name, (preferred, (count, tt)))))
-      → Powered w.now name preferred count r w'.now
+      → Powered w.now name preferred count (number_in r) w'.now
   -- a frame arrived at a port
-  pub arrived : (κs : Lfts 2) (w w' : MutBor (List ℕ)) (b b' : Bor (List ℕ)) (port id : ℕ) (r : FrameAnswer)
+  pub arrived : (κs : Lfts 2) (w w' : MutBor (List ℕ)) (b b' : Bor (List ℕ)) (port id : ℕ) (r : Result FrameAnswer Refusal)
       → (frame.Pre κs (w, (port, (id, (b, tt)))) → frame.Post κs (w, (port, (id, (b, tt)))) r (w', (port, (id, (b', tt)))))
-      → Arrived w.now port id b.now r w'.now
+      → Arrived w.now port id b.now (frame_told r) w'.now
   -- a take was made on a port
-  pub took : (κs : Lfts 1) (w w' : MutBor (List ℕ)) (port : ℕ) (r : TakeAnswer)
+  pub took : (κs : Lfts 1) (w w' : MutBor (List ℕ)) (port : ℕ) (r : Result (Option Frame) Refusal)
       → (take.Pre κs (w, (port, tt)) → take.Post κs (w, (port, tt)) r (w', (port, tt)))
-      → Took w.now port r w'.now
+      → Took w.now port (take_told r) w'.now
   -- a message was handed in, with a reply buffer `lent` that was left as `back`
   pub handed : (κs : Lfts 3) (w w' : MutBor (List ℕ)) (p p' : Bor (List ℕ)) (b b' : MutBor (List ℕ)) (port requester : ℕ) (r : MessageAnswer)
       → (message.Pre κs (w, (port, (requester, (p, (b, tt)))))
       → message.Post κs (w, (port, (requester, (p, (b, tt))))) r (w', (port, (requester, (p', (b', tt))))))
-      → Handed w.now port requester p.now b.now r w'.now b'.now
+      → Handed w.now port requester p.now b.now (message_told r) w'.now b'.now
   -- Start
-  pub started : (κs : Lfts 1) (w w' : MutBor (List ℕ)) (r : StartAnswer)
+  pub started : (κs : Lfts 1) (w w' : MutBor (List ℕ)) (r : Result StartAnswer Refusal)
       → (start.Pre κs (w, tt) → start.Post κs (w, tt) r (w', tt))
-      → Started w.now r w'.now
+      → Started w.now (start_told r) w'.now
   -- Quiet
-  pub quieted : (κs : Lfts 1) (w w' : MutBor (List ℕ)) (r : ℕ)
+  pub quieted : (κs : Lfts 1) (w w' : MutBor (List ℕ)) (r : Result ⊤ Refusal)
       → (quiet.Pre κs (w, tt) → quiet.Post κs (w, tt) r (w', tt))
-      → Quieted w.now r w'.now
+      → Quieted w.now (number_in r) w'.now
   -- the unit was read: the record is lent to be read alone, so it is left as it was
-  pub told : (κs : Lfts 1) (w w' : Bor (List ℕ)) (r : UnitAnswer)
+  pub told : (κs : Lfts 1) (w w' : Bor (List ℕ)) (r : Result Unit Refusal)
       → (unit.Pre κs (w, tt) → unit.Post κs (w, tt) r (w', tt))
-      → Told w.now r
+      → Told w.now (unit_told r)
   -- so with the counts of a port
-  pub counted : (κs : Lfts 1) (w w' : Bor (List ℕ)) (port : ℕ) (r : CountsAnswer)
+  pub counted : (κs : Lfts 1) (w w' : Bor (List ℕ)) (port : ℕ) (r : Result Tally Refusal)
       → (counts.Pre κs (w, (port, tt)) → counts.Post κs (w, (port, tt)) r (w', (port, tt)))
-      → Counted w.now port r
+      → Counted w.now port (counts_told r)

@@ -1,13 +1,9 @@
 -- A call that was made: the record as it was, the call's arguments, the answer, the record as it was left. Of each call what its function ensures is known, and
 -- nothing else. No function requires anything: Cited.antt says that the clauses `requires` and `ensures` of the functions themselves, read off by the
 -- toolchain, give just this. Assumes nothing.
+use Rattle.message_answers.specs.Messages.{MessageTold}
+use Rattle.bridge.specs.Told.{FrameTold, TakeTold, StartTold, UnitTold, CountsTold}
 use Rattle.std.specs.Prelude.{List, ℕ}
-use Rattle.bridge.specs.declared.FrameAnswer.{FrameAnswer}
-use Rattle.bridge.specs.declared.TakeAnswer.{TakeAnswer}
-use Rattle.message_answers.specs.declared.MessageAnswer.{MessageAnswer}
-use Rattle.bridge.specs.declared.StartAnswer.{StartAnswer}
-use Rattle.bridge.specs.declared.UnitAnswer.{UnitAnswer}
-use Rattle.bridge.specs.declared.CountsAnswer.{CountsAnswer}
 use Rattle.unit.specs.Count.{ports_of}
 use Rattle.unit.specs.PowerOn.{PoweringOn}
 use Rattle.bridge.specs.Calls.{Framing, TakingOut, Messaging, Starting, Quieting, Reading, Counting}
@@ -18,23 +14,23 @@ pub data Powered : (words : List ℕ) (name preferred count r : ℕ) (after : Li
       → Powered w name preferred count r w'
 
 -- a frame arrived at a port
-pub data Arrived : (words : List ℕ) (port id : ℕ) (bytes : List ℕ) (r : FrameAnswer) (after : List ℕ) → Type 0 where
-  arrived : (w w' b : List ℕ) (port id : ℕ) (r : FrameAnswer) → Framing (ports_of w) w w' port id b r
+pub data Arrived : (words : List ℕ) (port id : ℕ) (bytes : List ℕ) (r : FrameTold) (after : List ℕ) → Type 0 where
+  arrived : (w w' b : List ℕ) (port id : ℕ) (r : FrameTold) → Framing (ports_of w) w w' port id b r
       → Arrived w port id b r w'
 
 -- a take was made on a port
-pub data Took : (words : List ℕ) (port : ℕ) (r : TakeAnswer) (after : List ℕ) → Type 0 where
-  took : (w w' : List ℕ) (port : ℕ) (r : TakeAnswer) → TakingOut (ports_of w) w w' port r
+pub data Took : (words : List ℕ) (port : ℕ) (r : TakeTold) (after : List ℕ) → Type 0 where
+  took : (w w' : List ℕ) (port : ℕ) (r : TakeTold) → TakingOut (ports_of w) w w' port r
       → Took w port r w'
 
 -- a message was handed in, with a reply buffer `lent` that was left as `back`
-pub data Handed : (words : List ℕ) (port requester : ℕ) (payload lent : List ℕ) (r : MessageAnswer) (after back : List ℕ) → Type 0 where
-  handed : (w w' p b b' : List ℕ) (port requester : ℕ) (r : MessageAnswer) → Messaging (ports_of w) w w' port requester p b b' r
+pub data Handed : (words : List ℕ) (port requester : ℕ) (payload lent : List ℕ) (r : MessageTold) (after back : List ℕ) → Type 0 where
+  handed : (w w' p b b' : List ℕ) (port requester : ℕ) (r : MessageTold) → Messaging (ports_of w) w w' port requester p b b' r
       → Handed w port requester p b r w' b'
 
 -- Start
-pub data Started : (words : List ℕ) (r : StartAnswer) (after : List ℕ) → Type 0 where
-  started : (w w' : List ℕ) (r : StartAnswer) → Starting (ports_of w) w w' r
+pub data Started : (words : List ℕ) (r : StartTold) (after : List ℕ) → Type 0 where
+  started : (w w' : List ℕ) (r : StartTold) → Starting (ports_of w) w w' r
       → Started w r w'
 
 -- Quiet
@@ -43,11 +39,11 @@ pub data Quieted : (words : List ℕ) (r : ℕ) (after : List ℕ) → Type 0 wh
       → Quieted w r w'
 
 -- the unit was read: the record is lent to be read alone, so it is left as it was
-pub data Told : (words : List ℕ) (r : UnitAnswer) → Type 0 where
-  told : (w : List ℕ) (r : UnitAnswer) → Reading (ports_of w) w r
+pub data Told : (words : List ℕ) (r : UnitTold) → Type 0 where
+  told : (w : List ℕ) (r : UnitTold) → Reading (ports_of w) w r
       → Told w r
 
 -- so with the counts of a port
-pub data Counted : (words : List ℕ) (port : ℕ) (r : CountsAnswer) → Type 0 where
-  counted : (w : List ℕ) (port : ℕ) (r : CountsAnswer) → Counting (ports_of w) w port r
+pub data Counted : (words : List ℕ) (port : ℕ) (r : CountsTold) → Type 0 where
+  counted : (w : List ℕ) (port : ℕ) (r : CountsTold) → Counting (ports_of w) w port r
       → Counted w port r

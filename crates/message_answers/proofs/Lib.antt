@@ -1,1 +1,2 @@
 pub mod Replies
+mod Seventeen

@@ -7,16 +7,17 @@ use Prim.Native.Nat.{ℕ, ◌+◌, ◌-◌, ◌≤◌, ◌<◌}
 use borrow.Author.Tests.{ne_eqb, eqb-true, eqb-false, ltb-true, ltb-false}
 use lib.Dec.{eqb, ltb}
 use native.Mathlib.Omega.{arith}
-use lib.ListN.{length}
 use Rattle.entries.specs.Entries.{listed, entries_of}
 use Rattle.filter.specs.Filter.{clear}
 use Rattle.network_message.specs.Commands.{Ports}
 use Rattle.network_message.specs.Decoding.{function_of, between, is_held}
 use Rattle.replies.specs.Replies.{control_of, acknowledgment, Writing}
 use Rattle.filter_commands.specs.declared.pairs.Change.{Change}
-use Rattle.message_answers.specs.declared.MessageAnswer.{MessageAnswer}
+use Rattle.network_message.specs.declared.Wrong.{Wrong}
+use Rattle.network_message.specs.Asked.{wrong_number, wrong_at}
+use Rattle.message_answers.specs.Answers.{denied_by, denied_number, denied_told}
 use Rattle.unit.specs.Model.{Seen, losses_from, model_of}
-use Rattle.message_answers.specs.Messages.{nothing_told, wrong_told, absent_told, acknowledged, replied, reset_at, changed_by, cleared_by}
+use Rattle.message_answers.specs.Messages.{MessageTold, nothing_told, wrong_told, absent_told, acknowledged, replied, reset_at, changed_by, cleared_by}
 use Rattle.list_commands.specs.Commands.{Beside, any_named}
 use Rattle.list_commands.specs.declared.Absent.{Absent}
 use Rattle.filter_commands.specs.Pairs.{holds_of}
@@ -43,10 +44,19 @@ held_small parameter h = go (ltb parameter 256) refl
     go true e = ltb-true parameter 256 e
     go false e = let z : true ≡ false = sym h ∙ far_none parameter (ltb-false parameter 256 e) in absurd (true≢false z)
 
+-- a payload that is refused is denied for the same reason
+pub number_by : (wrong : Wrong) → denied_number (denied_by wrong) ≡ wrong_number wrong
+number_by (Wrong.Entry entry) = refl
+number_by (Wrong.Refused refusal) = refl
+
+pub told_by : (wrong : Wrong) → denied_told (denied_by wrong) ≡ wrong_told (wrong_at wrong)
+told_by (Wrong.Entry entry) = refl
+told_by (Wrong.Refused refusal) = refl
+
 pub reported_of : {bytes before after : List ℕ} {most n : ℕ} → Writing bytes before after most n → Reporting bytes before after (record { refusal = 0; pgn = 60672; length = n; told = nothing_told })
 reported_of W = record { answer = rw W.answer; written = W.written }
 
-module _ {ports : ℕ} {words lent back : List ℕ} {Still : ℕ → Type 0} {r : MessageAnswer} where
+module _ {ports : ℕ} {words lent back : List ℕ} {Still : ℕ → Type 0} {r : MessageTold} where
   pub reply_given : (bytes : Seen → List ℕ) → Reporting (bytes (model_of ports words).seen) lent back r → Replying ports words words lent back (replied bytes (model_of ports words).rest.pairs) Still r
   reply_given bytes R = record { answer = R.answer; written = R.written; state = refl; refused = λ _. refl; others = λ _ _. refl }
 
@@ -54,7 +64,7 @@ module _ {ports : ℕ} {words lent back : List ℕ} {Still : ℕ → Type 0} {r 
   unfolding acknowledgment
   refusal_told number entry requester payload T = record { answer = T.answer; written = T.written; state = refl; refused = λ _. refl; others = λ _ _. refl }
 
-module _ {ports : ℕ} {words lent back : List ℕ} {r : MessageAnswer} where
+module _ {ports : ℕ} {words lent back : List ℕ} {r : MessageTold} where
   -- a counter was reset
   pub reset_told : {after : List ℕ} (i requester : ℕ) (payload : List ℕ) → LossesChanging ports words after i (λ n. 0) → Telling lent back 0 (function_of payload) requester nothing_told r
       → Replying ports words after lent back (reset_at i requester payload (model_of ports words).rest.pairs) (λ n. n ≡ losses_from ports + i → ⊥) r

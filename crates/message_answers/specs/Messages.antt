@@ -3,8 +3,7 @@
 use Rattle.std.specs.Prelude.{ℕ, ◌+◌, ◌-◌, cond, ◌≡◌, List, eqb, length, get_or, set}
 use Rattle.filter.specs.Filter.{Filter, clear}
 use Rattle.entries.specs.Entries.{entries_of}
-use Rattle.network_message.specs.declared.Command.{Command}
-use Rattle.network_message.specs.declared.Command.TheVariants.{Refused, Request, WithEntries, Clear, AddressList, Parameter, Reset, PairParameter, PairReset}
+use Rattle.network_message.specs.Asked.{Asked, Refused, Request, WithEntries, Clear, AddressList, Parameter, Reset, PairParameter, PairReset}
 use Rattle.network_message.specs.Decoding.{function_of, pair_of, between}
 use Rattle.replies.specs.Replies.{control_of, acknowledgment, list_reply, address_reply, parameter_reply}
 use Rattle.unit.specs.Model.{Rest, Seen, pair_at, general_at, losses_from}
@@ -12,7 +11,6 @@ use Rattle.parameters.specs.Parameters.{pair_parameter, general_parameter}
 use Rattle.filter_commands.specs.declared.pairs.Change.{Change}
 use Rattle.list_commands.specs.Commands.{Beside, change_named, list_refusal, commanded, absent_at}
 use Rattle.list_commands.specs.declared.Absent.{Absent}
-use Rattle.message_answers.specs.declared.MessageAnswer.{MessageAnswer}
 
 -- what a message does: the number that it is refused with, the pairs and the counters of losses then, the PGN and the bytes that are written. The bytes alone
 -- may show what is only looked at
@@ -73,7 +71,7 @@ abbrev pub cleared_by : ℕ → Rest → ℕ → List ℕ → ℕ → ℕ → Re
 cleared_by ports rest requester payload from to =
     acknowledged 0 requester payload (change_named ports (ports - 1) (λ _. clear) from to rest.pairs) nothing_told
 
-unfoldable pub performed_by : ℕ → Rest → ℕ → List ℕ → Command → Replied
+unfoldable pub performed_by : ℕ → Rest → ℕ → List ℕ → Asked → Replied
 performed_by ports rest requester payload (Refused number entry) = acknowledged number requester payload rest.pairs (wrong_told entry)
 performed_by ports rest requester payload (Request from to) =
     replied (λ seen. list_reply (pair_of payload) (get_or rest.pairs (pair_at ports (from - 1) (to - 1)) clear)) rest.pairs
@@ -88,7 +86,7 @@ performed_by ports rest requester payload (PairParameter from to parameter) =
 performed_by ports rest requester payload (PairReset from to) = reset_at (pair_at ports (from - 1) (to - 1)) requester payload rest.pairs
 
 -- word n of the record lies outside the blocks of the pairs that a command changes, and is not the counter that it resets
-abbrev pub Untouched : ℕ → Command → ℕ → Type 0
+abbrev pub Untouched : ℕ → Asked → ℕ → Type 0
 Untouched ports (Refused number entry) = λ n. Unit {0}
 Untouched ports (Request from to) = λ n. Unit {0}
 Untouched ports (WithEntries change from to start end) = Beside ports from to
@@ -100,5 +98,12 @@ Untouched ports (PairParameter from to parameter) = λ n. Unit {0}
 Untouched ports (PairReset from to) = λ n. n ≡ losses_from ports + pair_at ports (from - 1) (to - 1) → ⊥
 
 -- "The answer gives the PGN and the length of what was written, 0 and 0 for nothing; buffer bytes past that length are untouched."
-abbrev pub message_answer : Replied → Seen → MessageAnswer
+-- `told`: with 22 the number from 1 of the first entry that is no PGN; with 17 where a PGN is absent; else 0
+pub record MessageTold : Type 0 where
+  pub refusal : ℕ
+  pub pgn : ℕ
+  pub length : ℕ
+  pub told : Absent
+
+abbrev pub message_answer : Replied → Seen → MessageTold
 message_answer r seen = record { refusal = r.number; pgn = r.pgn; length = length (r.written seen); told = r.told }

@@ -12,23 +12,33 @@ ghost use Rattle.list_commands.specs.Commands.{Beside, any_named};
 ghost use Rattle.entries.specs.Entries.{entries_of};
 ghost use Rattle.filter_commands.specs.Pairs.{holds_of};
 ghost use Rattle.filter_commands.specs.declared.pairs.Question.{Question};
-ghost use Rattle.message_answers.specs.Messages.{nothing_told, wrong_told, absent_told, performed_by, changed_by, cleared_by, reset_at, Untouched};
+ghost use Rattle.checks.specs.Refusals.{number};
+ghost use Rattle.network_message.specs.Asked.{asked};
+ghost use Rattle.message_answers.specs.Answers.{denied_by, denied_number, denied_told, outcome_number, outcome_told, message_told};
+ghost use Rattle.message_answers.specs.Messages.{nothing_told, absent_told, performed_by, changed_by, cleared_by, reset_at, Untouched};
 ghost use Rattle.message_answers.specs.Steps.{Telling, Replying, Reporting};
 
+use checks::Refusal;
 use filter_commands::pairs::Change;
 use list_commands::Absent;
-use network_message::Command;
+use network_message::{Command, Wrong};
 
-// What was written to the reply buffer: the PGN and the length, 0 and 0 for nothing; and the number that refused the message, or 0.
-// `told`: with 22 the number from 1 of the first entry that is no PGN; with 17 where a PGN is absent; else 0.
-// PGN and length are not neighbours, and the To port of `told` is narrower than what stands beside it: the compiler would read two as one word that two stores have
-// written, and the processor waits for both. `told` stands first, since a gap before it would be copied with it.
-#[derive(Clone, Copy)]
+// Why a message is refused: one of its entries is no PGN, of this number from 1; a PGN is absent from a list; or otherwise.
+#[derive(Clone, Copy, Debug, PartialEq, Eq)]
+pub enum Denied {
+    WrongEntry(usize),
+    Absent(Absent),
+    Refused(Refusal),
+}
+
+// What came of a message, and what was written to the reply buffer: the PGN and the length, 0 and 0 for nothing.
+// PGN and length are of two widths, so that no two are neighbours that the compiler would read as one word: two stores have written it, and the processor
+// would wait for both. The outcome stands first, since a gap before it would be copied with it.
+#[derive(Clone, Copy, Debug, PartialEq, Eq)]
 pub struct MessageAnswer {
-    pub told: Absent,
+    pub outcome: Result<(), Denied>,
     pub pgn: u32,
-    pub refusal: u32,
-    pub length: u32,
+    pub length: usize,
 }
 
 // The PGN of a reply, and of an acknowledgment.
@@ -43,57 +53,113 @@ const PAIR_PARAMETER_REPLY: u8 = 132;
 
 const NO_PAIR: u8 = 0xFF;
 
-fn nothing_told() -> Absent
-    ensures { result ≡ nothing_told }
-{
-    Absent {
-        entry: 0,
-        to: 0,
-        pgn: 0,
+// What is told where no entry is wrong: 0 throughout.
+const NOTHING_TOLD: Absent = Absent {
+    entry: 0,
+    to: 0,
+    pgn: 0,
+};
+
+impl From<Wrong> for Denied {
+    ghost from_gives = { λ wrong denied. denied ≡ denied_by wrong };
+
+    fn from(wrong: Wrong) -> Denied {
+        match wrong {
+            Wrong::Entry(entry) => Denied::WrongEntry(entry),
+            Wrong::Refused(refusal) => Denied::Refused(refusal),
+        }
     }
 }
 
-// What is told of a payload that is refused: with 22 which entry is wrong.
-fn wrong_told(entry: usize) -> Absent
-    ensures { result ≡ wrong_told entry }
-{
-    Absent {
-        entry,
-        to: 0,
-        pgn: 0,
+impl MessageAnswer {
+    // The answer to a message that is refused before its payload is read: nothing is written.
+    pub fn refused(refusal: Refusal) -> MessageAnswer
+        ensures { message_told result ≡ record { refusal = number refusal; pgn = 0; length = 0; told = nothing_told } }
+    {
+        MessageAnswer {
+            outcome: Err(Denied::Refused(refusal)),
+            pgn: 0,
+            length: 0,
+        }
+    }
+
+    // The number of the refusal for an interface of numbers, 0 for none.
+    pub fn number(self) -> u32
+        ensures { result ≡ (message_told self).refusal }
+    {
+        match self.outcome {
+            Ok(()) => 0,
+            Err(Denied::WrongEntry(_)) => Refusal::WrongEntry.number(),
+            Err(Denied::Absent(_)) => Refusal::Absent.number(),
+            Err(Denied::Refused(refusal)) => refusal.number(),
+        }
+    }
+
+    // Which entry is wrong, for an interface of numbers: with 22 its number alone, with 17 where the PGN is absent, else 0 throughout.
+    pub fn told(self) -> Absent
+        ensures { result ≡ (message_told self).told }
+    {
+        match self.outcome {
+            Err(Denied::WrongEntry(entry)) => Absent {
+                entry,
+                to: 0,
+                pgn: 0,
+            },
+            Err(Denied::Absent(absent)) => absent,
+            _ => NOTHING_TOLD,
+        }
     }
 }
 
-// What is told of a command that the lists refuse: with 17 where a PGN is absent.
-fn absent_told(
+// Why a command is refused, with where a PGN is absent.
+fn denied_by_lists(
     words: &[u64],
     ports: usize,
-    number: u32,
+    refusal: Refusal,
     from: u32,
     to: u32,
     entries: &[u8],
-) -> Absent
+) -> Denied
     requires { (ports ≤ 8) × (length words.now ≡ record_length ports) × (1 ≤ from) × (from ≤ ports) }
-    ensures { (number ≡ 17 → any_named ports (ports - 1) (holds_of Question.Lacks (entries_of entries.now)) from to (model_of ports words.now).rest.pairs ≡ true) → result ≡ absent_told ports number (entries_of entries.now) from to (model_of ports words.now).rest.pairs }
+    ensures number { denied_number result ≡ number refusal }
+    ensures told { (number refusal ≡ 17 → any_named ports (ports - 1) (holds_of Question.Lacks (entries_of entries.now)) from to (model_of ports words.now).rest.pairs ≡ true) → denied_told result ≡ absent_told ports (number refusal) (entries_of entries.now) from to (model_of ports words.now).rest.pairs }
 {
-    if number == 17 {
-        return list_commands::where_absent(words, ports, from, to, entries);
+    if refusal == Refusal::Absent {
+        if let Some(absent) = list_commands::where_absent(words, ports, from, to, entries) {
+            return Denied::Absent(absent);
+        }
     }
-    nothing_told()
+    Denied::Refused(refusal)
 }
 
-// Acknowledges a command, by the number that refuses it, or 0.
-fn tell(reply: &mut [u8], number: u32, function: u8, requester: u32, told: Absent) -> MessageAnswer
+// Acknowledges a command that is done or refused.
+fn acknowledge(
+    reply: &mut [u8],
+    outcome: Result<(), Denied>,
+    function: u8,
+    requester: u32,
+) -> MessageAnswer
     requires { (longest ≤ length reply.old) × (requester < 254) }
-    ensures { Telling reply.old reply.new number function requester told result }
+    ensures { Telling reply.old reply.new (outcome_number outcome) function requester (outcome_told outcome) (message_told result) }
 {
-    let control = replies::control(number);
-    replies::acknowledge(reply, control, function, requester as u8);
-    MessageAnswer {
-        refusal: number,
+    let answer = MessageAnswer {
+        outcome,
         pgn: ACKNOWLEDGMENT,
         length: 8,
-        told,
+    };
+    let control = replies::control(answer.number());
+    replies::acknowledge(reply, control, function, requester as u8);
+    answer
+}
+
+// The answer to a message that is replied to.
+fn replied(length: usize) -> MessageAnswer
+    ensures { message_told result ≡ record { refusal = 0; pgn = 60672; length = length; told = nothing_told } }
+{
+    MessageAnswer {
+        outcome: Ok(()),
+        pgn: REPLY,
+        length,
     }
 }
 
@@ -111,11 +177,14 @@ fn change(
     reply: &mut [u8],
 ) -> MessageAnswer
     requires { (ports ≤ 8) × (length words.old ≡ record_length ports) × (longest ≤ length reply.old) × (requester < 254) × (1 ≤ from) × (from ≤ ports) × (start ≤ end) × (end ≤ length payload.now) × (8 ≤ length payload.now) }
-    ensures { Replying ports words.old words.new reply.old reply.new (changed_by ports (model_of ports words.old).rest requester payload.now what from to start end) (Beside ports from to) result }
+    ensures { Replying ports words.old words.new reply.old reply.new (changed_by ports (model_of ports words.old).rest requester payload.now what from to start end) (Beside ports from to) (message_told result) }
 {
-    let number = list_commands::command(words, ports, from, to, what, &payload[start..end]);
-    let told = absent_told(words, ports, number, from, to, &payload[start..end]);
-    tell(reply, number, payload[0], requester, told)
+    let entries = &payload[start..end];
+    let outcome = match list_commands::command(words, ports, from, to, what, entries) {
+        Ok(()) => Ok(()),
+        Err(refusal) => Err(denied_by_lists(words, ports, refusal, from, to, entries)),
+    };
+    acknowledge(reply, outcome, payload[0], requester)
 }
 
 // Clears the pairs from a port that are named, and acknowledges it.
@@ -129,10 +198,10 @@ fn clear(
     reply: &mut [u8],
 ) -> MessageAnswer
     requires { (ports ≤ 8) × (length words.old ≡ record_length ports) × (longest ≤ length reply.old) × (requester < 254) × (1 ≤ from) × (from ≤ ports) × (8 ≤ length payload.now) }
-    ensures { Replying ports words.old words.new reply.old reply.new (cleared_by ports (model_of ports words.old).rest requester payload.now from to) (Beside ports from to) result }
+    ensures { Replying ports words.old words.new reply.old reply.new (cleared_by ports (model_of ports words.old).rest requester payload.now from to) (Beside ports from to) (message_told result) }
 {
     list_commands::clear(words, ports, from, to);
-    tell(reply, 0, payload[0], requester, nothing_told())
+    acknowledge(reply, Ok(()), payload[0], requester)
 }
 
 // Reports a pair's list.
@@ -145,7 +214,7 @@ fn report(
     reply: &mut [u8],
 ) -> MessageAnswer
     requires { (ports ≤ 8) × (length words.now ≡ record_length ports) × (longest ≤ length reply.old) × (1 ≤ from) × (from ≤ ports) × (1 ≤ to) × (to ≤ ports) × (from ≡ to → ⊥) }
-    ensures { Reporting (list_reply pair (get_or (model_of ports words.now).rest.pairs (pair_at ports (from - 1) (to - 1)) clear)) reply.old reply.new result }
+    ensures { Reporting (list_reply pair (get_or (model_of ports words.now).rest.pairs (pair_at ports (from - 1) (to - 1)) clear)) reply.old reply.new (message_told result) }
 {
     let n = record::reply_list(
         words,
@@ -155,27 +224,17 @@ fn report(
         pair,
         reply,
     );
-    MessageAnswer {
-        refusal: 0,
-        pgn: REPLY,
-        length: n as u32,
-        told: nothing_told(),
-    }
+    replied(n)
 }
 
 // Reports the addresses on a port.
 fn report_addresses(words: &[u64], port: u32, reply: &mut [u8]) -> MessageAnswer
     requires { (rows_from ≤ length words.now) × (longest ≤ length reply.old) × (port ≤ 8) }
-    ensures { (ports : ℕ) → Reporting (address_reply port (model_of ports words.now).rest.own.address (model_of ports words.now).rest.table) reply.old reply.new result }
+    ensures { (ports : ℕ) → Reporting (address_reply port (model_of ports words.now).rest.own.address (model_of ports words.now).rest.table) reply.old reply.new (message_told result) }
 {
     let unit = unit::read_unit(words);
     let n = record::reply_addresses(words, port, unit.address as usize, reply);
-    MessageAnswer {
-        refusal: 0,
-        pgn: REPLY,
-        length: n as u32,
-        told: nothing_told(),
-    }
+    replied(n)
 }
 
 // Reports a parameter, of the unit as a whole or of a pair.
@@ -187,21 +246,16 @@ fn report_value(
     value: u32,
 ) -> MessageAnswer
     requires { (longest ≤ length reply.old) × (is_held parameter ≡ true) }
-    ensures { Reporting (parameter_reply function named parameter value) reply.old reply.new result }
+    ensures { Reporting (parameter_reply function named parameter value) reply.old reply.new (message_told result) }
 {
     let n = replies::reply_parameter(reply, function, named, parameter as u8, value);
-    MessageAnswer {
-        refusal: 0,
-        pgn: REPLY,
-        length: n as u32,
-        told: nothing_told(),
-    }
+    replied(n)
 }
 
 // Reports a parameter of the unit as a whole.
 fn report_general(words: &[u64], ports: usize, parameter: u32, reply: &mut [u8]) -> MessageAnswer
     requires { (1 ≤ ports) × (ports ≤ 8) × (length words.now ≡ record_length ports) × (longest ≤ length reply.old) × (is_held parameter ≡ true) }
-    ensures { Reporting (parameter_reply 129 0xFF parameter (general_parameter ports (model_of ports words.now).rest (model_of ports words.now).seen parameter)) reply.old reply.new result }
+    ensures { Reporting (parameter_reply 129 0xFF parameter (general_parameter ports (model_of ports words.now).rest (model_of ports words.now).seen parameter)) reply.old reply.new (message_told result) }
 {
     let value = parameters::of_unit(words, ports, parameter);
     report_value(reply, GENERAL_PARAMETER_REPLY, NO_PAIR, parameter, value)
@@ -218,7 +272,7 @@ fn report_pair(
     reply: &mut [u8],
 ) -> MessageAnswer
     requires { (ports ≤ 8) × (length words.now ≡ record_length ports) × (longest ≤ length reply.old) × (1 ≤ from) × (from ≤ ports) × (1 ≤ to) × (to ≤ ports) × (from ≡ to → ⊥) × (is_held parameter ≡ true) }
-    ensures { Reporting (parameter_reply 132 pair parameter (pair_parameter ports (model_of ports words.now).rest (model_of ports words.now).seen (from - 1) (to - 1) parameter)) reply.old reply.new result }
+    ensures { Reporting (parameter_reply 132 pair parameter (pair_parameter ports (model_of ports words.now).rest (model_of ports words.now).seen (from - 1) (to - 1) parameter)) reply.old reply.new (message_told result) }
 {
     let value = parameters::of_pair(words, ports, from as usize - 1, to as usize - 1, parameter);
     report_value(reply, PAIR_PARAMETER_REPLY, pair, parameter, value)
@@ -233,11 +287,11 @@ fn reset_general(
     reply: &mut [u8],
 ) -> MessageAnswer
     requires { (1 ≤ ports) × (ports ≤ 8) × (length words.old ≡ record_length ports) × (longest ≤ length reply.old) × (requester < 254) × (8 ≤ length payload.now) }
-    ensures { Replying ports words.old words.new reply.old reply.new (reset_at (general_at ports) requester payload.now (model_of ports words.old).rest.pairs) (λ n. n ≡ losses_from ports + general_at ports → ⊥) result }
+    ensures { Replying ports words.old words.new reply.old reply.new (reset_at (general_at ports) requester payload.now (model_of ports words.old).rest.pairs) (λ n. n ≡ losses_from ports + general_at ports → ⊥) (message_told result) }
 {
     let counter = record::general_at(ports);
     record::reset_losses(words, ports, counter);
-    tell(reply, 0, payload[0], requester, nothing_told())
+    acknowledge(reply, Ok(()), payload[0], requester)
 }
 
 // Resets the counter of a pair, and acknowledges it.
@@ -251,62 +305,52 @@ fn reset_pair(
     reply: &mut [u8],
 ) -> MessageAnswer
     requires { (ports ≤ 8) × (length words.old ≡ record_length ports) × (longest ≤ length reply.old) × (requester < 254) × (8 ≤ length payload.now) × (1 ≤ from) × (from ≤ ports) × (1 ≤ to) × (to ≤ ports) × (from ≡ to → ⊥) }
-    ensures { Replying ports words.old words.new reply.old reply.new (reset_at (pair_at ports (from - 1) (to - 1)) requester payload.now (model_of ports words.old).rest.pairs) (λ n. n ≡ losses_from ports + pair_at ports (from - 1) (to - 1) → ⊥) result }
+    ensures { Replying ports words.old words.new reply.old reply.new (reset_at (pair_at ports (from - 1) (to - 1)) requester payload.now (model_of ports words.old).rest.pairs) (λ n. n ≡ losses_from ports + pair_at ports (from - 1) (to - 1) → ⊥) (message_told result) }
 {
     let counter = record::pair_at(ports, from as usize - 1, to as usize - 1);
     record::reset_losses(words, ports, counter);
-    tell(reply, 0, payload[0], requester, nothing_told())
-}
-
-// The refusal of a payload is acknowledged.
-fn refuse(
-    reply: &mut [u8],
-    number: u32,
-    entry: usize,
-    function: u8,
-    requester: u32,
-) -> MessageAnswer
-    requires { (longest ≤ length reply.old) × (requester < 254) }
-    ensures { Telling reply.old reply.new number function requester (wrong_told entry) result }
-{
-    let told = wrong_told(entry);
-    tell(reply, number, function, requester, told)
+    acknowledge(reply, Ok(()), payload[0], requester)
 }
 
 // What a payload asks is done and answered, or its refusal acknowledged.
+#[tactic(auto, unfolding(crate::specs::Messages::performed_by))]
 pub fn perform(
     words: &mut [u64],
     ports: usize,
     requester: u32,
     payload: &[u8],
-    command: Command,
+    command: Result<Command, Wrong>,
     reply: &mut [u8],
 ) -> MessageAnswer
-    requires { (ports ≤ 8) × (length words.old ≡ record_length ports) × (longest ≤ length reply.old) × (requester < 254) × (8 ≤ length payload.now) × Good ports payload.now command × (1 ≤ ports) }
-    ensures { Replying ports words.old words.new reply.old reply.new (performed_by ports (model_of ports words.old).rest requester payload.now command) (Untouched ports command) result }
+    requires { (ports ≤ 8) × (length words.old ≡ record_length ports) × (longest ≤ length reply.old) × (requester < 254) × (8 ≤ length payload.now) × Good ports payload.now (asked command) × (1 ≤ ports) }
+    ensures { Replying ports words.old words.new reply.old reply.new (performed_by ports (model_of ports words.old).rest requester payload.now (asked command)) (Untouched ports (asked command)) (message_told result) }
 {
     match command {
-        Command::Refused { number, entry } => refuse(reply, number, entry, payload[0], requester),
-        Command::Request { from, to } => report(words, ports, from, to, payload[1], reply),
-        Command::WithEntries {
-            change: what,
-            from,
-            to,
-            start,
-            end,
-        } => change(
+        Err(wrong) => acknowledge(reply, Err(wrong.into()), payload[0], requester),
+        Ok(Command::Request { from, to }) => report(words, ports, from, to, payload[1], reply),
+        Ok(
+            Command::WithEntries {
+                change: what,
+                from,
+                to,
+                start,
+                end,
+            },
+        ) => change(
             words, ports, requester, payload, what, from, to, start, end, reply,
         ),
-        Command::Clear { from, to } => clear(words, ports, requester, payload, from, to, reply),
-        Command::AddressList { port } => report_addresses(words, port, reply),
-        Command::Parameter { parameter } => report_general(words, ports, parameter, reply),
-        Command::Reset => reset_general(words, ports, requester, payload, reply),
-        Command::PairParameter {
-            from,
-            to,
-            parameter,
-        } => report_pair(words, ports, from, to, parameter, payload[1], reply),
-        Command::PairReset { from, to } => reset_pair(
+        Ok(Command::Clear { from, to }) => clear(words, ports, requester, payload, from, to, reply),
+        Ok(Command::AddressList { port }) => report_addresses(words, port, reply),
+        Ok(Command::Parameter { parameter }) => report_general(words, ports, parameter, reply),
+        Ok(Command::Reset) => reset_general(words, ports, requester, payload, reply),
+        Ok(
+            Command::PairParameter {
+                from,
+                to,
+                parameter,
+            },
+        ) => report_pair(words, ports, from, to, parameter, payload[1], reply),
+        Ok(Command::PairReset { from, to }) => reset_pair(
             words, ports, requester, payload, from, to, reply,
         ),
     }

@@ -1,72 +1,11 @@
--- The search for an entry that is there, and an entry put behind the others. Assumes nothing.
+-- An entry put behind the others. Assumes nothing.
 use mathlib.Core.Path.{◌≡◌, refl, sym, ap, ◌∙◌}
-use mathlib.Core.Bool.{Bool, true, false, ◌||◌}
 use mathlib.Core.List.{List, [], ◌∷◌, ◌++◌}
-use Prim.Native.Nat.{ℕ, zero, suc, ◌+◌, ◌-◌, ◌*◌, ◌≤◌, ◌<◌, min}
+use Prim.Native.Nat.{ℕ, zero, suc, ◌+◌, ◌*◌, ◌≤◌, ◌<◌, min}
 use native.Mathlib.Omega.{arith}
-use borrow.Author.Tests.{eq-eqb, ne_eqb}
-use lib.Dec.{eqb}
 use lib.ListN.{length, get_or, drop, set, length-set}
-use lib.Seq.{get_or-drop, drop-drop, get_or-set_same, get_or-set_other}
-use Rattle.name_entries.specs.NameEntries.{NameEntry, is_same, is_there, most_names, names_length, entry_at, entries_in, names_of, Appending}
-
--- ---- one entry
-module _ (words : List ℕ) (at pgn name mask : ℕ) where
-  abbrev sought : NameEntry
-  sought = record { pgn = pgn; name = name; mask = mask }
-
-  pub other_pgn : (get_or words at 0 ≡ pgn → ⊥) → false ≡ is_same sought (entry_at words at)
-  unfolding is_same
-  other_pgn ne = rw (ne_eqb (get_or words at 0) pgn ne)
-
-  module _ (same : get_or words at 0 ≡ pgn) where
-    pub other_name : (get_or words (at + 1) 0 ≡ name → ⊥) → false ≡ is_same sought (entry_at words at)
-    unfolding is_same
-    other_name ne = rw (eq-eqb (get_or words at 0) pgn same, ne_eqb (get_or words (at + 1) 0) name ne)
-
-    pub by_mask : get_or words (at + 1) 0 ≡ name → eqb (get_or words (at + 2) 0) mask ≡ is_same sought (entry_at words at)
-    unfolding is_same
-    by_mask e = rw (eq-eqb (get_or words at 0) pgn same, eq-eqb (get_or words (at + 1) 0) name e)
-
--- ---- the search
-abbrev rest : List ℕ → NameEntry → ℕ → ℕ → Bool
-rest block e n i = is_there e (entries_in (n - i) (drop (1 + 3 * i) block))
-
--- the first of those that are left
-one : (words : List ℕ) (e : NameEntry) (k a : ℕ)
-    → is_there e (entries_in (suc k) (drop a words)) ≡ (is_same e (entry_at words a) || is_there e (entries_in k (drop (a + 3) words)))
-unfolding is_there entries_in
-one words e k a =
-    let z : a + 0 ≡ a = omega arith in
-    rw (get_or-drop a words 0 0, get_or-drop a words 1 0, get_or-drop a words 2 0, drop-drop 3 a words, z)
-
-pub record Seeking (block : List ℕ) (n : ℕ) (e : NameEntry) (i : ℕ) : Type 0 where
-  pub value : is_there e (entries_in n (drop 1 block)) ≡ rest block e n i
-  pub inside : i ≤ n
-
-pub start : (block : List ℕ) (n : ℕ) (e : NameEntry) → Seeking block n e 0
-start block n e = record { value = begin; inside = omega arith }
-  where
-    begin : is_there e (entries_in n (drop 1 block)) ≡ rest block e n 0
-    begin = let k : n - 0 ≡ n = omega arith in let d : 1 + 3 * 0 ≡ 1 = omega arith in rw (k, d)
-
-module _ {block : List ℕ} {n : ℕ} {e : NameEntry} {i : ℕ} (S : Seeking block n e i) where
-  module _ (turn : i < n) where
-    left : rest block e n i ≡ (is_same e (entry_at block (1 + 3 * i)) || rest block e n (i + 1))
-    left =
-        let k : n - i ≡ suc (n - (i + 1)) = omega arith in
-        let d : 1 + 3 * i + 3 ≡ 1 + 3 * (i + 1) = omega arith in
-        rw k (one block e (n - (i + 1)) (1 + 3 * i) ∙ rw d)
-
-    pub other : is_same e (entry_at block (1 + 3 * i)) ≡ false → Seeking block n e (i + 1)
-    other f = record { value = S.value ∙ rw f at left; inside = omega arith }
-
-    pub found : is_same e (entry_at block (1 + 3 * i)) ≡ true → true ≡ is_there e (entries_in n (drop 1 block))
-    found h = sym (S.value ∙ rw h at left)
-
-  pub done : n ≤ i → false ≡ is_there e (entries_in n (drop 1 block))
-  unfolding is_there entries_in
-  done h = let k : n - i ≡ 0 = omega arith in sym (S.value ∙ rw k)
+use lib.Seq.{get_or-drop, get_or-set_same, get_or-set_other}
+use Rattle.name_entries.specs.NameEntries.{NameEntry, most_names, names_length, entry_at, entries_in, names_of, Appending}
 
 -- ---- an entry behind the first n
 -- n entries are their first words

@@ -1,82 +1,81 @@
--- The search for an entry that matches. Assumes nothing.
-use mathlib.Core.Path.{◌≡◌, refl, sym, ap, ◌∙◌}
-use mathlib.Core.Bool.{Bool, true, false, cond, ◌||◌}
-use mathlib.Core.Option.{none, some}
+-- The search for an entry that matches, among entries that are chunks of three words. Assumes nothing.
+use mathlib.Core.Path.{◌≡◌, refl, sym, ap}
+use mathlib.Core.Bool.{Bool, true, false, cond, not, ◌||◌}
+use Rattle.std.specs.Prelude.{None, Some, map, position}
+use Rattle.std.specs.List.{list_any, position_or_len}
+use Rattle.std.specs.Simd.{first_chunks}
 use mathlib.Core.List.{List, [], ◌∷◌}
-use Prim.Native.Nat.{ℕ, zero, suc, ◌+◌, ◌-◌, ◌*◌, ◌≤◌, ◌<◌, min}
+use Prim.Native.Nat.{ℕ, zero, suc, ◌+◌, ◌≤◌, ◌<◌, min}
 use native.Mathlib.Omega.{arith}
-use borrow.Author.Tests.{eq-eqb, ne_eqb}
-use lib.ListN.{length, get_or, drop}
-use lib.Seq.{get_or-drop, drop-drop}
-use Rattle.name_entries.specs.NameEntries.{NameEntry, agrees, matches, entry_at, entries_in, first_match, any_match, place_in, names_of, most_names, Searching}
+use borrow.Author.Tests.{ltb-true, ltb-false}
+use lib.Dec.{ltb}
+use lib.ListN.{length, get_or, take, drop}
+use lib.Seq.{get_or-take}
+use Rattle.name_entries.specs.NameEntries.{NameEntry, matches, is_same, is_there, entry_at, entries_in, any_match, place_in, names_of, most_names, Searching}
 
-abbrev pub rest : List ℕ → ℕ → ℕ → ℕ → ℕ → ℕ
-rest block pgn name n i = first_match pgn name (entries_in (n - i) (drop (1 + 3 * i) block))
+-- ---- the first n chunks of three words are n entries
+front : (words : List ℕ) (i : ℕ) → i < 3 → get_or (take 3 words) i 0 ≡ get_or words i 0
+front words i h = get_or-take 3 words i 0 h
 
--- the first of those that are left
-one : (words : List ℕ) (pgn name k a : ℕ)
-    → first_match pgn name (entries_in (suc k) (drop a words))
-    ≡ cond (matches pgn name (entry_at words a)) 0 (suc (first_match pgn name (entries_in k (drop (a + 3) words))))
-unfolding first_match entries_in
-one words pgn name k a =
-    let z : a + 0 ≡ a = omega arith in
-    rw (get_or-drop a words 0 0, get_or-drop a words 1 0, get_or-drop a words 2 0, drop-drop 3 a words, z)
+pub chunks_are : (n k : ℕ) (words : List ℕ) → n ≤ k → map (λ entry. entry_at entry 0) (take n (first_chunks 3 k words)) ≡ entries_in n words
+unfolding entries_in
+chunks_are zero k words h = refl
+chunks_are (suc n) zero words h = absurd (omega arith)
+chunks_are (suc n) (suc k) words h =
+    rw (front words 0 (omega arith), front words 1 (omega arith), front words 2 (omega arith))
+    (ap {B = List NameEntry} (λ es. record { pgn = get_or words 0 0; name = get_or words 1 0; mask = get_or words 2 0 } ∷ es) (chunks_are n k (drop 3 words) (omega arith)))
 
-pub record Going (block : List ℕ) (n pgn name i : ℕ) : Type 0 where
-  pub value : first_match pgn name (entries_in n (drop 1 block)) ≡ i + rest block pgn name n i
-  pub inside : i ≤ n
+-- ---- one that is the same
+pub there : (e : NameEntry) (es : List (List ℕ)) → list_any (λ entry. is_same e (entry_at entry 0)) es ≡ is_there e (map (λ entry. entry_at entry 0) es)
+unfolding is_there
+there e [] = refl
+there e (d ∷ ds) = ap (λ b. is_same e (entry_at d 0) || b) (there e ds)
 
-pub start : (block : List ℕ) (n pgn name : ℕ) → Going block n pgn name 0
-start block n pgn name = record { value = begin; inside = omega arith }
-  where
-    begin : first_match pgn name (entries_in n (drop 1 block)) ≡ 0 + rest block pgn name n 0
-    begin = let e : n - 0 ≡ n = omega arith in let d : 1 + 3 * 0 ≡ 1 = omega arith in rw (e, d) (omega arith)
+-- ---- a place, or none
+module _ {A : Type 0} (test : A → Bool) (xs : List A) where
+  some_at : {i : ℕ} → position test xs ≡ Some i → (i ≡ position_or_len test xs) × (i < length xs)
+  some_at {i} e = go (ltb (position_or_len test xs) (length xs)) refl e
+    where
+      go : (b : Bool) → ltb (position_or_len test xs) (length xs) ≡ b → cond b (Some (position_or_len test xs)) None ≡ Some i → (i ≡ position_or_len test xs) × (i < length xs)
+      go true h e = let q : position_or_len test xs ≡ i = cc in (sym q, omega (arith, q, ltb-true (position_or_len test xs) (length xs) h))
+      go false h e = let z : ◌≡◌ {A = ℕ} 0 1 = cc in absurd (omega arith)
 
-module _ {block : List ℕ} {n pgn name i : ℕ} (G : Going block n pgn name i) where
-  module _ (turn : i < n) where
-    left : rest block pgn name n i
-        ≡ cond (matches pgn name (entry_at block (1 + 3 * i))) 0 (suc (rest block pgn name n (i + 1)))
-    left =
-        let e : n - i ≡ suc (n - (i + 1)) = omega arith in
-        let d : 1 + 3 * i + 3 ≡ 1 + 3 * (i + 1) = omega arith in
-        rw e (one block pgn name (n - (i + 1)) (1 + 3 * i) ∙ rw d)
+  none_at : position test xs ≡ None → length xs ≤ position_or_len test xs
+  none_at e = go (ltb (position_or_len test xs) (length xs)) refl e
+    where
+      go : (b : Bool) → ltb (position_or_len test xs) (length xs) ≡ b → cond b (Some (position_or_len test xs)) None ≡ None → length xs ≤ position_or_len test xs
+      go true h e = let z : ◌≡◌ {A = ℕ} 0 1 = cc in absurd (omega arith)
+      go false h e = omega (arith, ltb-false (position_or_len test xs) (length xs) h)
 
-    pub other : matches pgn name (entry_at block (1 + 3 * i)) ≡ false → Going block n pgn name (i + 1)
-    other f = record { value = omega (arith, G.value, rw f at left); inside = omega arith }
+-- ---- what the place says
+module _ (pgn name : ℕ) where
+  abbrev test : List ℕ → Bool
+  test entry = matches pgn name (entry_at entry 0)
 
-    pub found : matches pgn name (entry_at block (1 + 3 * i)) ≡ true → (i ≡ first_match pgn name (entries_in n (drop 1 block))) × (i ≤ n)
-    found h = (omega (arith, G.value, rw h at left), omega arith)
+  abbrev meant : List (List ℕ) → List NameEntry
+  meant es = map (λ entry. entry_at entry 0) es
 
-  pub done : n ≤ i → (n ≡ first_match pgn name (entries_in n (drop 1 block))) × (n ≤ n)
-  unfolding first_match entries_in
-  done h =
-      let e : n - i ≡ 0 = omega arith in
-      (omega (arith, G.value, G.inside, rw e at G.value), omega arith)
+  place_match : (es : List (List ℕ)) → position_or_len test es < length es → (any_match pgn name (meant es) ≡ true) × (place_in pgn name (meant es) ≡ position_or_len test es + 1)
+  unfolding any_match place_in
+  place_match [] h = absurd (omega arith)
+  place_match (e ∷ es) h = go (test e) h (place_match es)
+    where
+      go : (b : Bool) → cond (not b) (1 + position_or_len test es) 0 < suc (length es)
+          → (position_or_len test es < length es → (any_match pgn name (meant es) ≡ true) × (place_in pgn name (meant es) ≡ position_or_len test es + 1))
+          → ((b || any_match pgn name (meant es)) ≡ true) × (cond b 1 (suc (place_in pgn name (meant es))) ≡ cond (not b) (1 + position_or_len test es) 0 + 1)
+      go true h ih = (refl, omega arith)
+      go false h ih = let r = ih (omega arith) in (r.0, omega (arith, r.1))
 
--- ---- what the index says
-index_match : (pgn name : ℕ) (es : List NameEntry) → first_match pgn name es < length es
-    → (any_match pgn name es ≡ true) × (place_in pgn name es ≡ first_match pgn name es + 1)
-unfolding first_match any_match place_in
-index_match pgn name [] h = absurd (omega arith)
-index_match pgn name (e ∷ es) h = go (matches pgn name e) h (index_match pgn name es)
-  where
-    go : (b : Bool) → cond b 0 (suc (first_match pgn name es)) < suc (length es)
-        → (first_match pgn name es < length es → (any_match pgn name es ≡ true) × (place_in pgn name es ≡ first_match pgn name es + 1))
-        → ((b || any_match pgn name es) ≡ true) × (cond b 1 (suc (place_in pgn name es)) ≡ cond b 0 (suc (first_match pgn name es)) + 1)
-    go true h ih = (refl, omega arith)
-    go false h ih = let r = ih (omega arith) in (r.0, omega (arith, r.1))
-
-index_none : (pgn name : ℕ) (es : List NameEntry) → length es ≤ first_match pgn name es
-    → (any_match pgn name es ≡ false) × (place_in pgn name es ≡ length es)
-unfolding first_match any_match place_in
-index_none pgn name [] h = (refl, refl)
-index_none pgn name (e ∷ es) h = go (matches pgn name e) h (index_none pgn name es)
-  where
-    go : (b : Bool) → suc (length es) ≤ cond b 0 (suc (first_match pgn name es))
-        → (length es ≤ first_match pgn name es → (any_match pgn name es ≡ false) × (place_in pgn name es ≡ length es))
-        → ((b || any_match pgn name es) ≡ false) × (cond b 1 (suc (place_in pgn name es)) ≡ suc (length es))
-    go true h ih = absurd (omega arith)
-    go false h ih = let r = ih (omega arith) in (r.0, omega (arith, r.1))
+  place_none : (es : List (List ℕ)) → length es ≤ position_or_len test es → (any_match pgn name (meant es) ≡ false) × (place_in pgn name (meant es) ≡ length es)
+  unfolding any_match place_in
+  place_none [] h = (refl, refl)
+  place_none (e ∷ es) h = go (test e) h (place_none es)
+    where
+      go : (b : Bool) → suc (length es) ≤ cond (not b) (1 + position_or_len test es) 0
+          → (length es ≤ position_or_len test es → (any_match pgn name (meant es) ≡ false) × (place_in pgn name (meant es) ≡ length es))
+          → ((b || any_match pgn name (meant es)) ≡ false) × (cond b 1 (suc (place_in pgn name (meant es))) ≡ suc (length es))
+      go true h ih = absurd (omega arith)
+      go false h ih = let r = ih (omega arith) in (r.0, omega (arith, r.1))
 
 length_in : (n : ℕ) (words : List ℕ) → length (entries_in n words) ≡ n
 unfolding entries_in
@@ -92,29 +91,17 @@ module _ (words : List ℕ) {n : ℕ} (count : n ≡ min (get_or words 0 0) most
   unfolding names_of
   names_are = rw count
 
-  pub search_none : {pgn : ℕ} → Searching words pgn none false n
+  pub search_none : {pgn : ℕ} → Searching words pgn None false n
   search_none = record { answer = refl; count = sym as_many; small = omega (arith, count) }
 
-  module _ {pgn name i : ℕ} (e : i ≡ first_match pgn name (entries_in n (drop 1 words))) where
-    pub search_found : i < n → Searching words pgn (some name) true (i + 1)
-    search_found h =
-        let f : i ≡ first_match pgn name (names_of words) = e ∙ rw names_are in
-        let r = index_match pgn name (names_of words) (omega (arith, f, as_many)) in
-        record { answer = sym r.0; count = omega (arith, r.1, f); small = omega (arith, count) }
+  module _ {pgn name : ℕ} (es : List (List ℕ)) (are : map (λ entry. entry_at entry 0) es ≡ entries_in n (drop 1 words)) (long : length es ≡ n) where
+    pub search_found : {i : ℕ} → position (λ entry. matches pgn name (entry_at entry 0)) es ≡ Some i → Searching words pgn (Some name) true (i + 1)
+    search_found e =
+        let s = some_at (test pgn name) es e in
+        let r = rw (are, names_are) at (place_match pgn name es (omega (arith, s.0, s.1))) in
+        record { answer = sym r.0; count = omega (arith, r.1, s.0); small = omega (arith, count, s.1, long) }
 
-    pub search_past : n ≤ i → Searching words pgn (some name) false n
-    search_past h =
-        let f : i ≡ first_match pgn name (names_of words) = e ∙ rw names_are in
-        let r = index_none pgn name (names_of words) (omega (arith, f, as_many)) in
-        record { answer = sym r.0; count = omega (arith, r.1, as_many); small = omega (arith, count) }
-
--- one entry
-pub match_not : (words : List ℕ) (at pgn name : ℕ) → (get_or words at 0 ≡ pgn → ⊥)
-    → false ≡ matches pgn name (entry_at words at)
-unfolding matches
-match_not words at pgn name ne = rw (ne_eqb (get_or words at 0) pgn ne)
-
-pub match_as : (words : List ℕ) (at pgn name : ℕ) {r : Bool} → get_or words at 0 ≡ pgn
-    → r ≡ agrees (get_or words (at + 2) 0) (get_or words (at + 1) 0) name → r ≡ matches pgn name (entry_at words at)
-unfolding matches
-match_as words at pgn name e a = rw (eq-eqb (get_or words at 0) pgn e) a
+    pub search_past : position (λ entry. matches pgn name (entry_at entry 0)) es ≡ None → Searching words pgn (Some name) false n
+    search_past e =
+        let r = rw (are, names_are) at (place_none pgn name es (none_at (test pgn name) es e)) in
+        record { answer = sym r.0; count = omega (arith, r.1, long); small = omega (arith, count) }

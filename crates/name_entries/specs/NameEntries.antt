@@ -1,8 +1,6 @@
 -- Ticket 4, "filter by who sent it": the NAME entries of a pair, each a PGN, a NAME and a qualification mask, and which of them a frame matches.
 -- Assumes nothing.
-use Rattle.std.specs.Prelude.{ℕ, zero, suc, ◌+◌, ◌/◌, ◌%◌, ◌≤◌, min, Bool, true, false, cond, ◌&&◌, ◌||◌, ◌≡◌, List, [], ◌∷◌, ◌++◌, length, get_or, drop, eqb}
-use Rattle.std.proofs.Math.Option.{Option, none, some}
-use Rattle.name_entries.specs.declared.Sender.{Sender}
+use Rattle.std.specs.Prelude.{ℕ, zero, suc, ◌+◌, ◌/◌, ◌%◌, ◌≤◌, min, Bool, true, false, cond, ◌&&◌, ◌||◌, ◌≡◌, List, [], ◌∷◌, ◌++◌, length, get_or, drop, eqb, Option, None, Some}
 
 pub record NameEntry : Type 0 where
   pub pgn : ℕ
@@ -27,15 +25,10 @@ unfoldable pub any_match : ℕ → ℕ → List NameEntry → Bool
 any_match pgn name [] = false
 any_match pgn name (e ∷ es) = matches pgn name e || any_match pgn name es
 
--- the NAME that the address table gives the sender's address, if it gives one
-abbrev pub sender_of : Sender → Option ℕ
-sender_of Sender.Unknown = none
-sender_of (Sender.Known name) = some name
-
 -- whether an entry matches: none does where the sender is unknown, whatever its mask
 abbrev pub matched_by : ℕ → Option ℕ → List NameEntry → Bool
-matched_by pgn none es = false
-matched_by pgn (some name) es = any_match pgn name es
+matched_by pgn None es = false
+matched_by pgn (Some name) es = any_match pgn name es
 
 -- how many are compared: "up to the first match"
 unfoldable pub place_in : ℕ → ℕ → List NameEntry → ℕ
@@ -43,8 +36,8 @@ place_in pgn name [] = 0
 place_in pgn name (e ∷ es) = cond (matches pgn name e) 1 (suc (place_in pgn name es))
 
 abbrev pub place_of : ℕ → Option ℕ → List NameEntry → ℕ
-place_of pgn none es = length es
-place_of pgn (some name) es = place_in pgn name es
+place_of pgn None es = length es
+place_of pgn (Some name) es = place_in pgn name es
 
 -- ---- "one already there": PGN, NAME and mask equal
 unfoldable pub is_same : NameEntry → NameEntry → Bool
@@ -75,11 +68,6 @@ unfoldable pub names_of : List ℕ → List NameEntry
 names_of words = entries_in (min (get_or words 0 0) most_names) (drop 1 words)
 
 -- ---- the contracts
--- the index of the first match, or how many there are
-unfoldable pub first_match : ℕ → ℕ → List NameEntry → ℕ
-first_match pgn name [] = 0
-first_match pgn name (e ∷ es) = cond (matches pgn name e) 0 (suc (first_match pgn name es))
-
 -- a search in a block
 pub record Searching (words : List ℕ) (pgn : ℕ) (sender : Option ℕ) (found : Bool) (compared : ℕ) : Type 0 where
   pub answer : found ≡ matched_by pgn sender (names_of words)

@@ -7,7 +7,7 @@ use Rattle.storage.specs.Bytes.{packed}
 use Rattle.identifier.specs.Identifier.{is_pgn}
 use Rattle.entries.specs.Entries.{listed, entries_of, every, leading, first_wrong}
 use Rattle.filter_commands.specs.declared.pairs.Change.TheVariants.{Creates, Names}
-use Rattle.network_message.specs.declared.Command.TheVariants.{Refused, Request, WithEntries, Parameter, Reset, PairParameter, PairReset}
+use Rattle.network_message.specs.Asked.{Refused, Request, WithEntries, Parameter, Reset, PairParameter, PairReset}
 use Rattle.network_message.specs.Decoding.{name_of, mask_of, is_known, is_general, may_be_all, is_pair, names_ports, may_name, holds_parameter, is_filling, entries_end, holds_entries, has_good_body, wrong_in, wrong_entry, has_wrong_mode, refusal_of, judged, command_of, decoded}
 use Rattle.checks.specs.Ports.{is_port}
 

@@ -1,5 +1,5 @@
 -- the checks
-mod Keys
+mod Known
 mod Naming
 pub mod Passing
 -- what is decoded

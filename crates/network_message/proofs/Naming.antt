@@ -2,14 +2,12 @@
 use mathlib.Core.Path.{◌≡◌}
 use mathlib.Core.Bool.{Bool, true, false, cond, ◌&&◌, and-true}
 use mathlib.Core.List.{List}
-use Prim.Native.Nat.{ℕ, ◌+◌, ◌-◌, ◌≤◌, ◌<◌}
-use native.Mathlib.Numerals.{add-one}
+use Prim.Native.Nat.{ℕ, ◌+◌, ◌-◌, ◌≤◌}
 use native.Mathlib.Omega.{arith}
 use borrow.Author.Tests.{eq-eqb, ne_eqb}
 use lib.Dec.{eqb}
-use lib.ListN.{length, get_or, take, drop, length-drop}
-use lib.Seq.{take_all, drop-cons}
-use Rattle.entries.specs.Entries.{every}
+use lib.ListN.{length, take, drop, length-drop}
+use lib.Seq.{take_all}
 use Rattle.checks.proofs.Ports.{port_bounds}
 use Rattle.checks.specs.Ports.{is_port}
 use Rattle.network_message.specs.Decoding.{all_ports, may_be_all, is_pair, is_filling, entries_end}
@@ -22,11 +20,6 @@ pair_all ports function from to few f t e =
     rw (f, t, eq-eqb to all_ports e, ne_eqb from to (λ s. omega (arith, (port_bounds ports from f).1))) (and-true (may_be_all function))
 
 -- ---- where the entries end
--- bytes are filling one after the other
-pub filling_next : (bytes : List ℕ) (i : ℕ) → i < length bytes → is_filling (drop i bytes) ≡ (eqb (get_or bytes i 0) 0xFF && is_filling (drop (i + 1) bytes))
-unfolding is_filling every
-filling_next bytes i h = rw (add-one i, drop-cons bytes i 0 h)
-
 module _ (start : ℕ) (payload : List ℕ) where
   -- 8 bytes: what stands after the first entry decides
   pub end_eight : {b : Bool} → length payload ≡ 8 → b ≡ is_filling (take (length payload - (start + 3)) (drop (start + 3) payload)) → entries_end start payload ≡ cond b (start + 3) (length payload)

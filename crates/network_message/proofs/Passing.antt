@@ -7,8 +7,7 @@ use native.Mathlib.Omega.{arith}
 use borrow.Author.Tests.{ne_eqb, eqb-true, eqb-false}
 use lib.Dec.{eqb}
 use Rattle.entries.specs.Entries.{listed}
-use Rattle.network_message.specs.declared.Command.{Command}
-use Rattle.network_message.specs.declared.Command.TheVariants.{Refused, Request, WithEntries, Clear, AddressList, Parameter, Reset, PairParameter, PairReset}
+use Rattle.network_message.specs.Asked.{Asked, Refused, Request, WithEntries, Clear, AddressList, Parameter, Reset, PairParameter, PairReset}
 use Rattle.filter_commands.specs.declared.pairs.Change.TheVariants.{Adds, Deletes, Creates, Names}
 use Rattle.checks.specs.Checks.{acknowledges}
 use Rattle.network_message.specs.Decoding.{parameter_of, name_of, mask_of, is_known, names_ports, may_name, holds_parameter, entries_end, has_good_body, wrong_entry, payload_checks, refusal_of, judged, command_of, answered}
@@ -28,7 +27,7 @@ next true n h e = (refl, e)
 next false n h e = absurd (omega arith)
 
 -- ---- a choice, by its test
-choose : (P : Command → Type 0) (b : Bool) {x y : Command} → (b ≡ true → P x) → (b ≡ false → P y) → P (cond b x y)
+choose : (P : Asked → Type 0) (b : Bool) {x y : Asked} → (b ≡ true → P x) → (b ≡ false → P y) → P (cond b x y)
 choose P true this other = this refl
 choose P false this other = other refl
 
@@ -49,7 +48,7 @@ module _ (ports port function from to : ℕ) (payload : List ℕ) where
   told h = first_in acknowledges (payload_checks ports port function from to payload) refl h
 
   -- refused with a number that is acknowledged, or a command that has passed
-  pub answered_by : (Q : Command → Type 0) → ((n e : ℕ) → acknowledges n ≡ true → Q (Refused n e)) → (Passed ports port function from to payload → Q (command_of function from to payload)) → Q (answered (judged ports port function from to payload) (command_of function from to payload))
+  pub answered_by : (Q : Asked → Type 0) → ((n e : ℕ) → acknowledges n ≡ true → Q (Refused n e)) → (Passed ports port function from to payload → Q (command_of function from to payload)) → Q (answered (judged ports port function from to payload) (command_of function from to payload))
   unfolding judged
   answered_by Q refused command =
       let n = refusal_of ports port function from to payload in
@@ -73,7 +72,7 @@ last_known function known n0 n2 n3 n4 n6 n7 n64 n128 n130 n131 =
     only true e = refl
     only false e = e
 
-pub by_function : (P : Command → Type 0) (function from to : ℕ) (payload : List ℕ) → is_known function ≡ true
+pub by_function : (P : Asked → Type 0) (function from to : ℕ) (payload : List ℕ) → is_known function ≡ true
     → (function ≡ 0 → P (Request from to))
     → (function ≡ 2 → P (WithEntries Adds from to 2 (entries_end 2 payload)))
     → (function ≡ 3 → P (WithEntries Deletes from to 2 (entries_end 2 payload)))

@@ -2,8 +2,7 @@
 -- Assumes nothing.
 use Rattle.std.specs.Prelude.{Bool, true, cond, not, ◌&&◌, ◌⊎◌, ◌≡◌, List, ℕ, ◌≤◌, length, eqb}
 use Rattle.entries.specs.Entries.{well_formed}
-use Rattle.network_message.specs.declared.Command.{Command}
-use Rattle.network_message.specs.declared.Command.TheVariants.{Refused, Request, WithEntries, Clear, AddressList, Parameter, Reset, PairParameter, PairReset}
+use Rattle.network_message.specs.Asked.{Asked, Refused, Request, WithEntries, Clear, AddressList, Parameter, Reset, PairParameter, PairReset}
 use Rattle.checks.specs.Checks.{acknowledges}
 use Rattle.network_message.specs.Decoding.{all_ports, is_general, is_held, between}
 use Rattle.checks.specs.Ports.{is_port}
@@ -15,7 +14,7 @@ pub data Named : Type 0 where
   port : ℕ → Named
   whole : Named
 
-unfoldable pub named : Command → Named
+unfoldable pub named : Asked → Named
 named (Refused number entry) = none
 named (Request from to) = pairs from to
 named (WithEntries change from to start end) = pairs from to
@@ -53,7 +52,7 @@ pub record Holding (start end : ℕ) (payload : List ℕ) : Type 0 where
   pub inside : end ≤ length payload
   pub formed : well_formed (between start end payload) ≡ true
 
-abbrev pub Good : ℕ → List ℕ → Command → Type 0
+abbrev pub Good : ℕ → List ℕ → Asked → Type 0
 Good ports payload (Refused number entry) = acknowledges number ≡ true
 Good ports payload (Request from to) = Ports ports from to × (to ≤ ports)
 Good ports payload (WithEntries change from to start end) = Ports ports from to × Holding start end payload

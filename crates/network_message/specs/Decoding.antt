@@ -2,11 +2,10 @@
 -- counted from 1 here, as on the wire.
 -- Assumes nothing.
 use Rattle.std.specs.Prelude.{Bool, true, cond, not, ◌&&◌, ◌||◌, List, [], ◌∷◌, ℕ, ◌+◌, ◌-◌, ◌/◌, ◌%◌, length, get_or, take, drop, ltb, eqb}
+use Rattle.std.specs.List.{list_all}
 use Rattle.storage.specs.Bytes.{packed}
-use Rattle.entries.specs.Entries.{listed, every, entries_of, whole, first_wrong}
-use Rattle.network_message.specs.declared.Command.{Command}
-use Rattle.network_message.specs.declared.judging.Judged.{Judged}
-use Rattle.network_message.specs.declared.Command.TheVariants.{Refused, Request, WithEntries, Clear, AddressList, Parameter, Reset, PairParameter, PairReset}
+use Rattle.entries.specs.Entries.{listed, entries_of, whole, first_wrong}
+use Rattle.network_message.specs.Asked.{Asked, Refused, Request, WithEntries, Clear, AddressList, Parameter, Reset, PairParameter, PairReset}
 use Rattle.filter_commands.specs.declared.pairs.Change.TheVariants.{Adds, Deletes, Creates, Names}
 use Rattle.checks.specs.Checks.{Check, check, first}
 use Rattle.checks.specs.Ports.{is_port}
@@ -106,7 +105,7 @@ entries_start function = cond (eqb function 6) 3 2
 
 -- "Only an 8-byte payload may have filling: after the first entry", FF to the last byte; "longer ones hold entries to the last byte"
 unfoldable pub is_filling : List ℕ → Bool
-is_filling bytes = every (λ b. eqb b 0xFF) bytes
+is_filling bytes = list_all (λ b. eqb b 0xFF) bytes
 
 unfoldable pub entries_end : ℕ → List ℕ → ℕ
 entries_end start payload = cond (eqb (length payload) 8 && is_filling (drop (start + 3) payload)) (start + 3) (length payload)
@@ -152,7 +151,7 @@ payload_checks ports port function from to payload =
 unfoldable pub refusal_of : ℕ → ℕ → ℕ → ℕ → ℕ → List ℕ → ℕ
 refusal_of ports port function from to payload = first (payload_checks ports port function from to payload)
 
-unfoldable pub command_of : ℕ → ℕ → ℕ → List ℕ → Command
+unfoldable pub command_of : ℕ → ℕ → ℕ → List ℕ → Asked
 command_of function from to payload =
     cond (eqb function 0) (Request from to)
     (cond (eqb function 2) (WithEntries Adds from to 2 (entries_end 2 payload))
@@ -167,6 +166,10 @@ command_of function from to payload =
     (PairReset from to))))))))))
 
 -- what a payload is judged: the number that refuses it, and with 22 which entry
+pub record Judged : Type 0 where
+  pub number : ℕ
+  pub entry : ℕ
+
 unfoldable pub judged : ℕ → ℕ → ℕ → ℕ → ℕ → List ℕ → Judged
 judged ports port function from to payload = record {
   number = refusal_of ports port function from to payload;
@@ -174,10 +177,10 @@ judged ports port function from to payload = record {
 }
 
 -- a payload that arrived at a port is refused with the first number that applies, else it is its command
-abbrev pub answered : Judged → Command → Command
+abbrev pub answered : Judged → Asked → Asked
 answered j command = cond (eqb j.number 0) command (Refused j.number j.entry)
 
-unfoldable pub decoded : ℕ → ℕ → List ℕ → Command
+unfoldable pub decoded : ℕ → ℕ → List ℕ → Asked
 decoded ports port payload =
     answered
     (judged ports port (function_of payload) (from_of (pair_of payload)) (to_of (pair_of payload)) payload)

@@ -1,2 +1,5 @@
+pub mod Asked
 pub mod Decoding
+pub mod Functions
+pub mod Judging
 pub mod Commands

@@ -1,38 +1,21 @@
 // The bytes of the network message: a payload is a command or is refused. It knows bytes and nothing of the unit: what a command does is another's to say.
 #![tactic(auto)]
 
+mod function;
 mod judging;
 
 ghost use Rattle.std.specs.Prelude.{◌≡◌, ◌≤◌, length, take, drop};
 ghost use Rattle.storage.specs.Bytes.{packed};
+ghost use Rattle.checks.specs.Refusals.{number};
 ghost use Rattle.filter_commands.specs.declared.pairs.Change.TheVariants.{Names};
-ghost use Rattle.network_message.specs.declared.Command.TheVariants.{WithEntries};
-ghost use Rattle.network_message.specs.Decoding.{function_of, from_of, to_of, parameter_of, name_of, mask_of, entries_start, entries_end, wrong_entry, command_of, decoded};
+ghost use Rattle.network_message.specs.declared.Wrong.TheVariants.{Refused};
+ghost use Rattle.network_message.specs.Asked.{WithEntries, wrong_number, asked, asked_by};
+ghost use Rattle.network_message.specs.Decoding.{from_of, to_of, parameter_of, name_of, mask_of, entries_start, entries_end, command_of, decoded};
+ghost use Rattle.network_message.specs.Functions.{number_of};
 
+use checks::Refusal;
 use filter_commands::pairs::Change;
-
-// The functions.
-pub const REQUEST: u8 = 0;
-
-pub const ADD: u8 = 2;
-
-pub const DELETE: u8 = 3;
-
-pub const CLEAR: u8 = 4;
-
-pub const CREATE: u8 = 6;
-
-pub const ADD_BY_NAME: u8 = 7;
-
-pub const ADDRESS_LIST: u8 = 64;
-
-pub const PARAMETER: u8 = 128;
-
-pub const RESET: u8 = 130;
-
-pub const PAIR_PARAMETER: u8 = 131;
-
-pub const PAIR_RESET: u8 = 133;
+pub use function::Function;
 
 // The parameters.
 pub const BUFFER_SIZE: u32 = 1;
@@ -50,14 +33,10 @@ const NAME_AT: usize = 5;
 
 const MASK_AT: usize = 13;
 
-// What a payload asks, or the number that refuses it, with 22 the first wrong entry's number from 1, else 0. A `to` of 15 is all pairs from that port.
-// Add, Delete, Create and Add by NAME are a change with entries, the payload's bytes from `start` up to `end`.
+// What a payload asks. A `to` of 15 is all pairs from that port. Add, Delete, Create and Add by NAME are a change with entries, the payload's bytes from
+// `start` up to `end`.
 #[derive(Clone, Copy)]
 pub enum Command {
-    Refused {
-        number: u32,
-        entry: usize,
-    },
     Request {
         from: u32,
         to: u32,
@@ -91,6 +70,32 @@ pub enum Command {
     },
 }
 
+// Why a payload is refused: one of its entries is no PGN, of this number from 1; or otherwise.
+#[derive(Clone, Copy, Debug, PartialEq, Eq)]
+pub enum Wrong {
+    Entry(usize),
+    Refused(Refusal),
+}
+
+impl Wrong {
+    pub fn refusal(self) -> Refusal
+        ensures { number result ≡ wrong_number self }
+    {
+        match self {
+            Wrong::Entry(_) => Refusal::WrongEntry,
+            Wrong::Refused(refusal) => refusal,
+        }
+    }
+}
+
+impl From<Refusal> for Wrong {
+    ghost from_gives = { λ refusal wrong. wrong ≡ Refused refusal };
+
+    fn from(reason: Refusal) -> Wrong {
+        Wrong::Refused(reason)
+    }
+}
+
 // The upper half of the pair byte.
 fn from_port(pair: u8) -> u32
     ensures { result ≡ from_of pair }
@@ -114,9 +119,9 @@ fn parameter_of(payload: &[u8]) -> u32
 }
 
 // A change with the entries of a payload.
-fn with_entries(change: Change, function: u8, from: u32, to: u32, payload: &[u8]) -> Command
+fn with_entries(change: Change, function: Function, from: u32, to: u32, payload: &[u8]) -> Command
     requires { 8 ≤ length payload.now }
-    ensures { result ≡ WithEntries change from to (entries_start function) (entries_end (entries_start function) payload.now) }
+    ensures { asked_by result ≡ WithEntries change from to (entries_start (number_of function)) (entries_end (entries_start (number_of function)) payload.now) }
 {
     let start = judging::entries_start(function);
     Command::WithEntries {
@@ -139,8 +144,9 @@ fn word_at(payload: &[u8], at: usize) -> u64
 }
 
 // Add by NAME, with the NAME entry of a payload.
+#[tactic(auto, unfolding(crate::specs::Decoding::name_of, crate::specs::Decoding::mask_of))]
 fn add_by_name(from: u32, to: u32, payload: &[u8]) -> Command
-    ensures { result ≡ WithEntries (Names (name_of payload.now) (mask_of payload.now)) from to 2 5 }
+    ensures { asked_by result ≡ WithEntries (Names (name_of payload.now) (mask_of payload.now)) from to 2 5 }
 {
     let name = word_at(payload, NAME_AT);
     let mask = word_at(payload, MASK_AT);
@@ -154,51 +160,44 @@ fn add_by_name(from: u32, to: u32, payload: &[u8]) -> Command
 }
 
 // The command of a payload that is not refused.
-fn command_of(function: u8, from: u32, to: u32, payload: &[u8]) -> Command
+#[tactic(auto, unfolding(crate::specs::Decoding::command_of))]
+fn command_of(function: Function, from: u32, to: u32, payload: &[u8]) -> Command
     requires { 8 ≤ length payload.now }
-    ensures { result ≡ command_of function from to payload.now }
+    ensures { asked_by result ≡ command_of (number_of function) from to payload.now }
 {
     match function {
-        REQUEST => Command::Request { from, to },
-        ADD => with_entries(Change::Adds, function, from, to, payload),
-        DELETE => with_entries(Change::Deletes, function, from, to, payload),
-        CLEAR => Command::Clear { from, to },
-        CREATE => with_entries(
-            Change::Creates(payload[2] == 1),
-            function,
-            from,
-            to,
-            payload,
-        ),
-        ADD_BY_NAME => add_by_name(from, to, payload),
-        ADDRESS_LIST => Command::AddressList { port: to },
-        PARAMETER => Command::Parameter {
+        Function::Request => Command::Request { from, to },
+        Function::Add => with_entries(Change::Adds, function, from, to, payload),
+        Function::Delete => with_entries(Change::Deletes, function, from, to, payload),
+        Function::Clear => Command::Clear { from, to },
+        Function::Create => {
+            let change = Change::Creates(payload[2] == 1);
+            with_entries(change, function, from, to, payload)
+        }
+        Function::AddByName => add_by_name(from, to, payload),
+        Function::AddressList => Command::AddressList { port: to },
+        Function::Parameter => Command::Parameter {
             parameter: parameter_of(payload),
         },
-        RESET => Command::Reset,
-        PAIR_PARAMETER => Command::PairParameter {
+        Function::Reset => Command::Reset,
+        Function::PairParameter => Command::PairParameter {
             from,
             to,
             parameter: parameter_of(payload),
         },
-        _ => Command::PairReset { from, to },
+        Function::PairReset => Command::PairReset { from, to },
     }
 }
 
-// What a payload of at least 8 bytes that arrived at a port of a unit with so many asks, or the number that refuses it.
-pub fn decode(ports: u32, port: u32, payload: &[u8]) -> Command
+// What a payload of at least 8 bytes that arrived at a port of a unit with so many asks, or why it is refused.
+#[tactic(auto, unfolding(crate::specs::Decoding::decoded, crate::specs::Decoding::judged, crate::specs::Decoding::refusal_of))]
+pub fn decode(ports: u32, port: u32, payload: &[u8]) -> Result<Command, Wrong>
     requires { (ports ≤ 8) × (8 ≤ length payload.now) }
-    ensures { result ≡ decoded ports port payload.now }
+    ensures { asked result ≡ decoded ports port payload.now }
 {
-    let function = payload[0];
+    let function = Function::try_from(payload[0])?;
     let from = from_port(payload[1]);
     let to = to_port(payload[1]);
-    let judged = judging::judge(ports, port, function, from, to, payload);
-    if judged.number != 0 {
-        return Command::Refused {
-            number: judged.number,
-            entry: judged.entry,
-        };
-    }
-    command_of(function, from, to, payload)
+    judging::judge(ports, port, function, from, to, payload)?;
+    Ok(command_of(function, from, to, payload))
 }

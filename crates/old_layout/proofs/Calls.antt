@@ -3,7 +3,7 @@
 use mathlib.Core.Path.{◌≡◌, refl, sym, ap, fun_ext, ◌∙◌}
 use mathlib.Core.Bool.{Bool, true, false, cond, ◌||◌, not, ◌&&◌}
 use mathlib.Core.List.{List, [], ◌∷◌, map}
-use mathlib.Core.Option.{Option}
+use Rattle.std.specs.Prelude.{Option, None}
 use Prim.Native.Nat.{ℕ, ◌-◌}
 use lib.Dec.{eqb, ltb}
 use lib.ListN.{length, get_or}
@@ -19,7 +19,6 @@ use Rattle.filter.specs.declared.Asked.{Asked}
 use Rattle.filter.specs.Filter.{Filter, clear, is_permanent, reason_of, crosses, reason_number, asked}
 use Rattle.queue.specs.declared.Frame.{Frame}
 use Rattle.queue.specs.Queue.{size, Queued, queue_next}
-use Rattle.addresses.specs.declared.Place.TheVariants.{Free}
 use Rattle.addresses.specs.Table.{name_at}
 use Rattle.unit.specs.Ports.{each, in_turn, mask, digits}
 use Rattle.unit.specs.Model.{Rest, Model, row_at, pair_at, with_pairs, record_length}
@@ -65,7 +64,7 @@ module _ (rest : Rest) where
 
   started_same : started (forgotten_rest rest) ≡ forget_acted (started rest)
   unfolding started
-  started_same = either (held_under rest.own.name (get_or rest.table rest.own.preferred Free)) _ _ _ _ refl refl
+  started_same = either (held_under rest.own.name (get_or rest.table rest.own.preferred None)) _ _ _ _ refl refl
 
 -- ---- asking
 -- the search finds what is listed, in every pair

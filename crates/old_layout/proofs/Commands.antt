@@ -17,9 +17,7 @@ use Rattle.filter_commands.specs.declared.pairs.Question.TheVariants.{IsCleared,
 use Rattle.filter_commands.specs.declared.pairs.Question.TheVariants.{NamesFull}
 use Rattle.filter_commands.specs.declared.pairs.Change.{Change}
 use Rattle.filter_commands.specs.declared.pairs.Change.TheVariants.{Adds, Deletes, Creates, Names}
-use Rattle.network_message.specs.declared.Command.{Command}
-use Rattle.network_message.specs.declared.Command.TheVariants.{Refused, Request, WithEntries, Clear, AddressList}
-use Rattle.network_message.specs.declared.Command.TheVariants.{Parameter, Reset, PairParameter, PairReset}
+use Rattle.network_message.specs.Asked.{Asked, Refused, Request, WithEntries, Clear, AddressList, Parameter, Reset, PairParameter, PairReset}
 use Rattle.network_message.specs.Decoding.{pair_of, between, decoded}
 use Rattle.replies.specs.Replies.{list_reply, list_body, parameter_reply}
 use Rattle.unit.specs.Ports.{each, total}
@@ -182,7 +180,7 @@ module _ (ports : ℕ) (rest : Rest) where
       → besides (replied before (map forget rest.pairs)) ≡ besides (replied after rest.pairs)
   shown h = ap (λ (bytes : Seen → List ℕ). besides (replied bytes [])) (fun_ext h)
 
-  performed_same : (requester : ℕ) (payload : List ℕ) (c : Command)
+  performed_same : (requester : ℕ) (payload : List ℕ) (c : Asked)
       → besides (performed_by ports (forgotten_rest rest) requester payload c)
       ≡ besides (performed_by ports rest requester payload c)
   unfolding performed_by
@@ -204,7 +202,7 @@ module _ (ports : ℕ) (rest : Rest) where
       shown (λ seen. ap (parameter_reply 132 (pair_of payload) parameter) (pair_same seen (from - 1) (to - 1) parameter))
   performed_same requester payload (PairReset from to) = refl
 
-  pairs_same : (requester : ℕ) (payload : List ℕ) (c : Command)
+  pairs_same : (requester : ℕ) (payload : List ℕ) (c : Asked)
       → old_pairs_by ports (forgotten_rest rest) payload c ≡ map forget (performed_by ports rest requester payload c).pairs
   unfolding performed_by old_pairs_by
   pairs_same requester payload (Refused number entry) = refl

@@ -4,8 +4,8 @@
 -- refuses a call, what is written back, what a claim and Start do) is used as it is. Two things are said in another way:
 -- the pairs after a message stand by themselves (`old_pairs_after`; they were a field of `messaged`), and `as_lent`.
 -- Assumes nothing.
-use Rattle.std.specs.Prelude.{ℕ, suc, ◌+◌, ◌-◌, ◌*◌, Bool, cond, ◌||◌, ◌≡◌, List, [], ◌∷◌, ◌++◌, length, take, drop, get_or, eqb}
-use Rattle.std.proofs.Math.Option.{Option}
+use Rattle.bridge.specs.Told.{FrameTold}
+use Rattle.std.specs.Prelude.{ℕ, suc, ◌+◌, ◌-◌, ◌*◌, Bool, cond, ◌||◌, ◌≡◌, List, [], ◌∷◌, ◌++◌, length, take, drop, get_or, eqb, Option}
 use Rattle.storage.specs.Blocks.{blocks_of}
 use Rattle.identifier.specs.Identifier.{pgn_of, sa_of}
 use Rattle.entries.specs.Entries.{entries_of, listed}
@@ -19,9 +19,7 @@ use Rattle.filter.specs.Filter.{reason_of, reason_number}
 use Rattle.filter_commands.specs.declared.pairs.Change.{Change}
 use Rattle.filter_commands.specs.declared.pairs.Change.TheVariants.{Adds, Deletes, Creates, Names}
 use Rattle.filter_commands.specs.Changes.{entry_of, may_add, may_delete, may_create, may_name, mode_for}
-use Rattle.network_message.specs.declared.Command.{Command}
-use Rattle.network_message.specs.declared.Command.TheVariants.{Refused, Request, WithEntries, Clear, AddressList}
-use Rattle.network_message.specs.declared.Command.TheVariants.{Parameter, Reset, PairParameter, PairReset}
+use Rattle.network_message.specs.Asked.{Asked as Command, Refused, Request, WithEntries, Clear, AddressList, Parameter, Reset, PairParameter, PairReset}
 use Rattle.network_message.specs.Decoding.{between, decoded}
 use Rattle.list_commands.specs.Commands.{change_named, list_refusal}
 use Rattle.queue.specs.declared.Frame.{Frame}
@@ -39,7 +37,6 @@ use Rattle.forwarding.specs.Forwarding.{silent, sent_if, accepts, loses, loses_o
 use Rattle.claims.specs.Claims.{started}
 use Rattle.message_answers.specs.Messages.{message_answer}
 use Rattle.refusals.specs.Refusals.{frame_refusal, quiet_refusal, message_refusal}
-use Rattle.bridge.specs.declared.FrameAnswer.{FrameAnswer}
 use Rattle.bridge.specs.Calls.{Call, FrameIn, TakeOut, Message, Start, Quiet, ReadUnit, ReadCounts, frame_of, messaged}
 use Rattle.bridge.specs.Calls.{refusal, frame_done}
 use Rattle.bridge.specs.Calls.{asks, start_unsent_at, frame_refused, take_answer, start_answer, unit_answer, counts_answer}
@@ -215,7 +212,7 @@ unfoldable pub old_next : ℕ → ℕ → Model → Call → Model
 old_next ports lent m k = cond (eqb (old_refusal ports lent m.rest k) 0) (old_performed ports lent m k) m
 
 -- ---- what a call answers
-unfoldable pub old_frame_passed : ℕ → Model → ℕ → Frame → FrameAnswer
+unfoldable pub old_frame_passed : ℕ → Model → ℕ → Frame → FrameTold
 old_frame_passed ports m port f = record {
   refusal = 0;
   consumed = consumes m.rest.own f.id;
@@ -227,7 +224,7 @@ old_frame_passed ports m port f = record {
   reasons = digits (λ q. reason_number (old_offered ports m.rest (port - 1) f.id q).reason) ports;
 }
 
-unfoldable pub old_frame_answer : ℕ → ℕ → Model → ℕ → ℕ → List ℕ → FrameAnswer
+unfoldable pub old_frame_answer : ℕ → ℕ → Model → ℕ → ℕ → List ℕ → FrameTold
 old_frame_answer ports lent m port id bytes =
     cond (eqb (frame_refusal ports (as_lent ports lent) port id (length bytes)) 0)
     (old_frame_passed ports m port (frame_of id bytes))

@@ -3,17 +3,17 @@
 -- by theirs. Replies, refusals and what is told with them are answers too. Nothing is said of how the records stand:
 -- that lists are in order follows from power-on. Proved as `same_answers` in proofs/Same.antt.
 -- Assumes nothing.
+use Rattle.bridge.specs.Told.{FrameTold}
 use Rattle.std.specs.Prelude.{◌≡◌, not, List, map, ℕ, eqb}
 use Rattle.delivery.specs.Calls.{Run}
 use Rattle.unit.specs.PowerOn.{not_long}
-use Rattle.bridge.specs.declared.FrameAnswer.{FrameAnswer}
 use Rattle.bridge.specs.Calls.{Call}
 use Rattle.made.specs.Made.{Powered}
 use Rattle.demand_3.specs.Demand3.{Answer, ToFrame, ToTake, ToMessage, ToStart, ToQuiet, ToUnit, ToCounts, Made}
 use Rattle.old_layout.specs.OldLayout.{old_length, as_lent, OldPowered, OldMade}
 
 -- a frame's answer without its count
-abbrev pub countless : FrameAnswer → FrameAnswer
+abbrev pub countless : FrameTold → FrameTold
 countless r = record {
   refusal = r.refusal;
   consumed = r.consumed;

@@ -1,70 +1,57 @@
--- The words of the frames: eight bytes and the number that they make, and what is read from it by division and remainder. Assumes nothing.
-use mathlib.Core.Path.{◌≡◌, ap, ◌∙◌}
-use mathlib.Core.List.{List, [], ◌∷◌}
-use mathlib.Core.Bool.{cond}
-use Prim.Native.Nat.{ℕ, zero, suc, ◌+◌, ◌*◌, ◌/◌, ◌%◌, ◌^◌, ◌<◌}
-use native.Mathlib.Nat.{div-div-eq-div-mul}
-use native.Mathlib.Omega.{arith}
-use lib.Dec.{eqb}
-use Rattle.storage.specs.Bytes.{packed, bytes_of}
-use Rattle.storage.proofs.Bytes.{AllBytes, packed_back}
-use Rattle.packets.specs.declared.Kind.{Kind}
-use Rattle.packets.specs.declared.Kind.TheVariants.{RequestToSend, ClearToSend, End, Abort, Other}
-use Rattle.packets.specs.Frames.{kind_of}
+-- The frames' words: their bytes as the library has them, and what is read from them. Assumes nothing.
+use Rattle.std.proofs.Common.{◌≡◌, refl, sym, ◌∙◌, ℕ, zero, suc, ◌+◌, ◌*◌, ◌/◌, ◌%◌, ◌^◌, ◌<◌, List, [], ◌∷◌, length, eqb, arith}
+use borrow.Author.Tests.{eq-eqb, ne_eqb}
+use native.Mathlib.Nat.{div-div-eq-div-mul, pow-suc}
+use Rattle.std.specs.Int.{w64, byte_at, bytes_low_first, to_le_bytes, from_le_bytes}
+use Rattle.std.proofs.lemmas.Nat.{le_bytes_8}
+use Rattle.storage.specs.Bytes.{bytes_of}
+use Rattle.storage.proofs.Bytes.{AllBytes}
+use Rattle.packets.specs.declared.Kind.TheVariants.{Other}
+use Rattle.packets.specs.Frames.{is_about, by_first, kind_of}
+
+-- ---- the bytes of a word, as the library has them
+byte_is : (i n : ℕ) → byte_at i n ≡ n / 256 ^ i % 256
+byte_is zero n = let e : n / 256 ^ 0 ≡ n = omega arith in rw e
+byte_is (suc i) n = refl
+
+above : (i n : ℕ) → n / 256 ^ i / 256 ≡ n / 256 ^ suc i
+above i n = div-div-eq-div-mul n (256 ^ i) 256 ∙ rw (pow-suc 256 i)
+
+low_first : (i k n : ℕ) → bytes_low_first i k n ≡ bytes_of k (n / 256 ^ i)
+unfolding bytes_of
+low_first i zero n = refl
+low_first i (suc k) n = rw (byte_is i n, above i n, low_first (suc i) k n)
+
+pub word_bytes : (word : ℕ) → to_le_bytes w64 word ≡ bytes_of 8 word
+word_bytes word = let e : word / 256 ^ 0 ≡ word = omega arith in rw e at (low_first 0 8 word)
 
 -- ---- eight bytes make a word, and are its bytes
-module _ (a b c d e f g h : ℕ) (la : a < 256) (lb : b < 256) (lc : c < 256) (ld : d < 256) (le : e < 256) (lf : f < 256) (lg : g < 256) (lh : h < 256) where
-  abbrev bytes : List ℕ
-  bytes = a ∷ b ∷ c ∷ d ∷ e ∷ f ∷ g ∷ h ∷ []
+abbrev pub Bytes : List ℕ → Type 0
+Bytes [] = Unit {0}
+Bytes (b ∷ bs) = (b < 256) × Bytes bs
 
-  all : AllBytes bytes
-  all zero = la
-  all (suc zero) = lb
-  all (suc (suc zero)) = lc
-  all (suc (suc (suc zero))) = ld
-  all (suc (suc (suc (suc zero)))) = le
-  all (suc (suc (suc (suc (suc zero))))) = lf
-  all (suc (suc (suc (suc (suc (suc zero)))))) = lg
-  all (suc (suc (suc (suc (suc (suc (suc zero))))))) = lh
-  all (suc (suc (suc (suc (suc (suc (suc (suc i)))))))) = omega arith
+all_bytes : (bs : List ℕ) → Bytes bs → AllBytes bs
+all_bytes [] h i = omega arith
+all_bytes (b ∷ bs) h zero = h.0
+all_bytes (b ∷ bs) h (suc i) = all_bytes bs h.1 i
 
-  pub eight : {r : ℕ} → r ≡ a + 256 * b + 65536 * c + 16777216 * d + 4294967296 * e + 1099511627776 * f + 281474976710656 * g + 72057594037927936 * h → bytes_of 8 r ≡ bytes
-  unfolding packed
-  eight {r} q = let n : r ≡ packed bytes = omega arith in rw n (packed_back 8 bytes (omega arith) all)
+pub word_of : {r : ℕ} (bytes : List ℕ) → length bytes ≡ 8 → AllBytes bytes → r ≡ from_le_bytes w64 bytes → bytes_of 8 r ≡ bytes
+word_of {r} bytes l all e = sym (word_bytes r) ∙ le_bytes_8 bytes r l all e
 
--- ---- a frame read by division and remainder of its word
-abbrev kind_in : ℕ → Kind
-kind_in w =
-    cond (eqb (w / 1099511627776) 60672)
-    (cond (eqb (w % 256) 16) (RequestToSend (w / 256 % 65536) (w / 16777216 % 256) (w / 4294967296 % 256))
-    (cond (eqb (w % 256) 17) (ClearToSend (w / 256 % 256) (w / 65536 % 256))
-    (cond (eqb (w % 256) 19) End
-    (cond (eqb (w % 256) 255) Abort Other))))
-    Other
+pub frame_is : {r : ℕ} (bytes : List ℕ) → length bytes ≡ 8 → Bytes bytes → r ≡ from_le_bytes w64 bytes → bytes_of 8 r ≡ bytes
+frame_is bytes l all e = word_of bytes l (all_bytes bytes all) e
 
-three : (v : ℕ) → v < 16777216 → v % 256 + 256 * (v / 256 % 256) + 65536 * (v / 256 / 256 % 256) ≡ v
-three v h = omega arith
+-- ---- what a frame that is heard says
+about_is : (w : ℕ) → w < 2 ^ 64 → is_about (to_le_bytes w64 w) ≡ eqb (w / 2 ^ 40) 60672
+about_is w h =
+    let e : w / 256 ^ 5 % 256 + 256 * (w / 256 ^ 6 % 256) + 65536 * (w / 256 ^ 7 % 256) ≡ w / 2 ^ 40 = omega arith in
+    rw e
 
-two : (v : ℕ) → v % 256 + 256 * (v / 256 % 256) ≡ v % 65536
-two v = omega arith
+module _ (w : ℕ) (bytes : List ℕ) (small : w < 2 ^ 64) (e : bytes ≡ to_le_bytes w64 w) where
+  pub kind_about : w / 2 ^ 40 ≡ 60672 → kind_of (bytes_of 8 w) ≡ by_first bytes
+  unfolding kind_of
+  kind_about a = rw (← (word_bytes w), about_is w small, eq-eqb (w / 2 ^ 40) 60672 a, e)
 
-div_two : (w : ℕ) → w / 256 / 256 ≡ w / 65536
-div_two w = div-div-eq-div-mul w 256 256
-
-div_three : (w : ℕ) → w / 256 / 256 / 256 ≡ w / 16777216
-div_three w = div-div-eq-div-mul (w / 256) 256 256 ∙ div-div-eq-div-mul w 256 65536
-
-div_four : (w : ℕ) → w / 256 / 256 / 256 / 256 ≡ w / 4294967296
-div_four w = div_two (w / 256 / 256) ∙ ap {A = ℕ} (λ n. n / 65536) (div_two w) ∙ div-div-eq-div-mul w 65536 65536
-
-div_five : (w : ℕ) → w / 256 / 256 / 256 / 256 / 256 ≡ w / 1099511627776
-div_five w = ap {A = ℕ} (λ n. n / 256) (div_four w) ∙ div-div-eq-div-mul w 4294967296 256
-
-pub kind_word : (w : ℕ) → w < 2 ^ 64 → kind_of (bytes_of 8 w) ≡ kind_in w
-unfolding kind_of bytes_of
-kind_word w h =
-    let v = w / 256 / 256 / 256 / 256 / 256 in
-    let high = div_five w in
-    let about : v % 256 + 256 * (v / 256 % 256) + 65536 * (v / 256 / 256 % 256) ≡ w / 1099511627776 = three v (omega arith) ∙ high in
-    let size : w / 256 % 256 + 256 * (w / 256 / 256 % 256) ≡ w / 256 % 65536 = two (w / 256) in
-    rw (about, size, div_four w, div_three w, div_two w)
+pub kind_other : (w : ℕ) → w < 2 ^ 64 → (w / 2 ^ 40 ≡ 60672 → ⊥) → kind_of (bytes_of 8 w) ≡ Other
+unfolding kind_of
+kind_other w h n = rw (← (word_bytes w), about_is w h, ne_eqb (w / 2 ^ 40) 60672 n)

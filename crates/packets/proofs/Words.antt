@@ -1,17 +1,19 @@
 -- Packets as words: each word has the bytes of its packet, so that a message cut and put together is the same; the steps of `packet`. Assumes nothing.
-use Prim.Native.Nat.{ℕ, zero, suc, ◌+◌, ◌-◌, ◌*◌, ◌/◌, ◌%◌, ◌≤◌, ◌<◌}
+use Prim.Native.Nat.{ℕ, zero, suc, ◌+◌, ◌-◌, ◌*◌, ◌^◌, ◌≤◌, ◌<◌, min}
 use mathlib.Core.Path.{◌≡◌, refl, sym, ap, ◌∙◌}
 use mathlib.Core.List.{List, [], ◌∷◌, ◌++◌, append-nil, append_assoc}
 use native.Mathlib.Nat.{not-suc-le-zero, le_of_suc-le-suc}
 use native.Mathlib.Decide.{dec_lt}
 use native.Mathlib.Omega.{arith}
-use lib.ListN.{length, get_or, take, drop, replicate, length-drop, length-append, length-replicate, length-take, get_or-append}
-use lib.Seq.{take_all, drop-drop, get_or-drop, get_or-append-add}
+use lib.ListN.{length, get_or, take, drop, replicate, length-drop, length-append, length-replicate, length-take}
+use lib.Seq.{take_all, drop-drop, drop_at, take-append-le, get_or-drop}
 use Rattle.storage.specs.Bytes.{packed, bytes_of}
-use Rattle.storage.proofs.Bytes.{AllBytes, packed_back, packed_small, packed_append, bytes_of_length}
+use Rattle.storage.proofs.Bytes.{AllBytes, packed_back, bytes_back, bytes_of_length}
 use Rattle.packets.specs.Packets.{packets_of, packet, packets_from, carried}
-use Rattle.packets.specs.Words.{words_from, cut_words, carried_in, together_in, CutWords, Cutting, word_at, Filling, Filled}
+use Rattle.packets.specs.Words.{words_from, cut_words, carried_in, together_in, CutWords, Cutting}
 use Rattle.packets.proofs.Same.{same_from}
+use Rattle.packets.proofs.Frames.{word_of}
+use Rattle.std.specs.Int.{w64, from_le_bytes}
 
 -- ---- bytes stay bytes
 drop_bytes : (n : ℕ) (m : List ℕ) → AllBytes m → AllBytes (drop n m)
@@ -68,8 +70,8 @@ cut_words_lem m = record {
 }
 
 -- word i of them
-pub words_at : (n k : ℕ) (m : List ℕ) (i : ℕ) → i < n → get_or (words_from n k m) i 0 ≡ word_at m (7 * i) (k + i)
-unfolding words_from word_at
+pub words_at : (n k : ℕ) (m : List ℕ) (i : ℕ) → i < n → get_or (words_from n k m) i 0 ≡ packed (packet (k + i) (drop (7 * i) m))
+unfolding words_from
 words_at zero k m i h = absurd (not-suc-le-zero h)
 words_at (suc n) k m zero h = let e : k ≡ k + 0 = omega arith in ap {A = ℕ} (λ j. packed (packet j m)) e
 words_at (suc n) k m (suc i) h =
@@ -77,75 +79,53 @@ words_at (suc n) k m (suc i) h =
     let f : suc k + i ≡ k + suc i = omega arith in
     words_at n (suc k) (drop 7 m) i (le_of_suc-le-suc h) ∙ rw (drop-drop (7 * i) 7 m, e, f)
 
--- byte i that words carry
-module _ (w : ℕ) (ws : List ℕ) where
-  seven : length (drop 1 (bytes_of 8 w)) ≡ 7
-  seven = length-drop 1 (bytes_of 8 w) ∙ rw (bytes_of_length 8 w)
+-- the bytes of word k that words carry
+seven : (w : ℕ) → length (drop 1 (bytes_of 8 w)) ≡ 7
+seven w = length-drop 1 (bytes_of 8 w) ∙ rw (bytes_of_length 8 w)
 
-  carried_first : (i : ℕ) → i < 7 → get_or (drop 1 (bytes_of 8 w) ++ carried_in ws) i 0 ≡ get_or (bytes_of 8 w) (1 + i) 0
-  carried_first i h = get_or-append (drop 1 (bytes_of 8 w)) (carried_in ws) 0 i (omega (arith, seven)) ∙ get_or-drop 1 (bytes_of 8 w) i 0
-
-  carried_later : (j : ℕ) → get_or (drop 1 (bytes_of 8 w) ++ carried_in ws) (7 + j) 0 ≡ get_or (carried_in ws) j 0
-  carried_later j = ap {A = ℕ} (λ n. get_or (drop 1 (bytes_of 8 w) ++ carried_in ws) (n + j) 0) (sym seven) ∙ get_or-append-add (drop 1 (bytes_of 8 w)) (carried_in ws) j 0
-
-pub carried_at : (ws : List ℕ) (i : ℕ) → i < 7 * length ws → get_or (carried_in ws) i 0 ≡ get_or (bytes_of 8 (get_or ws (i / 7) 0)) (i % 7 + 1) 0
+pub carried_part : (ws : List ℕ) (k j : ℕ) → k < length ws → j ≤ 7 → take j (drop (7 * k) (carried_in ws)) ≡ take j (drop 1 (bytes_of 8 (get_or ws k 0)))
 unfolding carried_in
-carried_at [] i h = absurd (omega arith)
-carried_at (w ∷ ws) i h =
-    elim (dec_lt i 7) [
-      | yes less ↦
-          let q : i / 7 ≡ 0 = omega arith in
-          let r : i % 7 + 1 ≡ 1 + i = omega arith in
-          rw (q, r) (carried_first w ws i less)
-      | no more ↦
-          let j = i - 7 in
-          let e : i ≡ 7 + j = omega arith in
-          let q : i / 7 ≡ suc (j / 7) = omega arith in
-          let r : i % 7 ≡ j % 7 = omega arith in
-          rw (q, r) (ap {A = ℕ} (λ n. get_or (drop 1 (bytes_of 8 w) ++ carried_in ws) n 0) e ∙ carried_later w ws j ∙ carried_at ws j (omega arith))
-    ]
+carried_part [] k j h l = absurd (omega arith)
+carried_part (w ∷ ws) zero j h l = take-append-le j (drop 1 (bytes_of 8 w)) (carried_in ws) (omega (arith, seven w))
+carried_part (w ∷ ws) (suc k) j h l =
+    let e : 7 * suc k ≡ 7 + 7 * k = omega arith in
+    let all = drop 1 (bytes_of 8 w) ++ carried_in ws in
+    ap {A = ℕ} (λ n. take j (drop n all)) e
+    ∙ ap {A = List ℕ} (λ xs. take j xs) (sym (drop-drop (7 * k) 7 all))
+    ∙ ap {A = List ℕ} (λ xs. take j (drop (7 * k) xs)) (drop_at (drop 1 (bytes_of 8 w)) (carried_in ws) 7 (seven w))
+    ∙ carried_part ws k j (omega arith) l
 
 pub carried_long : (ws : List ℕ) → length (carried_in ws) ≡ 7 * length ws
 unfolding carried_in
 carried_long [] = refl
-carried_long (w ∷ ws) = length-append (drop 1 (bytes_of 8 w)) (carried_in ws) ∙ omega (arith, seven w ws, carried_long ws)
+carried_long (w ∷ ws) = length-append (drop 1 (bytes_of 8 w)) (carried_in ws) ∙ omega (arith, seven w, carried_long ws)
 
 pub carried_append : (xs ys : List ℕ) → carried_in (xs ++ ys) ≡ carried_in xs ++ carried_in ys
 unfolding carried_in
 carried_append [] ys = refl
 carried_append (x ∷ xs) ys = rw (carried_append xs ys, append_assoc (drop 1 (bytes_of 8 x)) (carried_in xs) (carried_in ys))
 
--- ---- the steps of the code
--- the first byte and those behind it
-pub first_packed : (part : List ℕ) → 0 < length part → length part ≤ 7 → get_or part 0 0 + 256 * packed (take 8 (take (length part - 1) (drop 1 part))) ≡ packed part
-unfolding packed
-first_packed [] h l = absurd (omega arith)
-first_packed (x ∷ xs) h l =
-    let n : length (x ∷ xs) - 1 ≡ length xs = omega arith in
-    rw (n, take_all (length xs) xs (omega arith), take_all 8 xs (omega arith))
+-- ---- the contract of `packet`
+front : (left : List ℕ) (n : ℕ) → n ≡ min (length left) 7 → take n left ≡ take 7 left
+front left n e =
+    elim (dec_lt (length left) 7) [
+      | yes h ↦ take_all n left (omega arith) ∙ sym (take_all 7 left (omega arith))
+      | no h ↦ let seven : n ≡ 7 = omega arith in rw seven
+    ]
 
-pub filled_full : {part : List ℕ} {r : ℕ} → length part ≡ 7 → AllBytes part → r ≡ packed part → Filled part r
-filled_full {part} {r} l h e = record {
-  number = e ∙ ap packed (sym (rw l (append-nil part)));
-  small = omega (arith, packed_small 7 part (omega arith) h);
-}
+filling : (n k : ℕ) → drop {A = ℕ} n (replicate k 0xFF) ≡ replicate (k - n) 0xFF
+filling zero k = let e : k - 0 ≡ k = omega arith in rw e
+filling (suc n) zero = let e : 0 - suc n ≡ 0 = omega arith in rw e
+filling (suc n) (suc k) = let e : suc k - suc n ≡ k - n = omega arith in filling n k ∙ rw e
 
-pub filled_short : {part : List ℕ} {r f : ℕ} → AllBytes part → r ≡ packed part → Filling (length part) f → Filled part (r + f)
-filled_short {part} {r} {f} h e F = record {
-  number = rw (e, F.number) (sym (packed_append part (replicate (7 - length part) 0xFF)));
-  small = omega (arith, packed_small (length part) part (omega arith) h, F.rest);
-}
+-- the bytes that are copied, between the number and the filling
+pub packet_made : (left part : List ℕ) (k n : ℕ) → n ≡ min (length left) 7 → part ≡ take n left
+    → k ∷ (part ++ drop {A = ℕ} (1 + length (take n left) - 1) (replicate 7 0xFF)) ≡ packet k left
+packet_made left part k n e p =
+    let d : 1 + length (take n left) - 1 ≡ length (take n left) = omega arith in
+    rw (d, filling (length (take n left)) 7, p, front left n e)
 
-pub packet_filled : {bytes : List ℕ} {at k : ℕ} {part : List ℕ} {r : ℕ} → k < 256 → AllBytes bytes → part ≡ take 7 (drop at bytes) → Filled part r → Cutting bytes at k (k + 256 * r)
-unfolding word_at packed
-packet_filled {bytes} {at} {k} {part} {r} small h e F =
-    let word : k + 256 * r ≡ word_at bytes at k = rw (F.number, e) in
-    record { word = word; frame = rw word (packet_back k (drop at bytes) small (drop_bytes at bytes h)) }
-
-pub short_part : (bytes : List ℕ) (at : ℕ) → length bytes - at < 7 → take (length bytes - at) (drop at bytes) ≡ take 7 (drop at bytes)
-short_part bytes at h =
-    take_all (length bytes - at) (drop at bytes) (simp length-drop (omega arith))
-    ∙ sym (take_all 7 (drop at bytes) (simp length-drop (omega arith)))
-
-pub full_part : (bytes : List ℕ) (at : ℕ) → take (at + 7 - at) (drop at bytes) ≡ take 7 (drop at bytes)
-full_part bytes at = let e : at + 7 - at ≡ 7 = omega arith in rw e
+pub cutting : (left : List ℕ) (k : ℕ) {bytes : List ℕ} {r : ℕ} → k < 256 → AllBytes left → r < 2 ^ 64 → bytes ≡ packet k left → r ≡ from_le_bytes w64 bytes → Cutting left k r
+cutting left k {bytes} {r} small all fits b e =
+    let frame : bytes_of 8 r ≡ packet k left = word_of (packet k left) (packet_long k left) (packet_bytes k left small all) (rw b at e) in
+    record { word = sym (bytes_back 8 r fits) ∙ ap packed frame; frame = frame }

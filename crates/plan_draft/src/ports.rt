@@ -1,77 +1,66 @@
-// The segments on the ports, and what the proved call tells of them.
-use plan_shape::PORTS;
-use plans::Planned;
+// The segments on the ports of the units.
+use plan_shape::{PORTS, PORTS_LENGTH};
 
-// The segment on a unit's port, 0 if it is unused or none.
-pub fn segment(on: &[u64], unit: u32, port: u32) -> u64 {
-    if unit == 0 {
-        return 0;
-    }
-    if port == 0 {
-        return 0;
-    }
-    if (PORTS as u32) < port {
-        return 0;
-    }
-    let at = PORTS * (unit as usize - 1) + (port as usize - 1);
-    if at < on.len() {
-        return on[at];
-    }
-    0
-}
+// Segments, bit s - 1 for segment s.
+#[derive(Clone, Copy)]
+pub struct Mask(pub u64);
 
-pub fn put(on: &mut [u64], unit: u32, port: u32, segment: u32) {
-    if unit == 0 {
-        return;
-    }
-    if port == 0 {
-        return;
-    }
-    let at = PORTS * (unit as usize - 1) + (port as usize - 1);
-    if at < on.len() {
-        on[at] = segment as u64;
+impl Mask {
+    pub fn has(self, segment: u32) -> bool {
+        matches!(segment, 1..=16) && (self.0 >> (segment - 1)) % 2 == 1
     }
 }
 
-// The segments that hear a PGN, as a mask. What is read of a plan is never refused.
-pub fn heard(on: &[u64], listed: &[u64], segments: u32, units: u32, first: u32, pgn: u32) -> u64 {
-    match plans::hear(on, listed, segments, units, first, pgn) {
-        Planned::Heard(mask) => mask,
-        Planned::Refused(_) => 0,
+// As the proved call takes them: the words of a unit behind those of the one before it, 0 for a port that is unused.
+#[derive(Clone, Copy)]
+pub struct Ports([u64; PORTS_LENGTH]);
+
+fn place(unit: u32, port: u32) -> Option<usize> {
+    if unit == 0 || port == 0 || PORTS < port as usize {
+        return None;
     }
+    Some(PORTS * (unit as usize - 1) + (port as usize - 1))
 }
 
-// The segments that a path leads to, whatever the lists say: those that hear a claim, which crosses every pair.
-pub fn reached(on: &[u64], listed: &[u64], segments: u32, units: u32, first: u32) -> u64 {
-    heard(
-        on,
-        listed,
-        segments,
-        units,
-        first,
-        identifier::ADDRESS_CLAIMED,
-    )
-}
-
-// Whether a mask has a segment.
-pub fn has(mask: u64, segment: u64) -> bool {
-    if segment == 0 {
-        return false;
+impl Ports {
+    pub fn new() -> Ports {
+        Ports([0; PORTS_LENGTH])
     }
-    if 16 < segment {
-        return false;
-    }
-    (mask >> (segment - 1)) % 2 == 1
-}
 
-// The first port of a unit whose segment a mask has, 0 for none.
-pub fn first_in(on: &[u64], unit: u32, mask: u64) -> u32 {
-    let mut port = 1;
-    while port <= 8 {
-        if has(mask, segment(on, unit, port)) {
-            return port;
+    pub(crate) fn words(&self) -> &[u64] {
+        &self.0
+    }
+
+    // The segment on a unit's port, if it is used.
+    pub fn segment(&self, unit: u32, port: u32) -> Option<u32> {
+        let word = *self.0.get(place(unit, port)?)?;
+        u32::try_from(word).ok().filter(|segment| *segment != 0)
+    }
+
+    // 0 makes it an unused one.
+    pub(crate) fn put(&mut self, unit: u32, port: u32, segment: u32) {
+        let Some(at) = place(unit, port) else {
+            return;
+        };
+        if at < PORTS_LENGTH {
+            self.0[at] = u64::from(segment);
         }
-        port += 1;
     }
-    0
+
+    // The ports without those of a unit.
+    pub fn without(&self, unit: u32) -> Ports {
+        let mut rest = *self;
+        for port in 1..=PORTS as u32 {
+            rest.put(unit, port, 0);
+        }
+        rest
+    }
+
+    // The first port of a unit whose segment is among these.
+    pub fn first_in(&self, unit: u32, mask: Mask) -> Option<u32> {
+        (1..=PORTS as u32).find(|port| {
+            self.segment(unit, *port)
+                .is_some_and(|segment| mask.has(segment))
+        })
+    }
 }

@@ -1,23 +1,24 @@
--- Links put to a table one after the other: it stays good exactly while they are, and has their segments on its ports. Assumes nothing.
+-- Links put on the ports one after the other: that goes exactly while they are good, and the ports have their segments. Assumes nothing.
 use mathlib.Core.Path.{◌≡◌, refl, sym, ap, ◌∙◌}
-use mathlib.Core.Bool.{Bool, true, false, cond, not, ◌&&◌, ◌||◌, true≢false}
+use mathlib.Core.Bool.{Bool, true, false, not, ◌&&◌, ◌||◌, true≢false}
 use mathlib.Core.List.{List, [], ◌∷◌, ◌++◌}
 use Prim.Native.Nat.{ℕ, zero, suc, ◌+◌, ◌≤◌, ◌<◌}
 use native.Mathlib.Decide.{ℕ_discrete}
 use native.Mathlib.Omega.{arith}
 use borrow.Author.Tests.{leb-true, eqb-true, eq-eqb, ne_eqb, not-true}
-use lib.ListN.{length, get_or, set, take, replicate, length-set, length-replicate}
-use lib.Seq.{get_or-set_same, get_or-set_other, take-suc, take-length}
+use lib.ListN.{length, get_or, set, take, drop, replicate, length-set, length-replicate}
+use lib.Seq.{get_or-set_same, get_or-set_other, take-suc}
 use native.Mathlib.Numerals.{add-one}
 use lib.Dec.{leb, eqb}
 use Rattle.checks.proofs.Tests.{both, neither}
 use Rattle.plan_shape.specs.Plan.{plan_of, most_units, port_count, ports_length, lists_length}
-use Rattle.plans.specs.declared.Planned.{Planned}
-use Rattle.plans.specs.declared.Planned.TheVariants.{Heard, Refused}
-use Rattle.plans.specs.Plans.{Planning, number_of}
+use Rattle.std.specs.Prelude.{Option, Some, None, option_and_then, Result, Err}
+use Rattle.std.proofs.lemmas.List.{take-append-drop}
+use Rattle.checks.specs.declared.refusal.Refusal.{Refusal}
+use Rattle.checks.specs.declared.refusal.Refusal.TheVariants.{OutsidePlan}
+use Rattle.plans.specs.Plans.{Planning}
 use Rattle.plan_links.specs.declared.Link.{Link}
-use Rattle.plan_links.specs.declared.Table.{Table}
-use Rattle.plan_links.specs.Links.{place_of, link_in_range, named, good_after, good_links, linked, put, put_all, fresh, LinkPlanning, TablePlanning}
+use Rattle.plan_links.specs.Links.{place_of, link_in_range, named, good_after, linked, put, put_all, LinkPlanning}
 
 -- ---- a link in range
 pub record Ranged (segments : ℕ) (link : Link) : Type 0 where
@@ -45,32 +46,18 @@ ranged segments units link e =
     }
 
 -- ---- one link
-module _ (segments units : ℕ) (table : Table) (link : Link) where
-  pub put_good : link_in_range segments units link ≡ true → get_or table.ports (place_of link) 0 ≡ 0 → record { ports = set table.ports (place_of link) link.segment; good = table.good } ≡ put segments units table link
+module _ (segments units : ℕ) (ports : List ℕ) (link : Link) where
+  pub put_good : link_in_range segments units link ≡ true → get_or ports (place_of link) 0 ≡ 0 → put segments units ports link ≡ Some (set ports (place_of link) link.segment)
   unfolding put
-  put_good e z = rw (e, eq-eqb (get_or table.ports (place_of link) 0) 0 z)
+  put_good e z = rw (e, eq-eqb (get_or ports (place_of link) 0) 0 z)
 
-  pub put_again : link_in_range segments units link ≡ true → (get_or table.ports (place_of link) 0 ≡ 0 → ⊥) → record { ports = table.ports; good = false } ≡ put segments units table link
+  pub put_again : link_in_range segments units link ≡ true → (get_or ports (place_of link) 0 ≡ 0 → ⊥) → put segments units ports link ≡ None
   unfolding put
-  put_again e ne = rw (e, ne_eqb (get_or table.ports (place_of link) 0) 0 ne)
+  put_again e ne = rw (e, ne_eqb (get_or ports (place_of link) 0) 0 ne)
 
-  pub put_outside : link_in_range segments units link ≡ false → record { ports = table.ports; good = false } ≡ put segments units table link
+  pub put_outside : link_in_range segments units link ≡ false → put segments units ports link ≡ None
   unfolding put
   put_outside e = rw e
-
--- ---- a table that is bad stays bad
-put_bad : (segments units : ℕ) (table : Table) (link : Link) → table.good ≡ false → (put segments units table link).good ≡ false
-unfolding put
-put_bad segments units table link e = go (link_in_range segments units link && eqb (get_or table.ports (place_of link) 0) 0)
-  where
-    go : (b : Bool) → (cond {A = Table} b (record { ports = set table.ports (place_of link) link.segment; good = table.good }) (record { ports = table.ports; good = false })).good ≡ false
-    go true = e
-    go false = refl
-
-all_bad : (segments units : ℕ) (table : Table) (links : List Link) → table.good ≡ false → (put_all segments units table links).good ≡ false
-unfolding put_all
-all_bad segments units table [] e = e
-all_bad segments units table (l ∷ ls) e = all_bad segments units (put segments units table l) ls (put_bad segments units table l e)
 
 -- ---- which ports are named
 -- the ports have a segment exactly where a link before named them
@@ -140,89 +127,84 @@ seen_more segments before ports l R S = record {
             absurd (ne (rw (u, q)))
         go false e h = h
 
--- ---- all links, from a table that is good so far
+-- ---- all links
 module _ (segments units : ℕ) where
   all_put : (before : List Link) (ports : List ℕ) (links : List Link) → Seen segments before ports → good_after segments units before links ≡ true
-      → put_all segments units (record { ports = ports; good = true }) links ≡ record { ports = linked ports links; good = true }
+      → put_all segments units ports links ≡ Some (linked ports links)
   unfolding good_after put_all linked
   all_put before ports [] S e = refl
   all_put before ports (l ∷ ls) S e =
       let a = both (link_in_range segments units l) (not (named l before) && good_after segments units (l ∷ before) ls) e in
       let b = both (not (named l before)) (good_after segments units (l ∷ before) ls) a.1 in
       let R = ranged segments units l a.0 in
-      let put_is = put_good segments units (record { ports = ports; good = true }) l a.0 (S.free l R (not-true (named l before) b.0)) in
-      rw (← put_is) (all_put (l ∷ before) (set ports (place_of l) l.segment) ls (seen_more segments before ports l R S) b.1)
+      rw (put_good segments units ports l a.0 (S.free l R (not-true (named l before) b.0))) (all_put (l ∷ before) (set ports (place_of l) l.segment) ls (seen_more segments before ports l R S) b.1)
 
   all_refused : (before : List Link) (ports : List ℕ) (links : List Link) → Seen segments before ports → good_after segments units before links ≡ false
-      → (put_all segments units (record { ports = ports; good = true }) links).good ≡ false
+      → put_all segments units ports links ≡ None
   unfolding good_after put_all
   all_refused before ports [] S e = absurd (true≢false e)
   all_refused before ports (l ∷ ls) S e = go (link_in_range segments units l) refl (named l before) refl e (all_refused (l ∷ before) (set ports (place_of l) l.segment) ls)
     where
       go : (b : Bool) → link_in_range segments units l ≡ b → (d : Bool) → named l before ≡ d → (b && (not d && good_after segments units (l ∷ before) ls)) ≡ false
-          → (Seen segments (l ∷ before) (set ports (place_of l) l.segment) → good_after segments units (l ∷ before) ls ≡ false → (put_all segments units (record { ports = set ports (place_of l) l.segment; good = true }) ls).good ≡ false)
-          → (put_all segments units (put segments units (record { ports = ports; good = true }) l) ls).good ≡ false
-      go false p d q h ih = all_bad segments units (put segments units (record { ports = ports; good = true }) l) ls (ap (λ (t : Table). t.good) (sym (put_outside segments units (record { ports = ports; good = true }) l p)))
-      go true p true q h ih =
-          all_bad segments units (put segments units (record { ports = ports; good = true }) l) ls
-          (ap (λ (t : Table). t.good) (sym (put_again segments units (record { ports = ports; good = true }) l p (S.taken l (ranged segments units l p) q))))
-      go true p false q h ih =
-          let R = ranged segments units l p in
-          let put_is = put_good segments units (record { ports = ports; good = true }) l p (S.free l R q) in
-          rw (← put_is) (ih (seen_more segments before ports l R S) h)
+          → (Seen segments (l ∷ before) (set ports (place_of l) l.segment) → good_after segments units (l ∷ before) ls ≡ false → put_all segments units (set ports (place_of l) l.segment) ls ≡ None)
+          → option_and_then (λ after. put_all segments units after ls) (put segments units ports l) ≡ None
+      go false p d q h ih = rw (put_outside segments units ports l p)
+      go true p true q h ih = rw (put_again segments units ports l p (S.taken l (ranged segments units l p) q))
+      go true p false q h ih = let R = ranged segments units l p in rw (put_good segments units ports l p (S.free l R q)) (ih (seen_more segments before ports l R S) h)
 
--- ---- what a table answers, and what its links do
-refused_is : (r : Planned) (n : ℕ) → number_of r ≡ n → (n ≡ 0 → ⊥) → r ≡ Refused n
-refused_is (Heard s) n e ne = absurd (ne (sym e))
-refused_is (Refused m) n e ne = ap Refused e
-
-module _ {segments units : ℕ} (links : List Link) {lists : List ℕ} {first pgn : ℕ} {r : Planned} where
-  by_links : (n : ℕ) → n ≡ ports_length → TablePlanning segments units (put_all segments units (record { ports = replicate n 0; good = true }) links) lists first pgn r
-      → (good_links segments units links ≡ true → Planning segments (plan_of units (linked (replicate n 0) links) lists) first pgn r)
-      × ((good_links segments units links ≡ false → length lists ≡ lists_length → r ≡ Refused 28) × ((length lists ≡ lists_length → ⊥) → r ≡ Refused 2))
-  by_links n l T = (good, (bad, (λ w. wrong w (good_links segments units links) refl)))
+  -- one part after the other
+  put_parts : (ports : List ℕ) (xs ys : List Link) → put_all segments units ports (xs ++ ys) ≡ option_and_then (λ after. put_all segments units after ys) (put_all segments units ports xs)
+  unfolding put_all
+  put_parts ports [] ys = refl
+  put_parts ports (x ∷ xs) ys = go (λ after. put_parts after xs ys) (put segments units ports x)
     where
-      S : Seen segments [] (replicate n 0)
-      S = seen_none segments n l
+      go : ((after : List ℕ) → put_all segments units after (xs ++ ys) ≡ option_and_then (λ after. put_all segments units after ys) (put_all segments units after xs)) → (o : Option (List ℕ)) → option_and_then (λ after. put_all segments units after (xs ++ ys)) o ≡ option_and_then (λ after. put_all segments units after ys) (option_and_then (λ after. put_all segments units after xs) o)
+      go later None = refl
+      go later (Some after) = later after
 
-      good : good_links segments units links ≡ true → Planning segments (plan_of units (linked (replicate n 0) links) lists) first pgn r
-      good e =
-          let t = all_put segments units [] (replicate n 0) links S e in
-          rw (ap (λ (x : Table). x.ports) t) at (T.good (ap (λ (x : Table). x.good) t))
+  put_one : (ports : List ℕ) (l : Link) → put_all segments units ports (l ∷ []) ≡ put segments units ports l
+  unfolding put_all
+  put_one ports l = go (put segments units ports l)
+    where
+      go : (o : Option (List ℕ)) → option_and_then (λ after. Some after) o ≡ o
+      go None = refl
+      go (Some after) = refl
 
-      bad : good_links segments units links ≡ false → length lists ≡ lists_length → r ≡ Refused 28
-      bad e h = T.bad (all_refused segments units [] (replicate n 0) links S e) h
+  pub put_none : (ports : List ℕ) → put_all segments units ports [] ≡ Some ports
+  unfolding put_all
+  put_none ports = refl
 
-      wrong : (length lists ≡ lists_length → ⊥) → (b : Bool) → good_links segments units links ≡ b → r ≡ Refused 2
-      wrong w true e = refused_is r 2 ((good e).number2.1 (λ lent. w lent.1)) (λ z. omega arith)
-      wrong w false e = T.wrong (all_refused segments units [] (replicate n 0) links S e) w
+  pub put_next : (ports : List ℕ) {after : List ℕ} (links : List Link) (i : ℕ) (d : Link) → i < length links → put_all segments units ports (take i links) ≡ Some after
+      → put_all segments units ports (take (i + 1) links) ≡ put segments units after (get_or links i d)
+  put_next ports {after} links i d h e =
+      rw (add-one i, take-suc links i d h, put_parts ports (take i links) (get_or links i d ∷ []), e) (put_one after (get_or links i d))
 
-  pub links_answer : TablePlanning segments units (put_all segments units fresh links) lists first pgn r → LinkPlanning segments units links lists first pgn r
-  links_answer T = let p = by_links ports_length refl T in record { good = p.0; bad = p.1.0; wrong = p.1.1 }
+  pub refused_all : (ports : List ℕ) (links : List Link) (i : ℕ) → put_all segments units ports (take i links) ≡ None → put_all segments units ports links ≡ None
+  refused_all ports links i e =
+      ap (put_all segments units ports) (sym (take-append-drop i links)) ∙ put_parts ports (take i links) (drop i links) ∙ rw e
 
--- ---- a table's answer
-module _ {segments units : ℕ} {table : Table} {lists : List ℕ} {first pgn : ℕ} where
-  pub table_good : {r : Planned} → table.good ≡ true → Planning segments (plan_of units table.ports lists) first pgn r → TablePlanning segments units table lists first pgn r
-  table_good e P = record { good = λ _. P; bad = λ f. absurd (true≢false (sym e ∙ f)); wrong = λ f. absurd (true≢false (sym e ∙ f)) }
+-- ---- what a plan by its links is answered with
+module _ {segments units : ℕ} {links : List Link} {lists : List ℕ} {first pgn : ℕ} where
+  pub bad : length lists ≡ lists_length → put_all segments units (replicate ports_length 0) links ≡ None → LinkPlanning segments units links lists first pgn (Err OutsidePlan)
+  bad h e = record {
+    good = λ g. absurd (none (sym e ∙ all_put segments units [] (replicate ports_length 0) links (seen_none segments ports_length refl) g));
+    bad = λ _ _. refl;
+    wrong = λ w. absurd (w h);
+  }
+    where
+      none : {xs : List ℕ} → ◌≡◌ {A = Option (List ℕ)} None (Some xs) → ⊥
+      none q = cc
 
-  pub table_short : table.good ≡ false → (length lists ≡ lists_length → ⊥) → TablePlanning segments units table lists first pgn (Refused 2)
-  table_short e w = record { good = λ f. absurd (true≢false (sym f ∙ e)); bad = λ f h. absurd (w h); wrong = λ f v. refl }
+  pub good : {r : Result ℕ Refusal} {ports : List ℕ} → length lists ≡ lists_length → put_all segments units (replicate ports_length 0) links ≡ Some ports
+      → Planning segments (plan_of units ports lists) first pgn r → LinkPlanning segments units links lists first pgn r
+  good {r} {ports} h e P = record {
+    good = λ g. rw (some (sym e ∙ all_put segments units [] (replicate ports_length 0) links (seen_none segments ports_length refl) g)) at P;
+    bad = λ b _. absurd (none (sym (all_refused segments units [] (replicate ports_length 0) links (seen_none segments ports_length refl) b) ∙ e));
+    wrong = λ w. absurd (w h);
+  }
+    where
+      some : {xs ys : List ℕ} → ◌≡◌ {A = Option (List ℕ)} (Some xs) (Some ys) → xs ≡ ys
+      some q = cc
 
-  pub table_bad : table.good ≡ false → length lists ≡ lists_length → TablePlanning segments units table lists first pgn (Refused 28)
-  table_bad e h = record { good = λ f. absurd (true≢false (sym f ∙ e)); bad = λ f l. refl; wrong = λ f v. absurd (v h) }
-
--- ---- one more link of a list
-put_snoc : (segments units : ℕ) (table : Table) (ls : List Link) (l : Link) → put_all segments units table (ls ++ (l ∷ [])) ≡ put segments units (put_all segments units table ls) l
-unfolding put_all
-put_snoc segments units table [] l = refl
-put_snoc segments units table (m ∷ ls) l = put_snoc segments units (put segments units table m) ls l
-
-pub put_next : (segments units : ℕ) (table : Table) (links : List Link) (i : ℕ) (d : Link) → i < length links → put segments units (put_all segments units table (take i links)) (get_or links i d) ≡ put_all segments units table (take (i + 1) links)
-put_next segments units table links i d h = sym (rw (add-one i, take-suc links i d h) (put_snoc segments units table (take i links) (get_or links i d)))
-
-pub put_whole : (segments units : ℕ) (table : Table) (links : List Link) → put_all segments units table (take (length links) links) ≡ put_all segments units table links
-put_whole segments units table links = rw (take-length links)
-
-pub put_start : (segments units : ℕ) (table : Table) → table ≡ put_all segments units table []
-unfolding put_all
-put_start segments units table = refl
+      none : {xs : List ℕ} → ◌≡◌ {A = Option (List ℕ)} None (Some xs) → ⊥
+      none q = cc

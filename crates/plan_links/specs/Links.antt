@@ -1,11 +1,10 @@
 -- A plan by its links, in place of a word for each port: a link puts a segment on a port of a unit, each counted from 1. Assumes nothing.
-use Rattle.std.specs.Prelude.{ℕ, ◌+◌, ◌-◌, ◌*◌, ◌≡◌, Bool, true, false, cond, not, ◌&&◌, ◌||◌, List, [], ◌∷◌, length, get_or, set, replicate, leb, eqb}
+use Rattle.std.specs.Prelude.{ℕ, ◌+◌, ◌-◌, ◌*◌, ◌≡◌, Bool, true, false, cond, not, ◌&&◌, ◌||◌, List, [], ◌∷◌, Option, Some, None, Result, Err, option_and_then, length, get_or, set, replicate, leb, eqb}
 use Rattle.plan_shape.specs.Plan.{plan_of, most_units, port_count, ports_length, lists_length}
-use Rattle.plans.specs.declared.Planned.{Planned}
-use Rattle.plans.specs.declared.Planned.TheVariants.{Refused}
+use Rattle.checks.specs.declared.refusal.Refusal.{Refusal}
+use Rattle.checks.specs.declared.refusal.Refusal.TheVariants.{WrongLength, OutsidePlan}
 use Rattle.plans.specs.Plans.{Planning}
 use Rattle.plan_links.specs.declared.Link.{Link}
-use Rattle.plan_links.specs.declared.Table.{Table}
 
 -- the place of a link's port among those of all units
 abbrev pub place_of : Link → ℕ
@@ -44,31 +43,19 @@ abbrev pub ports_of : List Link → List ℕ
 ports_of links = linked (replicate ports_length 0) links
 
 -- good links answer as their ports do; others are refused with 28, where the lists have their length
-pub record LinkPlanning (segments units : ℕ) (links : List Link) (lists : List ℕ) (first pgn : ℕ) (r : Planned) : Type 0 where
+pub record LinkPlanning (segments units : ℕ) (links : List Link) (lists : List ℕ) (first pgn : ℕ) (r : Result ℕ Refusal) : Type 0 where
   pub good : good_links segments units links ≡ true → Planning segments (plan_of units (ports_of links) lists) first pgn r
-  pub bad : good_links segments units links ≡ false → length lists ≡ lists_length → r ≡ Refused 28
-  pub wrong : (length lists ≡ lists_length → ⊥) → r ≡ Refused 2
+  pub bad : good_links segments units links ≡ false → length lists ≡ lists_length → r ≡ Err OutsidePlan
+  pub wrong : (length lists ≡ lists_length → ⊥) → r ≡ Err WrongLength
 
 -- ---- one link after the other
--- a link put to a table
-unfoldable pub put : ℕ → ℕ → Table → Link → Table
-put segments units table link =
-    cond (link_in_range segments units link && eqb (get_or table.ports (place_of link) 0) 0)
-    (record { ports = set table.ports (place_of link) link.segment; good = table.good })
-    (record { ports = table.ports; good = false })
+-- the ports with one link more; none where it is out of range, or its port has a segment
+unfoldable pub put : ℕ → ℕ → List ℕ → Link → Option (List ℕ)
+put segments units ports link =
+    cond (link_in_range segments units link && eqb (get_or ports (place_of link) 0) 0)
+    (Some (set ports (place_of link) link.segment))
+    None
 
-unfoldable pub put_all : ℕ → ℕ → Table → List Link → Table
-put_all segments units table [] = table
-put_all segments units table (l ∷ ls) = put_all segments units (put segments units table l) ls
-
-abbrev pub fresh : Table
-fresh = record { ports = replicate ports_length 0; good = true }
-
-abbrev pub blank : Link
-blank = record { unit = 0; port = 0; segment = 0 }
-
--- what a table answers
-pub record TablePlanning (segments units : ℕ) (table : Table) (lists : List ℕ) (first pgn : ℕ) (r : Planned) : Type 0 where
-  pub good : table.good ≡ true → Planning segments (plan_of units table.ports lists) first pgn r
-  pub bad : table.good ≡ false → length lists ≡ lists_length → r ≡ Refused 28
-  pub wrong : table.good ≡ false → (length lists ≡ lists_length → ⊥) → r ≡ Refused 2
+unfoldable pub put_all : ℕ → ℕ → List ℕ → List Link → Option (List ℕ)
+put_all segments units ports [] = Some ports
+put_all segments units ports (l ∷ ls) = option_and_then (λ after. put_all segments units after ls) (put segments units ports l)

@@ -11,35 +11,7 @@ use lib.ListN.{length, get_or, set, length-set}
 use lib.Seq.{get_or-set_same, get_or-set_other}
 use lib.Dec.{eqb}
 use Rattle.plan_shape.specs.Plan.{most_segments, port_count}
-use Rattle.plan_rings.specs.Rings.{nodes, unit_node, label, Fresh, Numbered, Relabeled, Linking}
-
--- ---- numbered up to n
-pub record NumberedTo (labels : List ℕ) (n : ℕ) : Type 0 where
-  pub long : length labels ≡ nodes
-  pub within : n ≤ nodes
-  pub own : (i : ℕ) → i < n → label labels i ≡ i
-
-pub number_start : {labels : List ℕ} → length labels ≡ nodes → NumberedTo labels 0
-number_start h = record { long = h; within = omega arith; own = λ i l. absurd (none i l) }
-  where
-    none : (i : ℕ) → i < 0 → ⊥
-    none i l = omega arith
-
-pub number_more : {labels : List ℕ} {n : ℕ} → n < nodes → NumberedTo labels n → NumberedTo (set labels n n) (n + 1)
-number_more {labels} {n} h N = record {
-  long = length-set labels n n ∙ N.long;
-  within = omega arith;
-  own = λ i l. at i l (ℕ_discrete i n);
-}
-  where
-    at : (i : ℕ) → i < n + 1 → Dec (i ≡ n) → label (set labels n n) i ≡ i
-    at i l (yes e) = rw e (get_or-set_same labels n n 0 (omega (arith, N.long)))
-    at i l (no ne) = get_or-set_other labels n i n 0 ne ∙ N.own i (omega arith)
-
-pub number_done : {labels : List ℕ} {n : ℕ} → nodes ≤ n → NumberedTo labels n → Numbered labels
-number_done {n = n} h N =
-    let e : n ≡ nodes = omega (arith, N.within) in
-    record { long = N.long; own = λ i l. N.own i (rw e l) }
+use Rattle.plan_rings.specs.Rings.{nodes, unit_node, label, Fresh, Relabeled, Linking}
 
 -- ---- relabeled up to n
 pub record RelabeledTo (from to : ℕ) (before now : List ℕ) (n : ℕ) : Type 0 where

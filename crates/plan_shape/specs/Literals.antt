@@ -1,6 +1,6 @@
 -- 28 on the words that are lent, in the literals of docs/RULES.md, "Plans"; and what "each unit on it permits" and "no unit twice" say of a path of any length. A number
 -- that is changed in code and definition together is refused here. `literals` of proofs/Literals.antt proves it. Assumes nothing.
-use Rattle.std.specs.Prelude.{ℕ, ◌+◌, ◌*◌, ◌/◌, ◌%◌, ◌≤◌, ◌<◌, ◌≡◌, Bool, true, ◌&&◌, ◌||◌, ◌↔◌, List, ◌∷◌, ◌++◌, get_or, leb, ltb, eqb}
+use Rattle.std.specs.Prelude.{ℕ, ◌+◌, ◌*◌, ◌/◌, ◌%◌, ◌≤◌, ◌<◌, ◌≡◌, true, ◌&&◌, ◌||◌, ◌↔◌, List, ◌∷◌, ◌++◌, get_or, leb, ltb, eqb}
 use Rattle.plan_shape.specs.Plan.{Plan, plan_of, in_range, Crossing, NoUnitTwice, Permits, EachPermits}
 
 -- "a PGN if it is below 2^18 and, where its PF is below 240, its low byte is 0"

@@ -1,12 +1,12 @@
 // A plan of a machine: the segment on each port of its units, and their lists; and whether its numbers are in range, or refused with 28.
 #![tactic(auto)]
 
-ghost use Rattle.std.specs.Prelude.{◌≡◌, true, ◌||◌, ◌*◌, ◌/◌, ◌%◌, ◌≤◌, length, get_or, leb, eqb};
+ghost use Rattle.std.specs.Prelude.{◌≡◌, true, ◌||◌, ◌/◌, ◌%◌, ◌≤◌, leb, eqb};
+ghost use Rattle.std.specs.List.{list_all};
 ghost use Rattle.identifier.specs.Identifier.{is_pgn};
 ghost use Rattle.entries.specs.Entries.{every};
 ghost use Rattle.filter.specs.Filter.{filter_of};
-ghost use Rattle.plan_shape.specs.Plan.{plan_of, below, pair_in_range, numbers_in_range, in_range, block_of, most_units, pairs_of_unit, plan_block_size, ports_length, lists_length};
-ghost use Rattle.plan_shape.specs.Steps.{FourPairs, Passing};
+ghost use Rattle.plan_shape.specs.Plan.{plan_of, pair_in_range, numbers_in_range, in_range};
 
 use pgn_list::LIST_SIZE;
 
@@ -28,6 +28,9 @@ pub const PORTS_LENGTH: usize = PORTS * UNITS;
 
 pub const LISTS_LENGTH: usize = BLOCK_SIZE * (PAIRS * UNITS);
 
+// How many pairs are looked at together: the pairs of a unit are a multiple of it.
+const AT_ONCE: usize = 8;
+
 // The low byte of a number whose PF is below 240, which a PGN has at 0; 0 where PF is 240 and up.
 fn spare_byte(word: u64) -> u64
     ensures { (eqb result 0 ≡ (leb 240 (word / 256 % 256) || eqb (word % 256) 0)) × (result ≤ 255) }
@@ -39,148 +42,97 @@ fn spare_byte(word: u64) -> u64
 }
 
 // Whether every listed number of a pair is a PGN: together they have no bit from 18 on, and no spare byte. No branch for each, so that the compiler judges several at once.
-fn lists_pgns(block: &[u64]) -> bool
-    requires { length block.now ≡ plan_block_size }
+fn lists_pgns(block: &[u64; BLOCK_SIZE]) -> bool
     ensures { result ≡ every is_pgn (filter_of block.now).entries }
 {
-    let n = filter::count(block);
-    let mut bits: u64 = 0;
-    let mut spare: u64 = 0;
-    let mut i = 0;
-    while i < n {
+    let mut bits = 0;
+    let mut spare = 0;
+    for i in 0..filter::count(block) {
         let listed = filter::pgn_at(block, i);
-        bits = bits | listed;
+        bits |= listed;
         spare += spare_byte(listed);
-        i += 1;
     }
-    if bits < 262144 {
-        return spare == 0;
-    }
-    false
+    bits < 262144 && spare == 0
 }
 
 // Whether a pair's numbers are in range.
-fn is_pair(block: &[u64]) -> bool
-    requires { length block.now ≡ plan_block_size }
+#[tactic(auto, unfolding(crate::specs::Plan::pair_in_range))]
+fn is_pair(block: &[u64; BLOCK_SIZE]) -> bool
     ensures { result ≡ pair_in_range block.now }
 {
     let mode = block[filter::MODE];
-    if filter::PASS < mode {
-        return false;
-    }
-    if mode == filter::CLEARED {
-        return true;
-    }
-    if (LIST_SIZE as u64) < block[filter::COUNT] {
-        return false;
-    }
-    lists_pgns(block)
+    mode == filter::CLEARED
+        || (mode <= filter::PASS && block[filter::COUNT] <= LIST_SIZE as u64 && lists_pgns(block))
 }
 
-// Whether each of the first n ports has a segment of the plan, or none.
-fn are_ports(ports: &[u64], n: usize, segments: u64) -> bool
-    requires { n ≤ length ports.now }
-    ensures { result ≡ below (λ i. leb (get_or ports.now i 0) segments) n }
+// Whether each port has a segment of the plan, or none.
+fn are_ports(ports: &[u64], segments: u32) -> bool
+    ensures { result ≡ list_all (λ segment. leb segment segments) ports.now }
 {
-    let mut i = 0;
-    while i < n {
-        if segments < ports[i] {
-            return false;
-        }
-        i += 1;
-    }
-    true
+    ports.iter().all(|segment| *segment <= segments as u64)
 }
 
-// Whether four more of the first n pairs stand from one on, and each is cleared.
-fn four_cleared(lists: &[u64], i: usize, n: usize) -> bool
-    requires { (length lists.now ≡ lists_length) × (n ≤ pairs_of_unit * most_units) × (i ≤ n) }
-    ensures { result ≡ true → FourPairs lists.now i n }
+// Whether pairs are cleared: together their modes have no bit.
+#[tactic(auto, using(crate::proofs::Ranges::all_cleared))]
+fn are_cleared(pairs: &[[u64; BLOCK_SIZE]; AT_ONCE]) -> bool
+    ensures { result ≡ true → list_all pair_in_range pairs.now ≡ true }
 {
-    if n < i + 4 {
-        return false;
-    }
-    let at = BLOCK_SIZE * i + filter::MODE;
-    if lists[at] != filter::CLEARED {
-        return false;
-    }
-    let two = lists[at + BLOCK_SIZE] | lists[at + 2 * BLOCK_SIZE];
-    two | lists[at + 3 * BLOCK_SIZE] == filter::CLEARED
+    pairs
+        .iter()
+        .fold(0, |modes, pair| modes | pair[filter::MODE])
+        == filter::CLEARED
 }
 
-// A pair from `start` on before which all are cleared. Four at a time are passed over.
-fn past_cleared(lists: &[u64], start: usize, n: usize) -> usize
-    requires { (length lists.now ≡ lists_length) × (n ≤ pairs_of_unit * most_units) × (start ≤ n) }
-    ensures { Passing lists.now start n result }
+// Whether each of some pairs is in range. Not inlined, else the modes that are read for `are_cleared` are kept for it.
+#[inline(never)]
+fn are_judged(pairs: &[[u64; BLOCK_SIZE]; AT_ONCE]) -> bool
+    ensures { result ≡ list_all pair_in_range pairs.now }
 {
-    let mut i = start;
-    while four_cleared(lists, i, n) {
-        i += 4;
-    }
-    i
+    pairs.iter().all(is_pair)
 }
 
-// Whether each of the first n pairs is in range.
-fn are_pairs(lists: &[u64], n: usize) -> bool
-    requires { (length lists.now ≡ lists_length) × (n ≤ pairs_of_unit * most_units) }
-    ensures { result ≡ below (λ i. pair_in_range (block_of lists.now i)) n }
+// The same. Most pairs are cleared, which is seen of all at once.
+fn are_some(pairs: &[[u64; BLOCK_SIZE]; AT_ONCE]) -> bool
+    ensures { result ≡ list_all pair_in_range pairs.now }
 {
-    let mut i = past_cleared(lists, 0, n);
-    while i < n {
-        let a = BLOCK_SIZE * i;
-        if lists[a + filter::MODE] == filter::CLEARED {
-            i = past_cleared(lists, i + 1, n);
-        } else {
-            let e = a + BLOCK_SIZE;
-            let good = is_pair(&lists[a..e]);
-            if good {
-                i += 1;
-            } else {
-                return false;
-            }
-        }
-    }
-    true
+    are_cleared(pairs) || are_judged(pairs)
+}
+
+// Whether each pair is in range.
+fn are_pairs(parts: &[[[u64; BLOCK_SIZE]; AT_ONCE]]) -> bool
+    ensures { result ≡ list_all (list_all pair_in_range) parts.now }
+{
+    parts.iter().all(are_some)
 }
 
 // Whether the numbers beside the ports and lists are in range.
+#[tactic(auto, unfolding(crate::specs::Plan::numbers_in_range))]
 fn are_numbers(segments: u32, units: u32, first: u32, pgn: u32) -> bool
     ensures { result ≡ numbers_in_range segments units first pgn }
 {
-    if (SEGMENTS as u32) < segments {
-        return false;
-    }
-    if (UNITS as u32) < units {
-        return false;
-    }
-    if first < 1 {
-        return false;
-    }
-    if segments < first {
-        return false;
-    }
-    identifier::is_pgn(pgn)
+    segments <= SEGMENTS as u32
+        && units <= UNITS as u32
+        && 1 <= first
+        && first <= segments
+        && identifier::is_pgn(pgn)
 }
 
 // Whether a plan, the first segment and the PGN asked are in range.
 pub fn is_in_range(
-    ports: &[u64],
-    lists: &[u64],
+    ports: &[u64; PORTS_LENGTH],
+    lists: &[u64; LISTS_LENGTH],
     segments: u32,
     units: u32,
     first: u32,
     pgn: u32,
 ) -> bool
-    requires { (length ports.now ≡ ports_length) × (length lists.now ≡ lists_length) }
     ensures { result ≡ in_range segments (plan_of units ports.now lists.now) first pgn }
 {
-    let numbers = are_numbers(segments, units, first, pgn);
-    if numbers {
-        let segmented = are_ports(ports, PORTS * units as usize, segments as u64);
-        if segmented {
-            return are_pairs(lists, PAIRS * units as usize);
-        }
+    if !are_numbers(segments, units, first, pgn) {
         return false;
     }
-    false
+    let units = units as usize;
+    let (pairs, _) = lists.as_chunks::<BLOCK_SIZE>();
+    let (parts, _) = pairs[..PAIRS * units].as_chunks::<AT_ONCE>();
+    are_ports(&ports[..PORTS * units], segments) && are_pairs(parts)
 }

@@ -1,6 +1,6 @@
 -- What is heard at the end of a walk from unmarked marks, as bits. Assumes nothing.
 use mathlib.Core.Path.{◌≡◌, refl, sym, ◌∙◌}
-use mathlib.Core.Bool.{true}
+use mathlib.Core.Bool.{Bool, true, false}
 use mathlib.Core.Logic.{inr, ⊎_elim, ◌↔◌}
 use mathlib.Core.List.{List}
 use Prim.Native.Nat.{ℕ, ◌+◌, ◌-◌, ◌*◌, ◌/◌, ◌≤◌}
@@ -12,11 +12,11 @@ use Rattle.plan_walk.specs.Walk.{Bounded, Chained, Walkable, Walked, Reached, ma
 use Rattle.plan_walk.proofs.Bits.{none_heard, half_bit}
 use Rattle.plan_walk.proofs.Paths.{hears_is}
 
-pub walk_fresh : {plan : Plan} {chain : List ℕ} → Bounded plan → Chained plan.ports (port_count * plan.units) 0 chain → Walkable plan chain (replicate marks_length 0) 0
+pub walk_fresh : {plan : Plan} {chain : List ℕ} → Bounded plan → Chained plan.ports (port_count * plan.units) 0 chain → Walkable plan chain (replicate marks_length false) 0
 walk_fresh P C = record { bounded = P; chained = C; long_marks = refl; small = omega arith }
 
-pub answer_is : {plan : Plan} {pgn first : ℕ} (n : ℕ) {marks : List ℕ} {heard : ℕ} → n ≡ marks_length → Bounded plan → first ≤ most_segments
-    → Walked (Reached plan pgn (replicate n 0) first) (replicate n 0) 0 marks heard → Hearing plan first pgn (heard / 2)
+pub answer_is : {plan : Plan} {pgn first : ℕ} (n : ℕ) {marks : List Bool} {heard : ℕ} → n ≡ marks_length → Bounded plan → first ≤ most_segments
+    → Walked (Reached plan pgn (replicate n false) first) (replicate n false) 0 marks heard → Hearing plan first pgn (heard / 2)
 answer_is {plan} {pgn} {first} n {heard = heard} l P small W = record { told = at; small = omega (arith, W.small) }
   where
     at : (segment : ℕ) → 1 ≤ segment → segment ≤ most_segments → (bit_at (heard / 2) (segment - 1) ≡ true) ↔ Hears plan first pgn segment

@@ -1,6 +1,7 @@
 -- What a walk from unmarked marks reaches is what hears: no unit twice is what the marks say, and a path that comes to a segment twice has a shorter one. Assumes nothing.
 use mathlib.Core.Path.{◌≡◌, refl, sym, ◌∙◌, subst}
 use mathlib.Core.Logic.{◌⊎◌, inl, inr, ⊎_elim, ◌↔◌}
+use mathlib.Core.Bool.{Bool, true, false, true≢false}
 use mathlib.Core.List.{List, [], ◌∷◌}
 use Prim.Native.Nat.{ℕ, zero, suc, ◌+◌, ◌*◌, ◌≤◌, ◌<◌}
 use native.Mathlib.Decide.{ℕ_discrete}
@@ -74,13 +75,13 @@ module _ (plan : Plan) (pgn : ℕ) where
           (part_from s (onward plan c) S.crossings t S.way S.simple)
 
 -- ---- marks on the way
-pub unmarked_at : (n i : ℕ) → Unvisited (replicate n 0) i
+pub unmarked_at : (n i : ℕ) → Unvisited (replicate n false) i
 unmarked_at zero i = refl
 unmarked_at (suc n) zero = refl
 unmarked_at (suc n) (suc i) = unmarked_at n i
 
 -- what crossings enter is unvisited
-Free : Plan → List ℕ → List Crossing → Type 0
+Free : Plan → List Bool → List Crossing → Type 0
 Free plan marks [] = Unit
 Free plan marks (c ∷ cs) = Unvisited marks (onward plan c) × (Unvisited marks (unit_place c.unit) × Free plan marks cs)
 
@@ -91,7 +92,7 @@ module _ (plan : Plan) (pgn : ℕ) (few : plan.units ≤ most_units) (in_range :
       let in-unit = joins.left in
       in_range (port_count * c.unit + c.leave) (omega arith)
 
-  free_on : (marks : List ℕ) (s unit m : ℕ) (cs : List Crossing) (t : ℕ) → s ≤ most_segments → Leads plan m cs t → Away plan s cs → Unused unit cs → Free plan marks cs → Free plan (marked (marked marks s) (unit_place unit)) cs
+  free_on : (marks : List Bool) (s unit m : ℕ) (cs : List Crossing) (t : ℕ) → s ≤ most_segments → Leads plan m cs t → Away plan s cs → Unused unit cs → Free plan marks cs → Free plan (marked (marked marks s) (unit_place unit)) cs
   unfolding Free Leads Away Unused
   free_on marks s unit m [] t h L A U F = tt
   free_on marks s unit m (c ∷ cs) t h L A U F =
@@ -103,7 +104,7 @@ module _ (plan : Plan) (pgn : ℕ) (few : plan.units ≤ most_units) (in_range :
         ),
       )
 
-  to_way : (marks : List ℕ) (s : ℕ) (cs : List Crossing) (t : ℕ) → s ≤ most_segments → Unvisited marks s → Open plan pgn s cs t → NoSegmentTwice plan s cs → Free plan marks cs → Way plan pgn marks s cs t
+  to_way : (marks : List Bool) (s : ℕ) (cs : List Crossing) (t : ℕ) → s ≤ most_segments → Unvisited marks s → Open plan pgn s cs t → NoSegmentTwice plan s cs → Free plan marks cs → Way plan pgn marks s cs t
   unfolding Way Free Leads NoUnitTwice EachPermits NoSegmentTwice Away
   to_way marks s [] t h u O N F = (u, O.leads)
   to_way marks s (c ∷ cs) t h u O N F =
@@ -125,53 +126,53 @@ module _ (plan : Plan) (pgn : ℕ) (few : plan.units ≤ most_units) (in_range :
       )
 
   -- ---- and back
-  visited_still : (marks : List ℕ) (i j : ℕ) → i < length marks → get_or marks i 0 ≡ 1 → get_or (marked marks j) i 0 ≡ 1
+  visited_still : (marks : List Bool) (i j : ℕ) → i < length marks → get_or marks i false ≡ true → get_or (marked marks j) i false ≡ true
   visited_still marks i j h e = elim (ℕ_discrete i j) [
-    | yes q ↦ rw (← q) (get_or-set_same marks i 1 0 h)
-    | no ne ↦ get_or-set_other marks j i 1 0 ne ∙ e
+    | yes q ↦ rw (← q) (get_or-set_same marks i true false h)
+    | no ne ↦ get_or-set_other marks j i true false ne ∙ e
   ]
 
-  way_unused : (unit : ℕ) (marks : List ℕ) (s : ℕ) (cs : List Crossing) (t : ℕ) → unit_place unit < length marks → get_or marks (unit_place unit) 0 ≡ 1 → Way plan pgn marks s cs t → Unused unit cs
+  way_unused : (unit : ℕ) (marks : List Bool) (s : ℕ) (cs : List Crossing) (t : ℕ) → unit_place unit < length marks → get_or marks (unit_place unit) false ≡ true → Way plan pgn marks s cs t → Unused unit cs
   unfolding Way Unused
   way_unused unit marks s [] t h v w = tt
   way_unused unit marks s (c ∷ cs) t h v w =
       let here = visited_still marks (unit_place unit) s h v in
-      let long = length-set marks s 1 in (
+      let long = length-set marks s true in (
         (λ e. clash (rw e at w.1.1.0) here),
         way_unused unit (marked (marked marks s) (unit_place c.unit)) (onward plan c) cs t (simp length-set h)
             (visited_still (marked marks s) (unit_place unit) (unit_place c.unit) (omega arith) here) w.1.1.1.1,
       )
     where
-      clash : get_or (marked marks s) (unit_place unit) 0 ≡ 0 → get_or (marked marks s) (unit_place unit) 0 ≡ 1 → ⊥
-      clash p q = omega arith
+      clash : get_or (marked marks s) (unit_place unit) false ≡ false → get_or (marked marks s) (unit_place unit) false ≡ true → ⊥
+      clash p q = true≢false (sym q ∙ p)
 
-  way_open : (marks : List ℕ) (s : ℕ) (cs : List Crossing) (t : ℕ) → length marks ≡ marks_length → Way plan pgn marks s cs t → Open plan pgn s cs t
+  way_open : (marks : List Bool) (s : ℕ) (cs : List Crossing) (t : ℕ) → length marks ≡ marks_length → Way plan pgn marks s cs t → Open plan pgn s cs t
   unfolding Way Leads NoUnitTwice EachPermits
   way_open marks s [] t l w = record { leads = w.1; once = tt; permits = tt }
   way_open marks s (c ∷ cs) t l w =
       let next = marked (marked marks s) (unit_place c.unit) in
       let in-plan = w.1.0.planned in
-      let long : length (marked marks s) ≡ marks_length = length-set marks s 1 ∙ l in
-      let longer : length next ≡ marks_length = length-set (marked marks s) (unit_place c.unit) 1 ∙ long in
+      let long : length (marked marks s) ≡ marks_length = length-set marks s true ∙ l in
+      let longer : length next ≡ marks_length = length-set (marked marks s) (unit_place c.unit) true ∙ long in
       let O = way_open next (onward plan c) cs t longer w.1.1.1.1 in
       record {
         leads = (w.1.0, O.leads);
-        once = (way_unused c.unit next (onward plan c) cs t (omega arith) (get_or-set_same (marked marks s) (unit_place c.unit) 1 0 (omega arith)) w.1.1.1.1, O.once);
+        once = (way_unused c.unit next (onward plan c) cs t (omega arith) (get_or-set_same (marked marks s) (unit_place c.unit) true false (omega arith)) w.1.1.1.1, O.once);
         permits = (w.1.1.1.0, O.permits);
       }
 
   -- ---- from unmarked marks
-  all_free : (n : ℕ) (cs : List Crossing) → Free plan (replicate n 0) cs
+  all_free : (n : ℕ) (cs : List Crossing) → Free plan (replicate n false) cs
   unfolding Free
   all_free n [] = tt
   all_free n (c ∷ cs) = (unmarked_at n (onward plan c), (unmarked_at n (unit_place c.unit), all_free n cs))
 
-  pub hears_is : {n : ℕ} (first : ℕ) → n ≡ marks_length → first ≤ most_segments → (t : ℕ) → Reached plan pgn (replicate n 0) first t ↔ Hears plan first pgn t
+  pub hears_is : {n : ℕ} (first : ℕ) → n ≡ marks_length → first ≤ most_segments → (t : ℕ) → Reached plan pgn (replicate n false) first t ↔ Hears plan first pgn t
   unfolding Way
   hears_is {n} first l h t = (
-    (λ w. let O = way_open (replicate n 0) first w.0 t (length-replicate n 0 ∙ l) w.1 in inr (w.0, (record { leads = O.leads; once = O.once }, O.permits))),
+    (λ w. let O = way_open (replicate n false) first w.0 t (length-replicate n false ∙ l) w.1 in inr (w.0, (record { leads = O.leads; once = O.once }, O.permits))),
     ⊎_elim
         (λ e. ([], (unmarked_at n first, sym e)))
         (λ p. let S = shorten plan pgn first p.0 t (record { leads = p.1.0.leads; once = p.1.0.once; permits = p.1.1 }) in
-        (S.crossings, to_way (replicate n 0) first S.crossings t h (unmarked_at n first) S.way S.simple (all_free n S.crossings))),
+        (S.crossings, to_way (replicate n false) first S.crossings t h (unmarked_at n first) S.way S.simple (all_free n S.crossings))),
   )

@@ -7,21 +7,13 @@ use lib.ListN.{get_or}
 use Rattle.plan_shape.specs.Plan.{Plan, Hearing, in_range, Ringed, most_segments, port_count}
 use Rattle.plan_shape.proofs.Ranges.{Ranged}
 use Rattle.plan_walk.specs.Walk.{Bounded}
-use Rattle.plans.specs.declared.Planned.TheVariants.{Heard, Refused}
+use Rattle.std.specs.Prelude.{Ok, Err}
+use Rattle.checks.specs.declared.refusal.Refusal.TheVariants.{OutsidePlan, TwoPaths}
 use Rattle.plans.specs.Plans.{Lent, Planning}
 
 module _ {segments : ℕ} {plan : Plan} {first pgn : ℕ} where
-  pub refused_2 : (Lent plan → ⊥) → Planning segments plan first pgn (Refused 2)
-  refused_2 wrong = record {
-    number2 = ((λ e. wrong), (λ w. refl));
-    number28 = ((λ e. absurd (omega arith)), (λ p. absurd (wrong p.0)));
-    number29 = ((λ e. absurd (omega arith)), (λ p. absurd (wrong p.0)));
-    answered = ((λ e. absurd (omega arith)), (λ p. absurd (wrong p.0)));
-    heard = λ e. absurd (omega arith);
-  }
-
   module _ (lent : Lent plan) where
-    pub refused_28 : in_range segments plan first pgn ≡ false → Planning segments plan first pgn (Refused 28)
+    pub refused_28 : in_range segments plan first pgn ≡ false → Planning segments plan first pgn (Err OutsidePlan)
     refused_28 out = record {
       number2 = ((λ e. absurd (omega arith)), (λ w. absurd (w lent)));
       number28 = ((λ e. (lent, out)), (λ p. refl));
@@ -31,7 +23,7 @@ module _ {segments : ℕ} {plan : Plan} {first pgn : ℕ} where
     }
 
     module _ (good : in_range segments plan first pgn ≡ true) where
-      pub refused_29 : Ringed plan → Planning segments plan first pgn (Refused 29)
+      pub refused_29 : Ringed plan → Planning segments plan first pgn (Err TwoPaths)
       refused_29 ring = record {
         number2 = ((λ e. absurd (omega arith)), (λ w. absurd (w lent)));
         number28 = ((λ e. absurd (omega arith)), (λ p. absurd (true≢false (sym good ∙ p.1))));
@@ -40,7 +32,7 @@ module _ {segments : ℕ} {plan : Plan} {first pgn : ℕ} where
         heard = λ e. absurd (omega arith);
       }
 
-      pub answer : {r : ℕ} → (Ringed plan → ⊥) → Hearing plan first pgn r → Planning segments plan first pgn (Heard r)
+      pub answer : {r : ℕ} → (Ringed plan → ⊥) → Hearing plan first pgn r → Planning segments plan first pgn (Ok r)
       answer none H = record {
         number2 = ((λ e. absurd (omega arith)), (λ w. absurd (w lent)));
         number28 = ((λ e. absurd (omega arith)), (λ p. absurd (true≢false (sym good ∙ p.1))));

@@ -4,16 +4,10 @@
 ghost use Rattle.plan_shape.specs.Plan.{plan_of};
 ghost use Rattle.plans.specs.Plans.{Planning};
 
+use checks::Refusal;
 use plan_shape::{LISTS_LENGTH, PORTS_LENGTH};
 
-// The answer: the segments that hear, bit s - 1 for segment s; or the number that refuses the plan.
-#[derive(Clone, Copy)]
-pub enum Planned {
-    Heard(u64),
-    Refused(u32),
-}
-
-// Which segments hear a PGN that is sent on the first one.
+// Which segments hear a PGN that is sent on the first one, bit s - 1 for segment s; or what refuses the plan.
 pub fn hear(
     ports: &[u64],
     lists: &[u64],
@@ -21,23 +15,17 @@ pub fn hear(
     units: u32,
     first: u32,
     pgn: u32,
-) -> Planned
+) -> Result<u64, Refusal>
     ensures { Planning segments (plan_of units ports.now lists.now) first pgn result }
 {
-    if ports.len() != PORTS_LENGTH {
-        return Planned::Refused(2);
+    let ports: &[u64; PORTS_LENGTH] = ports.try_into().map_err(|_| Refusal::WrongLength)?;
+    let lists: &[u64; LISTS_LENGTH] = lists.try_into().map_err(|_| Refusal::WrongLength)?;
+    if !plan_shape::is_in_range(ports, lists, segments, units, first, pgn) {
+        return Err(Refusal::OutsidePlan);
     }
-    if lists.len() != LISTS_LENGTH {
-        return Planned::Refused(2);
+    let units = units as usize;
+    if plan_rings::has_ring(ports, units) {
+        return Err(Refusal::TwoPaths);
     }
-    let good = plan_shape::is_in_range(ports, lists, segments, units, first, pgn);
-    if good {
-        let ringed = plan_rings::has_ring(ports, units as usize);
-        if ringed {
-            return Planned::Refused(29);
-        }
-        let heard = plan_walk::hear(ports, lists, units as usize, pgn, first as usize);
-        return Planned::Heard(heard);
-    }
-    Planned::Refused(28)
+    Ok(plan_walk::hear(ports, lists, units, pgn, first as usize))
 }

@@ -1,7 +1,7 @@
 -- The contracts of join and take, from what their steps did to the frames of the block. Assumes nothing.
 use Rattle.std.proofs.Common.{◌≡◌, ℕ, ◌+◌, ◌-◌, ◌<◌, ◌≤◌, min, true, false, List, [], ◌∷◌, length, get_or, take, set, refl, ◌∙◌, true≢false, not-suc-le-zero, add-one, arith, length-take, get_or-take, take-suc-set, le-ltb, lt-ltb}
 use Rattle.queue.specs.declared.Frame.{Frame}
-use Rattle.queue.specs.declared.Taken.TheVariants.{Given, Nothing}
+use Rattle.std.specs.Prelude.{None, Some}
 use Rattle.queue.specs.Queue.{size, block_length, head, frames_of, row_of, tally_of, counted_in, counted_out, priority, Queued, queue_of, Joining, Taking}
 use Rattle.queue.specs.Steps.{blank, remove_at, First, Counting}
 use Rattle.queue.proofs.Words.{frames_length}
@@ -29,12 +29,6 @@ module _ (block : List ℕ) (long : length block ≡ block_length) where
   pub row_length : length (row_of block) ≡ min (get_or block 0 0) size
   unfolding row_of
   row_length = simp length-take (rw (frames_length block long))
-
-  pub held_count : get_or block 0 0 < size → (get_or block 0 0 ≡ length (row_of block)) × (get_or block 0 0 ≤ size)
-  held_count h = (omega (arith, row_length), omega arith)
-
-  pub held_all : size ≤ get_or block 0 0 → (size ≡ length (row_of block)) × (size ≤ size)
-  held_all h = (omega (arith, row_length), omega arith)
 
   module _ (n : ℕ) (waits : n ≡ length (row_of block)) where
     row_is : row_of block ≡ take n (frames_of block)
@@ -71,7 +65,7 @@ module _ (block : List ℕ) (long : length block ≡ block_length) where
     empty [] h = refl
     empty (f ∷ row) h = absurd (omega arith)
 
-    pub took_nothing : n ≡ 0 → Taking block block Nothing
+    pub took_nothing : n ≡ 0 → Taking block block None
     unfolding queue_of
     took_nothing z =
         let e : row_of block ≡ [] = empty (row_of block) (omega arith) in
@@ -79,7 +73,7 @@ module _ (block : List ℕ) (long : length block ≡ block_length) where
 
     pub took : (closed after : List ℕ) (at : ℕ) (f : Frame) → length closed ≡ block_length → length after ≡ block_length → First (frames_of block) n at
         → f ≡ get_or (frames_of block) at blank → take (n - 1) (frames_of closed) ≡ remove_at at (take n (frames_of block)) → head closed ≡ head block
-        → Counting (set closed 0 (n - 1)) after (counted_out (priority f) (tally_of (set closed 0 (n - 1)))) → Taking block after (Given f)
+        → Counting (set closed 0 (n - 1)) after (counted_out (priority f) (tally_of (set closed 0 (n - 1)))) → Taking block after (Some f)
     unfolding queue_of
     took closed after at f l la F g c hd C =
         let gone = get_or-take n (frames_of block) at blank F.inside in

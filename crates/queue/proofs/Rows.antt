@@ -1,6 +1,6 @@
 -- The row of a queue moves by the rules of `delivery`, whatever is counted. Assumes nothing.
 use Rattle.std.proofs.Common.{◌≡◌, ℕ, Bool, true, false, cond, eqb, List, [], ◌∷◌, ◌++◌, refl}
-use mathlib.Core.Option.{Option, none, some}
+use Rattle.std.specs.Prelude.{Option, None, Some}
 use Rattle.delivery.specs.Row.{pull, kept}
 use Rattle.delivery.specs.Unit.{join_all, row_next}
 use Rattle.queue.specs.declared.Frame.{Frame}
@@ -11,8 +11,8 @@ row_sent x [] = refl
 row_sent x (f ∷ fs) = row_sent (joined x f) fs
 
 pub row_next_lem : (a : Option ℕ) (q : ℕ) (x : Queued) (fs : List Frame) → (queue_next a q x fs).row ≡ row_next priority size a q x.row fs
-row_next_lem none q x fs = row_sent x fs
-row_next_lem (some p) q x fs = go (eqb p q)
+row_next_lem None q x fs = row_sent x fs
+row_next_lem (Some p) q x fs = go (eqb p q)
   where
     go : (b : Bool) → (cond b (taking x) x).row ≡ cond b (kept (pull priority x.row)) x.row
     go true = refl

@@ -1,6 +1,6 @@
 -- The search for the frame that a take gives: a row that grows by one frame gives that frame if its number is lower than the lowest so far. Assumes nothing.
 use Rattle.std.proofs.Common.{◌≡◌, ℕ, suc, ◌+◌, ◌<◌, ◌≤◌, List, [], ◌∷◌, ◌++◌, length, get_or, take, drop, refl, ◌∙◌, append_assoc, append-nil, not-suc-le-zero, add-one, arith, length-append, drop_of_length-le, length-take-le, take-suc, take_at}
-use mathlib.Core.Option.{some}
+use Rattle.std.specs.Prelude.{Some}
 use lib.ListN.{get_or-append}
 use lib.Seq.{get_or_at, take-append-le, drop-append-le}
 use Rattle.delivery.specs.Row.{pull}
@@ -12,7 +12,7 @@ use Rattle.queue.specs.Steps.{blank, remove_at, pulled_at, First}
 -- of a row, the frame that a take gives is at `at`, and its number is low
 pub record Scan (row : List Frame) (at low : ℕ) : Type 0 where
   pub inside : at < length row
-  pub pulled : pull priority row ≡ some (pulled_at at row)
+  pub pulled : pull priority row ≡ Some (pulled_at at row)
   pub number : low ≡ priority (get_or row at blank)
 
 -- the last of a row goes out

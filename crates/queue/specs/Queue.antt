@@ -1,13 +1,10 @@
 -- One port's queue: what a block of words means, and what a join and a take do. The rules themselves are those of the crate `delivery`; what is counted is
 -- docs/RULES.md, "How full a queue is".
-use Rattle.std.specs.Prelude.{◌≡◌, ℕ, ◌+◌, ◌-◌, ◌*◌, ◌/◌, ◌%◌, ◌^◌, Bool, false, cond, List, [], ◌∷◌, length, take, drop, replicate, ◌==◌, slice_index, slice_set}
-use Rattle.std.proofs.Math.Option.{Option, none, some}
+use Rattle.std.specs.Prelude.{◌≡◌, ℕ, ◌+◌, ◌-◌, ◌*◌, ◌/◌, ◌%◌, ◌^◌, Bool, false, cond, List, [], ◌∷◌, length, take, drop, replicate, ◌==◌, slice_index, slice_set, Option, None, Some}
 use Rattle.identifier.specs.Identifier.{priority_of}
 use Rattle.delivery.specs.Row.{room, join, pull, given, kept}
 use Rattle.queue.specs.declared.Frame.{Frame}
 use Rattle.queue.specs.declared.Tally.{Tally}
-use Rattle.queue.specs.declared.Taken.{Taken}
-use Rattle.queue.specs.declared.Taken.TheVariants.{Given, Nothing}
 
 -- "Each port has one queue of at most 32 frames."
 abbrev pub size : ℕ
@@ -81,8 +78,8 @@ joined x f = record { row = join size x.row f; tally = cond (room size x.row) (c
 
 -- a frame that is taken counts, a take that gives nothing doesn't
 abbrev pub tally_after : Option Frame → Tally → Tally
-tally_after none t = t
-tally_after (some f) t = counted_out (priority f) t
+tally_after None t = t
+tally_after (Some f) t = counted_out (priority f) t
 
 abbrev pub taking : Queued → Queued
 taking x = record { row = kept (pull priority x.row); tally = tally_after (given (pull priority x.row)) x.tally }
@@ -94,8 +91,8 @@ sent_all x (f ∷ fs) = sent_all (joined x f) fs
 
 -- port q's queue after a call, by the port that it takes from, if it is a take, and the frames that it sends there
 abbrev pub queue_next : Option ℕ → ℕ → Queued → List Frame → Queued
-queue_next none q x sent = sent_all x sent
-queue_next (some p) q x sent = cond (p == q) (taking x) x
+queue_next None q x sent = sent_all x sent
+queue_next (Some p) q x sent = cond (p == q) (taking x) x
 
 -- as power_on leaves it
 abbrev pub idle : Queued
@@ -111,15 +108,10 @@ pub record Joining (before after : List ℕ) (f : Frame) (r : Bool) : Type 0 whe
   pub long : length after ≡ length before
 
 -- ---- take (forwarding rule 4)
--- What a take gives, as an answer.
-abbrev pub taken_of : Option Frame → Taken
-taken_of none = Nothing
-taken_of (some f) = Given f
-
 -- A take was made on the block `before`; `after` is the block then, and r the answer.
-pub record Taking (before after : List ℕ) (r : Taken) : Type 0 where
+pub record Taking (before after : List ℕ) (r : Option Frame) : Type 0 where
   pub state : queue_of after ≡ taking (queue_of before)
-  pub answer : r ≡ taken_of (given (pull priority (row_of before)))
+  pub answer : r ≡ given (pull priority (row_of before))
   -- nothing waiting: word for word as it was
-  pub nothing : r ≡ Nothing → after ≡ before
+  pub nothing : r ≡ None → after ≡ before
   pub long : length after ≡ length before

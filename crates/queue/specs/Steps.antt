@@ -1,6 +1,5 @@
 -- What the steps of a take find and leave. Only private functions cite these; the rule itself is `pull`.
-use Rattle.std.specs.Prelude.{◌≡◌, ℕ, suc, ◌<◌, List, ◌++◌, take, drop, slice_index_or}
-use Rattle.std.proofs.Math.Option.{some}
+use Rattle.std.specs.Prelude.{◌≡◌, ℕ, suc, ◌<◌, List, ◌++◌, take, drop, slice_index_or, Some}
 use Rattle.delivery.specs.Row.{Pulled, pull}
 use Rattle.queue.specs.declared.Frame.{Frame}
 use Rattle.queue.specs.declared.Tally.{Tally}
@@ -21,7 +20,7 @@ pulled_at i row = record { frame = slice_index_or row i blank; others = remove_a
 -- of the first n frames, frame i is the one that a take gives
 pub record First (frames : List Frame) (n i : ℕ) : Type 0 where
   pub inside : i < n
-  pub pulled : pull priority (take n frames) ≡ some (pulled_at i (take n frames))
+  pub pulled : pull priority (take n frames) ≡ Some (pulled_at i (take n frames))
 
 -- what is counted became t, and the row is as it was
 pub record Counting (before after : List ℕ) (t : Tally) : Type 0 where

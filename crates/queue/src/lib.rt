@@ -7,8 +7,6 @@ ghost use Rattle.std.specs.Prelude.{◌≡◌, ◌-◌, ◌<◌, ◌≤◌, leng
 ghost use Rattle.queue.specs.Queue.{size, block_length, head, frames_of, row_of, tally_of, counted_in, counted_out, priority, Joining, Taking};
 ghost use Rattle.queue.specs.Steps.{blank, remove_at, First, Counting};
 
-use std::num::{wrapping_add_u64, wrapping_sub_u64};
-
 // How many frames wait at most.
 pub const SIZE: usize = 32;
 
@@ -28,22 +26,15 @@ pub const BLOCK_LENGTH: usize = 2 * SIZE + FRAMES;
 const LENGTH_PLACE: u64 = 4294967296;
 
 // A frame: its identifier, its length, and its bytes in a word, least significant first.
-#[derive(Clone, Copy)]
+#[derive(Clone, Copy, PartialEq, Eq, Debug)]
 pub struct Frame {
     pub id: u32,
     pub len: u32,
     pub bytes: u64,
 }
 
-// What a take gives.
-#[derive(Clone, Copy)]
-pub enum Taken {
-    Given(Frame),
-    Nothing,
-}
-
 // What is counted at a port: the frames that wait, by their priority, and those accepted and taken since power-on.
-#[derive(Clone, Copy)]
+#[derive(Clone, Copy, PartialEq, Eq, Debug)]
 pub struct Tally {
     pub waiting: [u64; 8],
     pub accepted: u64,
@@ -88,12 +79,7 @@ fn waiting(block: &[u64]) -> usize
     requires { length block.now ≡ block_length }
     ensures { (result ≡ length (row_of block.now)) × (result ≤ size) }
 {
-    let count = block[0];
-    if count < SIZE as u64 {
-        count as usize
-    } else {
-        SIZE
-    }
+    block[0].min(SIZE as u64) as usize
 }
 
 // The place of the frame that a take gives, among the first n.
@@ -103,14 +89,12 @@ fn first(block: &[u64], n: usize) -> usize
 {
     let mut at = 0;
     let mut low = priority_at(block, 0);
-    let mut i = 1;
-    while i < n {
+    for i in 1..n {
         let p = priority_at(block, i);
         if p < low {
             low = p;
             at = i;
         }
-        i += 1;
     }
     at
 }
@@ -120,12 +104,9 @@ fn close_up(block: &mut [u64], at: usize, n: usize)
     requires { (length block.old ≡ block_length) × (at < n) × (n ≤ size) }
     ensures { (take (n - 1) (frames_of block.new) ≡ remove_at at (take n (frames_of block.old))) × (head block.new ≡ head block.old) }
 {
-    let last = n - 1;
-    let mut place = at;
-    while place < last {
+    for place in at..n - 1 {
         let f = get(block, place + 1);
         put(block, place, f);
-        place += 1;
     }
 }
 
@@ -135,8 +116,8 @@ fn count_in(block: &mut [u64], priority: u32)
     ensures { Counting block.old block.new (counted_in priority (tally_of block.old)) }
 {
     let k = OF_PRIORITY + priority as usize;
-    block[k] = wrapping_add_u64(block[k], 1);
-    block[ACCEPTED] = wrapping_add_u64(block[ACCEPTED], 1);
+    block[k] = block[k].wrapping_add(1);
+    block[ACCEPTED] = block[ACCEPTED].wrapping_add(1);
 }
 
 // One frame of a priority was taken.
@@ -145,8 +126,8 @@ fn count_out(block: &mut [u64], priority: u32)
     ensures { Counting block.old block.new (counted_out priority (tally_of block.old)) }
 {
     let k = OF_PRIORITY + priority as usize;
-    block[k] = wrapping_sub_u64(block[k], 1);
-    block[TAKEN] = wrapping_add_u64(block[TAKEN], 1);
+    block[k] = block[k].wrapping_sub(1);
+    block[TAKEN] = block[TAKEN].wrapping_add(1);
 }
 
 // What is counted at the port.
@@ -179,20 +160,20 @@ pub fn join(block: &mut [u64], f: Frame) -> bool
 }
 
 // The frame of highest rank, the earliest of those, leaves the row, and the others keep their order.
-pub fn take(block: &mut [u64]) -> Taken
+pub fn take(block: &mut [u64]) -> Option<Frame>
     requires { length block.old ≡ block_length }
     ensures { Taking block.old block.new result }
 {
     let n = waiting(block);
     if n == 0 {
-        return Taken::Nothing;
+        return None;
     }
     let at = first(block, n);
     let f = get(block, at);
     close_up(block, at, n);
     block[0] = (n - 1) as u64;
     count_out(block, identifier::priority(f.id));
-    Taken::Given(f)
+    Some(f)
 }
 
 // A queue by value.
@@ -206,7 +187,7 @@ pub struct Queue {
 #[derive(Clone, Copy)]
 pub struct AfterTake {
     pub queue: Queue,
-    pub taken: Taken,
+    pub taken: Option<Frame>,
 }
 
 impl Queue {

@@ -1,27 +1,23 @@
 -- The record's regions: what a part that is read means in the model, and what a part that was lent and came back does to it. Assumes nothing.
 use mathlib.Core.Path.{◌≡◌, refl, sym, ap, ◌∙◌}
 use mathlib.Core.Logic.{◌⊎◌, inl, inr, ⊎_elim}
-use mathlib.Core.Bool.{Bool, true, false}
-use mathlib.Core.Option.{Option, none}
-use mathlib.Core.List.{List}
+use mathlib.Core.Bool.{Bool}
+use Rattle.std.specs.Prelude.{Option, None}
+use mathlib.Core.List.{List, [], ◌∷◌}
 use Prim.Native.Nat.{ℕ, ◌+◌, ◌*◌, ◌≤◌, ◌<◌}
 use native.Mathlib.Omega.{arith}
-use borrow.Author.Tests.{ltb-true, ltb-false}
-use lib.Dec.{ltb}
 use lib.ListN.{length, get_or, set, take, drop, take-append-drop, get_or-eq_default}
-use lib.Seq.{get_or-take, get_or-drop}
+use lib.Seq.{get_or-take, get_or-drop, get_or-set_other}
 use Rattle.storage.specs.Blocks.{block_at}
-use Rattle.storage.proofs.Parts.{back, part_in, part_before, part_after, part_apart}
+use Rattle.storage.proofs.Parts.{back, part_in, part_before, part_after, part_apart, store_back}
 use Rattle.storage.proofs.Blocks.{length_blocks, blocks_at, blocks_set, blocks_apart}
 use Rattle.filter.specs.declared.Asked.{Asked}
 use Rattle.filter.specs.Filter.{Filter, filter_of, clear, Asking}
 use Rattle.queue.specs.declared.Frame.{Frame}
-use Rattle.queue.specs.declared.Taken.{Taken}
 use Rattle.queue.specs.Queue.{row_of, Queued, queue_of, idle, Joining, Taking}
-use Rattle.losses.specs.Losses.{counter_length, losses_of}
-use Rattle.addresses.specs.declared.Place.{Place}
+use Rattle.losses.specs.Losses.{counter_length, held, losses_of}
 use Rattle.address_claims.specs.declared.Event.{Event}
-use Rattle.addresses.specs.Table.{table_of, name_in, name_at}
+use Rattle.addresses.specs.Table.{table_of, name_in, name_at, Place}
 use Rattle.addresses.proofs.Words.{table_length_lem}
 use Rattle.unit.specs.Count.{pair_count}
 use Rattle.unit.specs.Model.{model_of, table_from, rows_from, pairs_from, losses_from, record_length, pair_at, queue_on, row_at, with_queue, with_rest, with_pairs, with_table, with_losses}
@@ -71,7 +67,7 @@ module _ (words : List ℕ) (q : ℕ) (inside : rows_from + queue_length * q + q
     pub row_joined : (f : Frame) (r : Bool) → Joining (take queue_length (drop (rows_from + queue_length * q) words)) ys f r → RowJoining ports words (back (rows_from + queue_length * q) queue_length words ys) q f r
     row_joined f r J = record { answer = rw row_of_lem J.answer; state = rw (queue_back, queue_of_lem, J.state) }
 
-    pub row_taken : (r : Taken) → Taking (take queue_length (drop (rows_from + queue_length * q) words)) ys r → RowTaking ports words (back (rows_from + queue_length * q) queue_length words ys) q r
+    pub row_taken : (r : Option Frame) → Taking (take queue_length (drop (rows_from + queue_length * q) words)) ys r → RowTaking ports words (back (rows_from + queue_length * q) queue_length words ys) q r
     row_taken r T = record {
       answer = rw row_of_lem T.answer;
       state = rw (queue_back, queue_of_lem, T.state);
@@ -104,14 +100,6 @@ counter_lent ports words ys i full counter long =
       part_apart (losses_from ports + counter_length * i) counter_length words ys long (omega arith) table_from table_length (inl (omega arith)),
     )
 
--- another word lies before this one or behind it
-apart : (n k : ℕ) → (n ≡ k → ⊥) → (n < k) ⊎ (k + 1 ≤ n)
-apart n k ne = go (ltb n k) refl
-  where
-    go : (b : Bool) → ltb n k ≡ b → (n < k) ⊎ (k + 1 ≤ n)
-    go true e = inl (ltb-true n k e)
-    go false e = inr (omega (arith, ltb-false n k e, ne))
-
 -- the first word of a part
 pub first_word : (words : List ℕ) (a k : ℕ) → 0 < k → get_or (take k (drop a words)) 0 0 ≡ get_or words a 0
 first_word words a k h =
@@ -119,10 +107,10 @@ first_word words a k h =
     get_or-take k (drop a words) 0 0 h ∙ get_or-drop a words 0 0 ∙ ap (λ n. get_or words n 0) here
 
 -- an address past the table has no NAME
-pub name_past : (ports : ℕ) (words : List ℕ) (address : ℕ) → 254 ≤ address → none ≡ name_at (model_of ports words).rest.table address
+pub name_past : (ports : ℕ) (words : List ℕ) (address : ℕ) → 254 ≤ address → None ≡ name_at (model_of ports words).rest.table address
 unfolding name_at name_in model_of
 name_past ports words address h =
-    let past = get_or-eq_default (table_of (take table_length (drop table_from words))) Place.Free {n = address} (omega (arith, table_length_lem (take table_length (drop table_from words)))) in
+    let past = get_or-eq_default (table_of (take table_length (drop table_from words))) None {n = address} (omega (arith, table_length_lem (take table_length (drop table_from words)))) in
     rw past
 
 pub pair_asked : (ports : ℕ) (words : List ℕ) (p q pgn i : ℕ) (sender : Option ℕ) (r : Asked) → i ≡ pair_at ports p q → i < pair_count ports → Asking (take filter_length (drop (pairs_from ports + filter_length * i) words)) pgn sender r
@@ -160,24 +148,25 @@ module _ (ports : ℕ) (words : List ℕ) (i : ℕ) (full : length words ≡ rec
       whole_again : back (pairs_from ports + filter_length * i) filter_length words (take filter_length (drop (pairs_from ports + filter_length * i) words)) ≡ words
       whole_again = rw (take-append-drop filter_length (drop (pairs_from ports + filter_length * i) words)) (take-append-drop (pairs_from ports + filter_length * i) words)
 
--- ---- a counter of losses
-module _ (ports : ℕ) (words : List ℕ) (i : ℕ) (full : length words ≡ record_length ports) (counter : i ≤ pair_count ports) where
-  pub losses_of_lem : get_or (model_of ports words).seen.losses i 0 ≡ losses_of (take counter_length (drop (losses_from ports + counter_length * i) words))
-  unfolding model_of block_at
-  losses_of_lem = blocks_at losses_of counter_length (losses_from ports) (pair_count ports + 1) words i 0 (omega arith)
+-- ---- a counter of losses, in one word
+module _ (ports : ℕ) (words : List ℕ) (i : ℕ) (full : length words ≡ record_length ports) (counter : i ≤ pair_count ports) (a : ℕ) (here : a ≡ losses_from ports + counter_length * i) where
+  pub losses_of_lem : get_or (model_of ports words).seen.losses i 0 ≡ held (get_or words a 0)
+  unfolding model_of block_at losses_of
+  losses_of_lem =
+      rw here (
+      blocks_at losses_of counter_length (losses_from ports) (pair_count ports + 1) words i 0 (omega arith)
+      ∙ ap held (first_word words (losses_from ports + counter_length * i) counter_length (omega arith))
+      )
 
-  pub losses_changed : (ys : List ℕ) (change : ℕ → ℕ) → length ys ≡ counter_length → losses_of ys ≡ change (losses_of (take counter_length (drop (losses_from ports + counter_length * i) words)))
-      → LossesChanging ports words (back (losses_from ports + counter_length * i) counter_length words ys) i change
-  losses_changed ys change long e = record {
-    state = counter_back ∙ rw (e, losses_of_lem);
-    others = λ n ne. word_apart (losses_from ports + counter_length * i) counter_length words ys long (omega arith) n (either n ne);
+  counter_back : (word : ℕ) → model_of ports (set words a word) ≡ with_losses (model_of ports words) (set (model_of ports words).seen.losses i (held word))
+  unfolding losses_of
+  counter_back word = rw (here, store_back (losses_from ports + counter_length * i) words word (omega arith)) (counter_lent ports words (word ∷ []) i full counter refl)
+
+  pub losses_changed : (word : ℕ) (change : ℕ → ℕ) → held word ≡ change (held (get_or words a 0)) → LossesChanging ports words (set words a word) i change
+  losses_changed word change e = record {
+    state = counter_back word ∙ rw (e, losses_of_lem);
+    others = λ n ne. get_or-set_other words a n word 0 (λ e. ne (omega arith));
   }
-    where
-      counter_back : model_of ports (back (losses_from ports + counter_length * i) counter_length words ys) ≡ with_losses (model_of ports words) (set (model_of ports words).seen.losses i (losses_of ys))
-      counter_back = counter_lent ports words ys i full counter long
-
-      either : (n : ℕ) → (n ≡ losses_from ports + i → ⊥) → (n < losses_from ports + counter_length * i) ⊎ (losses_from ports + counter_length * i + counter_length ≤ n)
-      either n ne = apart n (losses_from ports + counter_length * i) (λ e. ne (omega arith))
 
 -- ---- the address table
 module _ (words ys : List ℕ) (inside : rows_from ≤ length words) (long : length ys ≡ table_length) (ports : ℕ) where

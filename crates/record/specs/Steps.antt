@@ -1,16 +1,14 @@
 -- The contracts of the accessors: what a lent block, changed or read, is in the model of the record.
 -- Assumes nothing.
-use Rattle.std.specs.Prelude.{ℕ, ◌+◌, ◌*◌, ◌≤◌, ◌<◌, Bool, false, ◌⊎◌, ◌≡◌, List, take, drop, get_or, set}
-use Rattle.std.proofs.Math.Option.{Option}
+use Rattle.std.specs.Prelude.{ℕ, ◌+◌, ◌*◌, ◌≤◌, ◌<◌, Bool, false, ◌⊎◌, ◌≡◌, List, take, drop, get_or, set, Option}
+use Rattle.addresses.specs.Table.{Place}
 use Rattle.delivery.specs.Row.{room, pull, given}
 use Rattle.filter.specs.declared.Asked.{Asked}
 use Rattle.filter.specs.Filter.{Filter, clear, asked, block_size as filter_length}
 use Rattle.sorted_list.specs.SortedList.{most_probes}
 use Rattle.name_entries.specs.NameEntries.{most_names}
 use Rattle.queue.specs.declared.Frame.{Frame}
-use Rattle.queue.specs.declared.Taken.{Taken}
-use Rattle.queue.specs.Queue.{size, priority, taken_of, joined, taking, block_length as queue_length}
-use Rattle.addresses.specs.declared.Place.{Place}
+use Rattle.queue.specs.Queue.{size, priority, joined, taking, block_length as queue_length}
 use Rattle.address_claims.specs.declared.Event.{Event}
 use Rattle.unit.specs.Model.{queue_on, row_at, pair_at, with_rest, with_pairs, with_table, with_queue, with_losses, pairs_from, rows_from, losses_from, model_of}
 
@@ -50,8 +48,8 @@ pub record RowJoining (ports : ℕ) (before after : List ℕ) (q : ℕ) (f : Fra
   pub state : model_of ports after ≡ with_queue (model_of ports before) q (joined (queue_on (model_of ports before) q) f)
 
 -- a take was made on port q
-pub record RowTaking (ports : ℕ) (before after : List ℕ) (q : ℕ) (r : Taken) : Type 0 where
-  pub answer : r ≡ taken_of (given (pull priority (row_at (model_of ports before) q)))
+pub record RowTaking (ports : ℕ) (before after : List ℕ) (q : ℕ) (r : Option Frame) : Type 0 where
+  pub answer : r ≡ given (pull priority (row_at (model_of ports before) q))
   pub state : model_of ports after ≡ with_queue (model_of ports before) q (taking (queue_on (model_of ports before) q))
   pub ahead : take (rows_from + queue_length * q) after ≡ take (rows_from + queue_length * q) before
   pub behind : drop (rows_from + queue_length * q + queue_length) after ≡ drop (rows_from + queue_length * q + queue_length) before

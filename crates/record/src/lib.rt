@@ -1,16 +1,15 @@
 // The record's parts: a filter, a queue or the address table is lent to its crate, one at a time.
 #![tactic(auto)]
 
-ghost use Rattle.std.specs.Prelude.{◌≡◌, ℕ, ◌+◌, ◌-◌, ◌*◌, ◌≤◌, ◌<◌, length, get_or, set, leb};
-ghost use Rattle.std.proofs.Math.Option.{Option};
+ghost use Rattle.std.specs.Prelude.{◌≡◌, ℕ, ◌+◌, ◌-◌, ◌*◌, ◌≤◌, ◌<◌, length, get_or, set, leb, Option, None};
 ghost use Rattle.addresses.specs.Table.{name_at};
 ghost use Rattle.address_claims.specs.Claims.{claimed, claim_event, withdrawn, withdraw_event, others_dropped, settled};
-ghost use Rattle.filter.specs.Filter.{clear, block_size as filter_length};
+ghost use Rattle.filter.specs.Filter.{clear, filter_of, block_size as filter_length};
 ghost use Rattle.entries.specs.Entries.{listed, entries_of};
 ghost use Rattle.network_message.specs.Decoding.{longest};
 ghost use Rattle.pgn_list.specs.PgnList.{list_size};
 ghost use Rattle.sorted_list.specs.SortedList.{most_probes};
-ghost use Rattle.name_entries.specs.NameEntries.{most_names, sender_of};
+ghost use Rattle.name_entries.specs.NameEntries.{most_names};
 ghost use Rattle.queue.specs.Queue.{block_length as queue_length};
 ghost use Rattle.losses.specs.Losses.{most, one_more, counter_length};
 ghost use Rattle.replies.specs.Replies.{list_reply, address_reply, Writing};
@@ -20,11 +19,10 @@ ghost use Rattle.unit.specs.Model.{model_of, queue_on, record_length, rows_from,
 ghost use Rattle.record.specs.Steps.{PairChanging, PairJudging, PairAsking, RowJoining, RowTaking, LossesChanging, TableChanging, TableClaiming};
 
 use address_claims::Event;
-use addresses::Place;
+use addresses::Held;
 use filter::Asked;
 use filter_commands::pairs::{Change, Question};
-use name_entries::Sender;
-use queue::{Frame, Taken, Tally};
+use queue::{Frame, Tally};
 use unit::Unit;
 
 // The place of a port's first pair among the pairs.
@@ -86,8 +84,7 @@ pub fn has_names(words: &[u64], a: usize) -> bool
     requires { a + filter_length ≤ length words.now }
     ensures { result ≡ leb 3 (get_or words.now a 0) }
 {
-    let e = a + filter::BLOCK_SIZE;
-    filter::has_names(&words[a..e])
+    filter::has_names(&words[a..a + filter::BLOCK_SIZE])
 }
 
 // Asks the pair whose filter begins at a word, which has no NAME entries, about a PGN: whoever sent it.
@@ -95,8 +92,7 @@ pub fn ask_plain(words: &[u64], a: usize, pgn: u32) -> Asked
     requires { (a + filter_length ≤ length words.now) × (get_or words.now a 0 < 3) }
     ensures { ((ports p q : ℕ) (sender : Option ℕ) → pair_at ports p q < pair_count ports → a ≡ pairs_from ports + filter_length * pair_at ports p q → PairAsking ports words.now p q pgn sender result) × (result.compared ≤ most_probes) }
 {
-    let e = a + filter::BLOCK_SIZE;
-    filter::ask_plain(&words[a..e], pgn)
+    filter::ask_plain(&words[a..a + filter::BLOCK_SIZE], pgn)
 }
 
 // Asks the pair whose filter begins at a word about a PGN from an address. The sender's NAME is looked up where the pair may have NAME entries.
@@ -106,8 +102,7 @@ pub fn ask_filter(words: &[u64], a: usize, pgn: u32, address: u32) -> Asked
 {
     if has_names(words, a) {
         let from = sender(words, address);
-        let e = a + filter::BLOCK_SIZE;
-        return filter::ask_named(&words[a..e], pgn, from);
+        return filter::ask_named(&words[a..a + filter::BLOCK_SIZE], pgn, from);
     }
     ask_plain(words, a, pgn)
 }
@@ -129,14 +124,21 @@ pub fn ask_pair(
     ask_filter(words, a, pgn, address)
 }
 
+// The filter of pair i, to be read.
+fn filter_block(words: &[u64], ports: usize, i: usize) -> &[u64]
+    requires { (ports ≤ 8) × (length words.now ≡ record_length ports) × (i < pair_count ports) }
+    ensures { (length result.now ≡ filter_length) × (filter_of result.now ≡ get_or (model_of ports words.now).rest.pairs i clear) }
+{
+    let a = filter_at(ports, i);
+    &words[a..a + filter::BLOCK_SIZE]
+}
+
 // Whether the list of pair i holds a PGN.
 pub fn lists(words: &[u64], ports: usize, i: usize, pgn: u64) -> bool
     requires { (ports ≤ 8) × (length words.now ≡ record_length ports) × (i < pair_count ports) }
     ensures { result ≡ listed pgn (get_or (model_of ports words.now).rest.pairs i clear).entries }
 {
-    let a = filter_at(ports, i);
-    let e = a + filter::BLOCK_SIZE;
-    filter::lists(&words[a..e], pgn)
+    filter::lists(filter_block(words, ports, i), pgn)
 }
 
 // A question to pair i, before a command with these entries.
@@ -144,9 +146,7 @@ pub fn question(words: &[u64], ports: usize, i: usize, question: Question, entri
     requires { (ports ≤ 8) × (length words.now ≡ record_length ports) × (i < pair_count ports) }
     ensures { result ≡ holds_of question (entries_of entries.now) (get_or (model_of ports words.now).rest.pairs i clear) }
 {
-    let a = filter_at(ports, i);
-    let e = a + filter::BLOCK_SIZE;
-    filter_commands::pairs::answer(&words[a..e], question, entries)
+    filter_commands::pairs::answer(filter_block(words, ports, i), question, entries)
 }
 
 // A command with entries changes pair i. Tells whether it was done.
@@ -155,8 +155,7 @@ pub fn change(words: &mut [u64], ports: usize, i: usize, change: Change, entries
     ensures { PairJudging ports words.old words.new i (may_of change (entries_of entries.now)) (change_of change (entries_of entries.now)) result }
 {
     let a = filter_at(ports, i);
-    let e = a + filter::BLOCK_SIZE;
-    filter_commands::pairs::apply(&mut words[a..e], change, entries)
+    filter_commands::pairs::apply(&mut words[a..a + filter::BLOCK_SIZE], change, entries)
 }
 
 // Pair i is cleared.
@@ -165,8 +164,7 @@ pub fn clear(words: &mut [u64], ports: usize, i: usize)
     ensures { PairChanging ports words.old words.new i (λ _. clear) }
 {
     let a = filter_at(ports, i);
-    let e = a + filter::BLOCK_SIZE;
-    filter_commands::clear(&mut words[a..e]);
+    filter_commands::clear(&mut words[a..a + filter::BLOCK_SIZE]);
 }
 
 // A frame joins a port's queue, or is lost there. The place of a queue, as that of the table, does not depend on the number of ports.
@@ -175,18 +173,16 @@ pub fn join_row(words: &mut [u64], q: usize, f: Frame) -> bool
     ensures { (ports : ℕ) → q < ports → RowJoining ports words.old words.new q f result }
 {
     let a = Unit::QUEUES_AT + queue::BLOCK_LENGTH * q;
-    let e = a + queue::BLOCK_LENGTH;
-    queue::join(&mut words[a..e], f)
+    queue::join(&mut words[a..a + queue::BLOCK_LENGTH], f)
 }
 
 // A frame leaves a port's queue.
-pub fn take_row(words: &mut [u64], q: usize) -> Taken
+pub fn take_row(words: &mut [u64], q: usize) -> Option<Frame>
     requires { rows_from + queue_length * q + queue_length ≤ length words.old }
     ensures { (ports : ℕ) → q < ports → RowTaking ports words.old words.new q result }
 {
     let a = Unit::QUEUES_AT + queue::BLOCK_LENGTH * q;
-    let e = a + queue::BLOCK_LENGTH;
-    queue::take(&mut words[a..e])
+    queue::take(&mut words[a..a + queue::BLOCK_LENGTH])
 }
 
 // What is counted at a port.
@@ -195,8 +191,7 @@ pub fn counts_at(words: &[u64], q: usize) -> Tally
     ensures { (ports : ℕ) → q < ports → result ≡ (queue_on (model_of ports words.now) q).tally }
 {
     let a = Unit::QUEUES_AT + queue::BLOCK_LENGTH * q;
-    let e = a + queue::BLOCK_LENGTH;
-    queue::counts(&words[a..e])
+    queue::counts(&words[a..a + queue::BLOCK_LENGTH])
 }
 
 // One more loss is counted.
@@ -205,8 +200,7 @@ pub fn count_loss(words: &mut [u64], ports: usize, i: usize)
     ensures { LossesChanging ports words.old words.new i one_more }
 {
     let a = counter_at(ports, i);
-    let e = a + losses::COUNTER_LENGTH;
-    losses::count(&mut words[a..e]);
+    losses::count(&mut words[a]);
 }
 
 // A counter of losses begins anew.
@@ -215,8 +209,7 @@ pub fn reset_losses(words: &mut [u64], ports: usize, i: usize)
     ensures { LossesChanging ports words.old words.new i (λ n. 0) }
 {
     let a = counter_at(ports, i);
-    let e = a + losses::COUNTER_LENGTH;
-    losses::reset(&mut words[a..e]);
+    losses::reset(&mut words[a]);
 }
 
 // The losses that are counted.
@@ -225,8 +218,7 @@ pub fn losses_at(words: &[u64], ports: usize, i: usize) -> u32
     ensures { (result ≡ get_or (model_of ports words.now).seen.losses i 0) × (result ≤ most) }
 {
     let a = counter_at(ports, i);
-    let e = a + losses::COUNTER_LENGTH;
-    losses::counted(&words[a..e])
+    losses::counted(&words[a])
 }
 
 // How many PGNs the list of pair i holds.
@@ -234,43 +226,37 @@ pub fn entries_of(words: &[u64], ports: usize, i: usize) -> u32
     requires { (ports ≤ 8) × (length words.now ≡ record_length ports) × (i < pair_count ports) }
     ensures { (result ≡ length (get_or (model_of ports words.now).rest.pairs i clear).entries) × (result ≤ list_size) }
 {
-    let a = filter_at(ports, i);
-    let e = a + filter::BLOCK_SIZE;
-    filter::count(&words[a..e]) as u32
+    filter::count(filter_block(words, ports, i)) as u32
 }
 
-// Who holds an address.
-pub fn holder(words: &[u64], address: usize) -> Place
+// Who holds an address, if it is not free.
+pub fn holder(words: &[u64], address: usize) -> Option<Held>
     requires { (rows_from ≤ length words.now) × (address < 254) }
-    ensures { (ports : ℕ) → result ≡ get_or (model_of ports words.now).rest.table address Place.Free }
+    ensures { (ports : ℕ) → result ≡ get_or (model_of ports words.now).rest.table address None }
 {
-    let a = Unit::TABLE_AT;
-    let e = Unit::QUEUES_AT;
-    addresses::holder(&words[a..e], address)
+    addresses::holder(&words[Unit::TABLE_AT..Unit::QUEUES_AT], address)
 }
 
 // The NAME that the table gives a sender's address.
-fn sender(words: &[u64], address: u32) -> Sender
+fn sender(words: &[u64], address: u32) -> Option<u64>
     requires { rows_from ≤ length words.now }
-    ensures { (ports : ℕ) → sender_of result ≡ name_at (model_of ports words.now).rest.table address }
+    ensures { (ports : ℕ) → result ≡ name_at (model_of ports words.now).rest.table address }
 {
     if 253 < address {
-        return Sender::Unknown;
+        return None;
     }
     match holder(words, address as usize) {
-        Place::Free => Sender::Unknown,
-        Place::Held { port: _, name } => Sender::Known(name),
+        None => None,
+        Some(held) => Some(held.name),
     }
 }
 
 // An address becomes free.
 pub fn release(words: &mut [u64], address: usize)
     requires { (rows_from ≤ length words.old) × (address < 254) }
-    ensures { (ports : ℕ) → TableChanging ports words.old words.new (λ t. set t address Place.Free) }
+    ensures { (ports : ℕ) → TableChanging ports words.old words.new (λ t. set t address None) }
 {
-    let a = Unit::TABLE_AT;
-    let e = Unit::QUEUES_AT;
-    addresses::release(&mut words[a..e], address);
+    addresses::release(&mut words[Unit::TABLE_AT..Unit::QUEUES_AT], address);
 }
 
 // Every address of a NAME but one becomes free.
@@ -278,9 +264,7 @@ pub fn drop_others(words: &mut [u64], name: u64, keep: usize)
     requires { rows_from ≤ length words.old }
     ensures { (ports : ℕ) → TableChanging ports words.old words.new (others_dropped name keep) }
 {
-    let a = Unit::TABLE_AT;
-    let e = Unit::QUEUES_AT;
-    address_claims::drop_others(&mut words[a..e], name, keep);
+    address_claims::drop_others(&mut words[Unit::TABLE_AT..Unit::QUEUES_AT], name, keep);
 }
 
 // A NAME that displaces the unit is recorded.
@@ -288,9 +272,12 @@ pub fn settle(words: &mut [u64], port: u64, address: usize, name: u64)
     requires { (rows_from ≤ length words.old) × (address < 254) }
     ensures { (ports : ℕ) → TableChanging ports words.old words.new (settled port address name) }
 {
-    let a = Unit::TABLE_AT;
-    let e = Unit::QUEUES_AT;
-    address_claims::settle(&mut words[a..e], port, address, name);
+    address_claims::settle(
+        &mut words[Unit::TABLE_AT..Unit::QUEUES_AT],
+        port,
+        address,
+        name,
+    );
 }
 
 // A claim of an address that is not the unit's.
@@ -298,9 +285,12 @@ pub fn claim(words: &mut [u64], port: u64, address: usize, name: u64) -> Event
     requires { (rows_from ≤ length words.old) × (address < 254) }
     ensures { (ports : ℕ) → TableClaiming ports words.old words.new (claimed port address name) (claim_event address name) result }
 {
-    let a = Unit::TABLE_AT;
-    let e = Unit::QUEUES_AT;
-    address_claims::claim(&mut words[a..e], port, address, name)
+    address_claims::claim(
+        &mut words[Unit::TABLE_AT..Unit::QUEUES_AT],
+        port,
+        address,
+        name,
+    )
 }
 
 // A claim from no address.
@@ -308,9 +298,7 @@ pub fn withdraw(words: &mut [u64], name: u64) -> Event
     requires { rows_from ≤ length words.old }
     ensures { (ports : ℕ) → TableClaiming ports words.old words.new (withdrawn name) (withdraw_event name) result }
 {
-    let a = Unit::TABLE_AT;
-    let e = Unit::QUEUES_AT;
-    address_claims::withdraw(&mut words[a..e], name)
+    address_claims::withdraw(&mut words[Unit::TABLE_AT..Unit::QUEUES_AT], name)
 }
 
 // Writes the reply that reports a pair's list, and tells its length.
@@ -326,9 +314,7 @@ pub fn reply_list(
     ensures { Writing (list_reply pair (get_or (model_of ports words.now).rest.pairs (pair_at ports from to) clear)) reply.old reply.new longest result }
 {
     let i = pair_at(ports, from, to);
-    let a = filter_at(ports, i);
-    let e = a + filter::BLOCK_SIZE;
-    replies::reply_list(&words[a..e], pair, reply)
+    replies::reply_list(filter_block(words, ports, i), pair, reply)
 }
 
 // Writes the reply that reports the addresses on a port, and tells its length.
@@ -336,7 +322,5 @@ pub fn reply_addresses(words: &[u64], port: u32, except: usize, reply: &mut [u8]
     requires { (rows_from ≤ length words.now) × (port < 256) × (longest ≤ length reply.old) }
     ensures { (ports : ℕ) → Writing (address_reply port except (model_of ports words.now).rest.table) reply.old reply.new longest result }
 {
-    let a = Unit::TABLE_AT;
-    let e = Unit::QUEUES_AT;
-    replies::reply_addresses(&words[a..e], port, except, reply)
+    replies::reply_addresses(&words[Unit::TABLE_AT..Unit::QUEUES_AT], port, except, reply)
 }

@@ -10,7 +10,7 @@ use Rattle.identifier.specs.Identifier.{sa_of, too_wide, wrong_source}
 use Rattle.unit.specs.declared.Unit.{Unit}
 use Rattle.unit.specs.Model.{record_length, Rest}
 use Rattle.checks.specs.Ports.{no_port, is_port}
-use Rattle.refusals.specs.Refusals.{frame_refusal, take_refusal, message_refusal}
+use Rattle.refusals.specs.Refusals.{frame_refusal, length_refusal, take_refusal, message_refusal}
 use Rattle.unit.specs.PowerOn.{not_long}
 use Rattle.unit.specs.Own.{is_unstarted, start_checks, is_claimed}
 use Rattle.checks.specs.Checks.{first}
@@ -22,16 +22,24 @@ pub none : (b : Bool) (n : ℕ) {rest : ℕ} → 0 < n → cond b n rest ≡ 0 �
 none true n h e = absurd (omega arith)
 none false n h e = (refl, e)
 
--- the checks of a take stand first among those of a frame
-pub refused_first : (a b : Bool) (rest n : ℕ) → n ≡ cond a 1 (cond b 2 0) → (n ≡ 0 → ⊥) → n ≡ cond a 1 (cond b 2 rest)
-refused_first true b rest n e h = e
-refused_first false true rest n e h = e
-refused_first false false rest n e h = absurd (h e)
+first_two : (a b : Bool) (rest : ℕ) → 0 < cond a 1 (cond b 2 0) → cond a 1 (cond b 2 rest) ≡ cond a 1 (cond b 2 0)
+first_two true b rest h = refl
+first_two false true rest h = refl
+first_two false false rest h = absurd (omega arith)
 
-pub passed_first : (a b : Bool) (rest n : ℕ) → n ≡ cond a 1 (cond b 2 0) → n ≡ 0 → cond a 1 (cond b 2 rest) ≡ rest
-passed_first true b rest n e z = absurd (omega arith)
-passed_first false true rest n e z = absurd (omega arith)
-passed_first false false rest n e z = refl
+first_two_or : (a b b' : Bool) (rest : ℕ) → 0 < cond a 1 (cond b 2 0) → cond a 1 (cond (b || b') 2 rest) ≡ cond a 1 (cond b 2 0)
+first_two_or true b b' rest h = refl
+first_two_or false true b' rest h = refl
+first_two_or false false b' rest h = absurd (omega arith)
+
+-- the checks of a take stand first among those of a frame and of a message
+pub frame_refused : (ports lent port id len : ℕ) → 0 < take_refusal ports lent port → frame_refusal ports lent port id len ≡ take_refusal ports lent port
+unfolding frame_refusal take_refusal
+frame_refused ports lent port id len h = first_two (no_port ports port) (not_long ports lent) _ h
+
+pub message_refused : (ports lent reply : ℕ) (rest : Rest) (port requester size : ℕ) → 0 < take_refusal ports lent port → message_refusal ports lent reply rest port requester size ≡ take_refusal ports lent port
+unfolding message_refusal take_refusal
+message_refused ports lent reply rest port requester size h = first_two_or (no_port ports port) (not_long ports lent) (ltb reply longest) _ h
 
 pub port_in : (ports port : ℕ) → no_port ports port ≡ false → (1 ≤ port) × (port ≤ ports)
 port_in ports port h = port_bounds ports port (not-false (is_port ports port) h)
@@ -52,6 +60,19 @@ source_in id h =
 
     elim_lt : (x : ℕ) → x < 256 → (x ≡ 255 → ⊥) → x < 255
     elim_lt x l h = omega arith
+
+-- the length of the record alone
+pub length_stops : (ports lent : ℕ) {n : ℕ} → n ≡ length_refusal ports lent → 0 < n → (n ≡ 2) × (lent ≡ record_length ports → ⊥)
+unfolding length_refusal
+length_stops ports lent e h = go (eqb lent (record_length ports)) refl e h
+  where
+    go : (b : Bool) {n : ℕ} → eqb lent (record_length ports) ≡ b → n ≡ cond (not b) 2 0 → 0 < n → (n ≡ 2) × (lent ≡ record_length ports → ⊥)
+    go true t e h = absurd (omega arith)
+    go false t e h = (e, eqb-false lent (record_length ports) t)
+
+pub length_goes : (ports lent : ℕ) → length_refusal ports lent ≡ 0 → lent ≡ record_length ports
+unfolding length_refusal
+length_goes ports lent e = long_in ports lent (none (not_long ports lent) 2 (omega arith) e).0
 
 pub take_goes : (ports lent port : ℕ) → take_refusal ports lent port ≡ 0 → (lent ≡ record_length ports) × (1 ≤ port) × (port ≤ ports)
 unfolding take_refusal
@@ -78,17 +99,7 @@ start_goes own e =
     let b = none (ltb 253 own.preferred) 8 (omega arith) a.1 in
     omega (arith, ltb-false 253 own.preferred b.0)
 
--- ---- a message: the checks of a take stand first, and 2 is the buffer's too
-pub refused_early : (a b b' : Bool) (rest n : ℕ) → n ≡ cond a 1 (cond b 2 0) → (n ≡ 0 → ⊥) → n ≡ cond a 1 (cond (b || b') 2 rest)
-refused_early true b b' rest n e h = e
-refused_early false true b' rest n e h = e
-refused_early false false b' rest n e h = absurd (h e)
-
-pub passed_early : (a b b' : Bool) (rest n : ℕ) → n ≡ cond a 1 (cond b 2 0) → n ≡ 0 → cond a 1 (cond (b || b') 2 rest) ≡ cond b' 2 rest
-passed_early true b b' rest n e z = absurd (omega arith)
-passed_early false true b' rest n e z = absurd (omega arith)
-passed_early false false b' rest n e z = refl
-
+-- ---- a message: 2 is the buffer's too
 either : (a b : Bool) → a || b ≡ false → (a ≡ false) × (b ≡ false)
 either true b e = let z : ◌≡◌ {A = ℕ} 0 1 = cc in absurd (omega arith)
 either false b e = (refl, e)

@@ -1,90 +1,95 @@
-// Which number a call is refused with: the checks in order, 0 where none applies.
+// Why a call is refused: the checks in order, the first that applies.
 #![tactic(auto)]
 
 ghost use Rattle.std.specs.Prelude.{◌≡◌, ◌≤◌, length};
 ghost use Rattle.checks.specs.Checks.{first};
+ghost use Rattle.checks.specs.Refusals.{number_in};
 ghost use Rattle.unit.specs.Model.{model_of};
-ghost use Rattle.refusals.specs.Refusals.{late_checks, message_refusal, frame_refusal, take_refusal};
+ghost use Rattle.refusals.specs.Refusals.{late_checks, length_refusal, message_refusal, frame_refusal, take_refusal};
 
+use checks::Refusal;
 use unit::Unit;
 
 // The bytes of the longest message, which a buffer for what is sent back must have room for.
 pub const LONGEST_MESSAGE: usize = 1785;
 
-// The number that a take is refused with, or 0: a frame too is refused with 1 and 2.
-pub fn take_refusal(ports: u32, lent: usize, port: u32) -> u32
+// Of every call: whether the record that is lent is of its length.
+#[tactic(auto, unfolding(crate::specs::Refusals::length_refusal))]
+pub fn check_length(ports: u32, lent: usize) -> Result<(), Refusal>
     requires { (2 ≤ ports) × (ports ≤ 8) }
-    ensures { result ≡ take_refusal ports lent port }
+    ensures { number_in result ≡ length_refusal ports lent }
+{
+    if lent != Unit::record_length(ports as usize) {
+        return Err(Refusal::WrongLength);
+    }
+    Ok(())
+}
+
+// Of a take: its port and the record.
+#[tactic(auto, unfolding(crate::specs::Refusals::take_refusal, crate::specs::Refusals::length_refusal))]
+pub fn check_take(ports: u32, lent: usize, port: u32) -> Result<(), Refusal>
+    requires { (2 ≤ ports) × (ports ≤ 8) }
+    ensures { number_in result ≡ take_refusal ports lent port }
 {
     if !checks::is_port(ports, port) {
-        return 1;
+        return Err(Refusal::NoPort);
     }
-    if lent != Unit::record_length(ports as usize) {
-        return 2;
-    }
-    0
+    check_length(ports, lent)
 }
 
-// The number that a frame is refused with, or 0.
-pub fn frame_refusal(ports: u32, lent: usize, port: u32, id: u32, len: usize) -> u32
+// Of a frame: what is checked of a take, then the frame.
+#[tactic(auto, using(checks::proofs::Refusals::number_positive, crate::proofs::Checks::frame_refused), unfolding(crate::specs::Refusals::frame_refusal, crate::specs::Refusals::take_refusal))]
+pub fn check_frame(ports: u32, lent: usize, port: u32, id: u32, len: usize) -> Result<(), Refusal>
     requires { (2 ≤ ports) × (ports ≤ 8) }
-    ensures { result ≡ frame_refusal ports lent port id len }
+    ensures { number_in result ≡ frame_refusal ports lent port id len }
 {
-    let number = take_refusal(ports, lent, port);
-    if number != 0 {
-        return number;
-    }
+    check_take(ports, lent, port)?;
     if identifier::is_too_wide(id) {
-        return 3;
+        return Err(Refusal::WideIdentifier);
     }
     if 8 < len {
-        return 4;
+        return Err(Refusal::LongFrame);
     }
     if identifier::has_wrong_source(id) {
-        return 5;
+        return Err(Refusal::WrongSource);
     }
-    0
+    Ok(())
 }
 
-// 7 and 8 of a message: the payload's length and the requester's address.
-fn late_refusal(payload: usize, requester: u32) -> u32
-    ensures { result ≡ first (late_checks requester payload) }
+// Of a message, last: the payload's length and the requester's address.
+fn check_late(payload: usize, requester: u32) -> Result<(), Refusal>
+    ensures { number_in result ≡ first (late_checks requester payload) }
 {
-    if payload < 8 {
-        return 7;
-    }
-    if LONGEST_MESSAGE < payload {
-        return 7;
+    if payload < 8 || LONGEST_MESSAGE < payload {
+        return Err(Refusal::PayloadLength);
     }
     if 253 < requester {
-        return 8;
+        return Err(Refusal::NoAddress);
     }
-    0
+    Ok(())
 }
 
-// The number that a message is refused with before its payload is read, or 0.
-pub fn message_refusal(
+// Of a message, before its payload is read.
+#[tactic(auto, using(checks::proofs::Refusals::number_positive, crate::proofs::Checks::message_refused), unfolding(crate::specs::Refusals::message_refusal, crate::specs::Refusals::take_refusal))]
+pub fn check_message(
     words: &[u64],
     ports: u32,
     port: u32,
     requester: u32,
     payload: usize,
     reply: usize,
-) -> u32
+) -> Result<(), Refusal>
     requires { (2 ≤ ports) × (ports ≤ 8) }
-    ensures { result ≡ message_refusal ports (length words.now) reply (model_of ports words.now).rest port requester payload }
+    ensures { number_in result ≡ message_refusal ports (length words.now) reply (model_of ports words.now).rest port requester payload }
 {
-    let number = take_refusal(ports, words.len(), port);
-    if number != 0 {
-        return number;
-    }
+    check_take(ports, words.len(), port)?;
     if reply < LONGEST_MESSAGE {
-        return 2;
+        return Err(Refusal::WrongLength);
     }
     let unit = unit::read_unit(words);
     let claim = unit.claim;
-    if claim.is_claimed() {
-        return late_refusal(payload, requester);
+    if !claim.is_claimed() {
+        return Err(Refusal::NotClaimed);
     }
-    6
+    check_late(payload, requester)
 }

@@ -4,7 +4,7 @@ use mathlib.Core.List.{List, [], ◌∷◌, ◌++◌, append-nil, append_assoc}
 use Prim.Native.Nat.{ℕ, ◌+◌, ◌-◌, ◌*◌, ◌≤◌, ◌<◌, zero-le}
 use native.Mathlib.Numerals.{add-one}
 use native.Mathlib.Omega.{arith}
-use lib.ListN.{length, get_or, set, take, drop, replicate, length-append, length-drop, length-replicate, replicate-append-replicate, drop_of_length-le, take-append-drop}
+use lib.ListN.{length, get_or, set, take, drop, replicate, length-append, length-drop, length-replicate, drop_of_length-le, take-append-drop}
 use lib.Seq.{take_at, drop_at, take_all, take-suc, take-append-add, drop-drop, sets, length-take-le}
 use Rattle.storage.specs.Bytes.{bytes_of}
 use Rattle.storage.proofs.Bytes.{bytes_of_length}
@@ -73,47 +73,35 @@ unfolding filled
 filled_long bytes = rw (length-append bytes (replicate (8 - length bytes) 255), length-replicate {A = ℕ} (8 - length bytes) 255)
 
 -- the first n bytes, and filling up to `at`
-pub record Filling (s x : List ℕ) (n at : ℕ) : Type 0 where
-  pub from : n ≤ at
-  pub few : at - n ≤ 8 - n
-  pub laid : Laid (take n s ++ replicate (at - n) 255) s x
+-- n bytes that are filled to 8, or stand as they are
+filled_length : (s : List ℕ) (n : ℕ) → n ≤ length s → length (filled (take n s)) ≡ n + (8 - n)
+unfolding filled
+filled_length s n h =
+    rw (length-take-le n s h, length-append (take n s) (replicate (8 - n) 255), length-take-le n s h, length-replicate {A = ℕ} (8 - n) 255)
 
-front_long : (s : List ℕ) (n at : ℕ) → n ≤ length s → n ≤ at → length (take n s ++ replicate (at - n) 255) ≡ at
-front_long s n at h l = rw (length-append (take n s) (replicate (at - n) 255), length-take-le n s h, length-replicate {A = ℕ} (at - n) 255) (omega arith)
-
-pub filling_none : {s : List ℕ} {n : ℕ} → n ≤ length s → Filling s s n n
-filling_none {s} {n} h =
-    let z : n - n ≡ 0 = omega arith in
+pub filled_none : (s : List ℕ) (n : ℕ) → 8 ≤ n → n ≤ length s → Writing (filled (take n s)) s s (n + 8) n
+unfolding filled
+filled_none s n all fits =
+    let z : 8 - n ≡ 0 = omega arith in
+    let l : length (take n s ++ replicate (8 - length (take n s)) 255) ≡ n = filled_length s n fits ∙ omega arith in
     record {
-      from = omega arith;
-      few = omega arith;
-      laid = record {
-        written = rw (front_long s n n h (omega arith), z, append-nil (take n s)) (sym (take-append-drop n s));
-        inside = rw (front_long s n n h (omega arith)) h;
-      };
+      written = rw l (rw (length-take-le n s fits, z, append-nil (take n s)) (sym (take-append-drop n s)));
+      answer = sym l;
+      small = omega arith;
     }
 
-module _ {s x : List ℕ} {n at : ℕ} (fits : n ≤ length s) (room : 8 ≤ length s) (F : Filling s x n at) where
-  pub filling_one : at < 8 → Filling s (set x at 255) n (at + 1)
-  filling_one h =
-      let z : at + 1 - n ≡ at - n + 1 = omega (arith, F.from) in
-      let L = laid_more F.laid (255 ∷ []) (sym (front_long s n at fits F.from)) (omega arith) in
-      record {
-        from = omega (arith, F.from);
-        few = omega (arith, F.from);
-        laid = rw (z, ← (replicate-append-replicate {A = ℕ} (at - n) 1 255), ← (append_assoc (take n s) (replicate (at - n) 255) (255 ∷ []))) L;
-      }
-
-  pub filling_done : 8 ≤ at → Writing (filled (take n s)) s x (n + 8) at
-  unfolding filled
-  filling_done h =
-      let z : at - n ≡ 8 - n = omega (arith, F.few) in
-      rw (length-take-le n s fits, ← z)
-      (record {
-        written = F.laid.written;
-        answer = sym (front_long s n at fits F.from);
-        small = omega (arith, F.few, F.from);
-      })
+pub filled_some : (s : List ℕ) (n : ℕ) {x : List ℕ} → n < 8 → 8 ≤ length s → x ≡ replicate (length (take (8 - n) (drop n s))) 255
+    → Writing (filled (take n s)) s (take n s ++ (x ++ drop (8 - n) (drop n s))) (n + 8) 8
+unfolding filled
+filled_some s n few room e =
+    let l : length (take n s ++ replicate (8 - length (take n s)) 255) ≡ n + (8 - n) = filled_length s n (omega arith) in
+    record {
+      written =
+          rw l (rw (e, length-take-le (8 - n) (drop n s) (rw (length-drop n s) (omega arith)), length-take-le n s (omega arith), drop-drop (8 - n) n s)
+          (sym (append_assoc (take n s) (replicate (8 - n) 255) (drop (n + (8 - n)) s))));
+      answer = rw l (omega arith);
+      small = omega arith;
+    }
 
 -- ---- two first bytes, and what stands after them
 pub finished : (s : List ℕ) (a b : ℕ) {last : List ℕ} {n r : ℕ} → n ≤ 254 → 2 + n ≤ length s → Writing (filled (take (2 + n) (set (set s 0 a) 1 b))) (set (set s 0 a) 1 b) last (2 + n + 8) r → Writing (filled (a ∷ b ∷ take n (drop 2 s))) s last longest r

@@ -4,8 +4,7 @@ use Rattle.std.specs.Prelude.{cond, ◌≡◌, List, [], ◌∷◌, ◌++◌, �
 use Rattle.storage.specs.Bytes.{bytes_of}
 use Rattle.filter.specs.Filter.{Filter, reported_mode}
 use Rattle.entries.specs.Entries.{reported}
-use Rattle.addresses.specs.declared.Place.{Place}
-use Rattle.addresses.specs.Table.{addresses_on}
+use Rattle.addresses.specs.Table.{addresses_on, Place}
 
 -- ---- the acknowledgment, PGN 59392
 -- by the number that the command is refused with, 0 for success: "the acknowledgment with first byte 1 (2 for number 11)"

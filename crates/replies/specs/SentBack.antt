@@ -4,7 +4,7 @@ use Rattle.std.specs.Prelude.{◌≡◌, List, ◌∷◌, ℕ, ◌+◌, ◌-◌,
 use Rattle.entries.specs.Entries.{entries_of, reported}
 use Rattle.filter.specs.Filter.{Filter, reported_mode}
 use Rattle.filter_commands.specs.declared.pairs.Change.TheVariants.{Creates}
-use Rattle.network_message.specs.declared.Command.TheVariants.{WithEntries}
+use Rattle.network_message.specs.Asked.{WithEntries}
 use Rattle.network_message.specs.Decoding.{from_of, to_of, between, decoded}
 
 unfoldable pub as_create : List ℕ → List ℕ

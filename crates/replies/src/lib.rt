@@ -25,14 +25,7 @@ pub fn acknowledge(reply: &mut [u8], control: u8, function: u8, requester: u8)
     requires { 8 ≤ length reply.old }
     ensures { reply.new ≡ acknowledgment control function requester ++ drop 8 reply.old }
 {
-    reply[0] = control;
-    reply[1] = function;
-    reply[2] = 0xFF;
-    reply[3] = 0xFF;
-    reply[4] = requester;
-    reply[5] = 0x00;
-    reply[6] = 0xED;
-    reply[7] = 0x00;
+    reply[..8].copy_from_slice(&[control, function, 0xFF, 0xFF, requester, 0x00, 0xED, 0x00]);
 }
 
 // Writes an entry's three bytes, least significant first.
@@ -52,10 +45,8 @@ fn put_list(block: &[u64], out: &mut [u8]) -> usize
 {
     out[0] = filter::reported_mode(block);
     let n = filter::count(block);
-    let mut i = 0;
-    while i < n {
+    for i in 0..n {
         put_entry(out, 1 + 3 * i, filter::pgn_at(block, i));
-        i += 1;
     }
     1 + 3 * n
 }
@@ -65,12 +56,11 @@ fn fill(reply: &mut [u8], n: usize) -> usize
     requires { (8 ≤ length reply.old) × (n ≤ length reply.old) }
     ensures { Writing (filled (take n reply.old)) reply.old reply.new (n + 8) result }
 {
-    let mut at = n;
-    while at < 8 {
-        reply[at] = 0xFF;
-        at += 1;
+    if 8 <= n {
+        return n;
     }
-    at
+    reply[n..8].fill(0xFF);
+    8
 }
 
 // Makes a reply of two first bytes and n that stand after them, and tells how many it then has.

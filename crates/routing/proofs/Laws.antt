@@ -2,7 +2,7 @@
 use mathlib.Core.Path.{◌≡◌, refl, sym, ap, ◌∙◌}
 use mathlib.Core.Bool.{Bool, true, false, true≢false}
 use mathlib.Core.List.{List}
-use mathlib.Core.Option.{Option, none, some}
+use Rattle.std.specs.Prelude.{Option, None, Some}
 use Prim.Native.Nat.{ℕ, ◌-◌, ◌^◌, ◌≤◌, ◌<◌}
 use native.Mathlib.Omega.{arith}
 use borrow.Author.Tests.{ne_eqb}
@@ -52,7 +52,7 @@ module _ (words : List ℕ) (from to id : ℕ) where
   abbrev tables : List (List AddressPair)
   tables = tables_of words
 
-  source_fields : (o : ℕ) → turns_source from to ≡ true → out_of (table_of tables from) (sa_of id) ≡ some o → FieldByField tables from to id (with_source id o)
+  source_fields : (o : ℕ) → turns_source from to ≡ true → out_of (table_of tables from) (sa_of id) ≡ Some o → FieldByField tables from to id (with_source id o)
   source_fields o s e =
       let h : o < address_count = gives_small words (from - 2) inner_side outer_side (sa_of id) o e in
       let b : o < 2 ^ 8 = omega arith in
@@ -66,13 +66,13 @@ module _ (words : List ℕ) (from to id : ℕ) where
         ps = λ _. ap (λ (y : Fields). y.ps) x;
         ps_turned = λ d. absurd ((source_ports from to s).0 (destination_ports from to id d).0);
         sa = λ f. never s f;
-        sa_turned = λ _. e ∙ ap {B = Option ℕ} some (sym a);
+        sa_turned = λ _. e ∙ ap {B = Option ℕ} Some (sym a);
         pgn = turning.source_pgn id o b;
         small = turning.source_small id o b;
         good_source = λ _. address_good (with_source id o) (omega (arith, a, h));
       }
 
-  destination_fields : (o : ℕ) → turns_source from to ≡ false → turns_destination from to id ≡ true → in_to (table_of tables to) (ps_of id) ≡ some o
+  destination_fields : (o : ℕ) → turns_source from to ≡ false → turns_destination from to id ≡ true → in_to (table_of tables to) (ps_of id) ≡ Some o
       → FieldByField tables from to id (with_destination id o)
   destination_fields o s d e =
       let h : o < address_count = gives_small words (to - 2) outer_side inner_side (ps_of id) o e in
@@ -85,7 +85,7 @@ module _ (words : List ℕ) (from to id : ℕ) where
         data_page = ap (λ (y : Fields). y.data_page) x;
         pf = ap (λ (y : Fields). y.pf) x;
         ps = λ f. never d f;
-        ps_turned = λ _. e ∙ ap {B = Option ℕ} some (sym (ap (λ (y : Fields). y.ps) x));
+        ps_turned = λ _. e ∙ ap {B = Option ℕ} Some (sym (ap (λ (y : Fields). y.ps) x));
         sa = λ _. ap (λ (y : Fields). y.sa) x;
         sa_turned = λ t. never t s;
         pgn = turning.destination_pgn id o b p.2;
@@ -108,7 +108,7 @@ module _ (words : List ℕ) (from to id : ℕ) where
     good_source = λ w. w;
   }
 
-  crosses : (r : ℕ) → turn tables from to id ≡ some r → FieldByField tables from to id r
+  crosses : (r : ℕ) → turn tables from to id ≡ Some r → FieldByField tables from to id r
   crosses r e = go (turns_source from to) refl (turns_destination from to id) refl
     where
       go : (s : Bool) → turns_source from to ≡ s → (d : Bool) → turns_destination from to id ≡ d → FieldByField tables from to id r
@@ -136,7 +136,7 @@ from_one : (to id : ℕ) → 2 ≤ to → has_destination id ≡ true → (ps_of
 unfolding turns_destination
 from_one to id h d ne = rw (ne_eqb to 1 (λ z. omega (arith, z, h)), d, ne_eqb (ps_of id) 255 ne)
 
-module _ (words : List ℕ) (O : OnceEach (tables_of words)) (q id r reply : ℕ) (port : 2 ≤ q) (sent : turn (tables_of words) q 1 id ≡ some r)
+module _ (words : List ℕ) (O : OnceEach (tables_of words)) (q id r reply : ℕ) (port : 2 ≤ q) (sent : turn (tables_of words) q 1 id ≡ Some r)
     (turns : turns_destination 1 q reply ≡ true) (to-it : ps_of reply ≡ sa_of r) where
   abbrev all : List (List AddressPair)
   all = tables_of words
@@ -150,21 +150,21 @@ module _ (words : List ℕ) (O : OnceEach (tables_of words)) (q id r reply : ℕ
       let b : was.address < 2 ^ 8 = omega arith in
       to-it ∙ ap (λ (x : ℕ). sa_of x) (sym was.made) ∙ ap (λ (y : Fields). y.sa) (turning.source id was.address b)
 
-  answered : turn all 1 q reply ≡ some (with_destination reply (sa_of id))
+  answered : turn all 1 q reply ≡ Some (with_destination reply (sa_of id))
   answered =
       by_destination all 1 q reply (away q) turns
       ∙ rw (its_outer, (there_and_back.back all O q (sa_of id) was.address).0 was.entry)
 
   module _ (other : ℕ) (from : 2 ≤ other) (ne : other ≡ q → ⊥) where
-    nothing : (o : Option ℕ) → in_to (table_of all other) (ps_of reply) ≡ o → in_to (table_of all other) (ps_of reply) ≡ none
-    nothing none e = e
-    nothing (some a) e =
+    nothing : (o : Option ℕ) → in_to (table_of all other) (ps_of reply) ≡ o → in_to (table_of all other) (ps_of reply) ≡ None
+    nothing None e = e
+    nothing (Some a) e =
         let there : stands outer_side (table_of all other) was.address ≡ true =
         rw its_outer at (sym (given outer_side inner_side (table_of all other) (ps_of reply) a (sym e))) in
         let same = there_and_back.alone all O (q - 2) (other - 2) (sa_of id) was.address was.entry there in
         absurd (ne (omega (arith, same, port, from)))
 
-    alone : turn all 1 other reply ≡ none
+    alone : turn all 1 other reply ≡ None
     alone =
         let d = destination_ports 1 q reply turns in
         by_destination all 1 other reply (away other) (from_one other reply from d.2 d.3)

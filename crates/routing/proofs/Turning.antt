@@ -2,7 +2,7 @@
 use mathlib.Core.Path.{◌≡◌, refl, ap, ◌∙◌}
 use mathlib.Core.Bool.{true, false, not, ◌&&◌}
 use mathlib.Core.List.{List}
-use mathlib.Core.Option.{Option, none, some}
+use Rattle.std.specs.Prelude.{Option, None, Some}
 use Prim.Native.Nat.{ℕ}
 use native.Mathlib.Omega.{arith}
 use borrow.Author.Tests.{eqb-true, eqb-false, not-true}
@@ -34,21 +34,21 @@ destination_ports from to id e =
     )
 
 -- ---- what an entry makes of it
-pub by_none : (change : ℕ → ℕ) {o : Option ℕ} → none ≡ o → none ≡ by_entry change o
+pub by_none : (change : ℕ → ℕ) {o : Option ℕ} → None ≡ o → None ≡ by_entry change o
 by_none change e = rw (← e)
 
-pub by_some : (change : ℕ → ℕ) {o : Option ℕ} {a r : ℕ} → some a ≡ o → r ≡ change a → some r ≡ by_entry change o
-by_some change {o} {a} {r} e v = ap {B = Option ℕ} some v ∙ rw (← e)
+pub by_some : (change : ℕ → ℕ) {o : Option ℕ} {a r : ℕ} → Some a ≡ o → r ≡ change a → Some r ≡ by_entry change o
+by_some change {o} {a} {r} e v = ap {B = Option ℕ} Some v ∙ rw (← e)
 
 -- and back: what it was made from
 pub record Was (change : ℕ → ℕ) (o : Option ℕ) (r : ℕ) : Type 0 where
   pub address : ℕ
-  pub entry : o ≡ some address
+  pub entry : o ≡ Some address
   pub made : change address ≡ r
 
-pub was_some : (change : ℕ → ℕ) (o : Option ℕ) {r : ℕ} → by_entry change o ≡ some r → Was change o r
-was_some change none {r} e = let z : ◌≡◌ {A = ℕ} 0 1 = cc in absurd (omega arith)
-was_some change (some a) {r} e = let s : change a ≡ r = cc in record { address = a; entry = refl; made = s }
+pub was_some : (change : ℕ → ℕ) (o : Option ℕ) {r : ℕ} → by_entry change o ≡ Some r → Was change o r
+was_some change None {r} e = let z : ◌≡◌ {A = ℕ} 0 1 = cc in absurd (omega arith)
+was_some change (Some a) {r} e = let s : change a ≡ r = cc in record { address = a; entry = refl; made = s }
 
 -- ---- the three cases
 module _ (tables : List (List AddressPair)) (from to id : ℕ) where
@@ -61,12 +61,12 @@ module _ (tables : List (List AddressPair)) (from to id : ℕ) where
     unfolding turn
     by_destination d = rw (not-source, d)
 
-    pub as_it_came : turns_destination from to id ≡ false → turn tables from to id ≡ some id
+    pub as_it_came : turns_destination from to id ≡ false → turn tables from to id ≡ Some id
     unfolding turn
     as_it_came d = rw (not-source, d)
 
 -- ---- claims
-pub claim_not : (tables : List (List AddressPair)) (from to id len : ℕ) → is_claim id len ≡ true → turned tables from to id len ≡ none
+pub claim_not : (tables : List (List AddressPair)) (from to id len : ℕ) → is_claim id len ≡ true → turned tables from to id len ≡ None
 unfolding turned
 claim_not tables from to id len c = rw c
 

@@ -1,305 +1,208 @@
-// The script format: whether a line is a call and what is wrong with it if not, the numbers that its words stand for, and the bytes of its last word.
+// The script format: the call that a line is, or why it is none.
 #![tactic(auto)]
 
-ghost use Rattle.std.specs.Prelude.{◌≤◌, length};
+mod wrong;
 
-use line_parts::words;
-use line_parts::words::{Narrow, Word};
+ghost use Rattle.std.specs.Prelude.{◌≤◌};
+
+use line_parts::words::{decimal, hex, is_blank};
 use unit::Unit;
+pub use wrong::{Field, Wrong};
 
 // The most bytes of a line, blanks at its end aside; a longer one is no call.
-pub const LONGEST_LINE: usize = 4096;
+pub const LONGEST_LINE: usize = line_parts::LONGEST;
 
-// What a word after the letter stands for; `END` where a call has no more.
-const NAME: u64 = 0;
-
-const PREFERRED: u64 = 1;
-
-const PORTS: u64 = 2;
-
-const PORT: u64 = 3;
-
-const IDENTIFIER: u64 = 4;
-
-const BYTES: u64 = 5;
-
-const REQUESTER: u64 = 6;
-
-const PAYLOAD: u64 = 7;
-
-const END: u64 = 8;
-
-// Why a line is no call, as a number: 0 if it is one, and from `MISSING` and `MALFORMED` on one for each thing that a word stands for.
-pub const NOTHING: u64 = 0;
-
-const TOO_LONG: u64 = 1;
-
-const NO_LETTER: u64 = 2;
-
-const MORE_WORDS: u64 = 3;
-
-pub const NO_UNIT: u64 = 4;
-
-const MISSING: u64 = 5;
-
-const MALFORMED: u64 = 13;
-
-// A word that stands for a number of 64 bits, or for none.
-#[derive(Drop)]
-enum Wide {
-    Number(u64),
-    Wrong,
+// Bytes are as they are written: two hex digits each, - for none.
+#[derive(Clone, Copy)]
+pub enum Call<'a> {
+    PowerOn {
+        name: u64,
+        preferred: u32,
+        ports: u32,
+    },
+    Start,
+    Quiet,
+    Unit,
+    Frame {
+        port: u32,
+        identifier: u32,
+        bytes: &'a [u8],
+    },
+    Take {
+        port: u32,
+    },
+    Counts {
+        port: u32,
+    },
+    Message {
+        port: u32,
+        requester: u32,
+        payload: &'a [u8],
+    },
 }
 
-// The next word from a place on.
-fn next_word(line: &[u8], from: usize) -> Word
-    requires { from ≤ length line.now }
-    ensures { (from ≤ result.start) × (result.start ≤ result.end) × (result.end ≤ length line.now) }
-{
-    let start = words::past_blanks(line, from);
-    let end = words::past_word(line, start);
-    Word { start, end }
-}
-
-// A line's word: 0 is the letter.
-fn word_at(line: &[u8], k: usize) -> Word
-    ensures { (result.start ≤ result.end) × (result.end ≤ length line.now) }
-{
-    let mut found = next_word(line, 0);
-    let mut i = 0;
-    while i < k {
-        let end = found.end;
-        found = next_word(line, end);
-        i += 1;
+impl<'a> Call<'a> {
+    pub fn letter(&self) -> char {
+        match self {
+            Call::PowerOn { .. } => 'P',
+            Call::Start => 'S',
+            Call::Quiet => 'Q',
+            Call::Unit => 'U',
+            Call::Frame { .. } => 'F',
+            Call::Take { .. } => 'T',
+            Call::Counts { .. } => 'C',
+            Call::Message { .. } => 'M',
+        }
     }
-    found
 }
 
-// The value of a hex digit, 16 where a byte is none.
+// A line's word, by its number from 0: 0 is the letter.
+fn nth_word(line: &[u8], number: usize) -> Option<&[u8]> {
+    line.split(|byte| is_blank(*byte))
+        .filter(|word| !word.is_empty())
+        .nth(number)
+}
+
+// The word that stands for a field.
+fn word<'a>(line: &'a [u8], number: usize, field: Field) -> Result<&'a [u8], Wrong> {
+    nth_word(line, number).ok_or(Wrong::Missing(field))
+}
+
+fn decimal_at(line: &[u8], number: usize, field: Field) -> Result<u32, Wrong> {
+    decimal(word(line, number, field)?).ok_or(Wrong::Malformed(field))
+}
+
+// A number of one to sixteen hex digits.
+fn name(line: &[u8]) -> Result<u64, Wrong> {
+    let digits = word(line, 1, Field::Name)?;
+    match hex(digits) {
+        Some(name) if digits.len() <= 16 => Ok(name),
+        _ => Err(Wrong::Malformed(Field::Name)),
+    }
+}
+
+// The same of one to eight.
+fn identifier(line: &[u8]) -> Result<u32, Wrong> {
+    let digits = word(line, 2, Field::Identifier)?;
+    match hex(digits).map(u32::try_from) {
+        Some(Ok(identifier)) if digits.len() <= 8 => Ok(identifier),
+        _ => Err(Wrong::Malformed(Field::Identifier)),
+    }
+}
+
+// Four where the number of ports is left out.
+fn ports(line: &[u8]) -> Result<u32, Wrong> {
+    if nth_word(line, 3).is_none() {
+        return Ok(Unit::PORTS);
+    }
+    decimal_at(line, 3, Field::Ports)
+}
+
+// Two hex digits each, - for none.
+fn bytes<'a>(line: &'a [u8], field: Field) -> Result<&'a [u8], Wrong> {
+    let digits = word(line, 3, field)?;
+    let is_even = digits.len() % 2 == 0;
+    let is_hex = digits.iter().all(|digit| digit.is_ascii_hexdigit());
+    if digits == b"-".as_slice() || (is_even && is_hex) {
+        return Ok(digits);
+    }
+    Err(Wrong::Malformed(field))
+}
+
+// Nothing stands behind a call's last word.
+fn end(line: &[u8], number: usize) -> Result<(), Wrong> {
+    match nth_word(line, number) {
+        Some(_) => Err(Wrong::MoreWords),
+        None => Ok(()),
+    }
+}
+
+fn power_on(line: &[u8]) -> Result<Call<'_>, Wrong> {
+    let name = name(line)?;
+    let preferred = decimal_at(line, 2, Field::Preferred)?;
+    let ports = ports(line)?;
+    end(line, 4)?;
+    Ok(Call::PowerOn {
+        name,
+        preferred,
+        ports,
+    })
+}
+
+fn frame(line: &[u8]) -> Result<Call<'_>, Wrong> {
+    let port = decimal_at(line, 1, Field::Port)?;
+    let identifier = identifier(line)?;
+    let bytes = bytes(line, Field::Bytes)?;
+    end(line, 4)?;
+    Ok(Call::Frame {
+        port,
+        identifier,
+        bytes,
+    })
+}
+
+fn message(line: &[u8]) -> Result<Call<'_>, Wrong> {
+    let port = decimal_at(line, 1, Field::Port)?;
+    let requester = decimal_at(line, 2, Field::Requester)?;
+    let payload = bytes(line, Field::Payload)?;
+    end(line, 4)?;
+    Ok(Call::Message {
+        port,
+        requester,
+        payload,
+    })
+}
+
+// A call's only argument, a port.
+fn port(line: &[u8]) -> Result<u32, Wrong> {
+    let port = decimal_at(line, 1, Field::Port)?;
+    end(line, 2)?;
+    Ok(port)
+}
+
+// A call that has no argument.
+fn alone<'a>(line: &'a [u8], call: Call<'a>) -> Result<Call<'a>, Wrong> {
+    end(line, 1)?;
+    Ok(call)
+}
+
+// The call that a line, without blanks at its ends, is, by its letter.
+pub fn parse(line: &[u8]) -> Result<Call<'_>, Wrong> {
+    if LONGEST_LINE < line.len() {
+        return Err(Wrong::TooLong);
+    }
+    match nth_word(line, 0) {
+        Some(b"P") => power_on(line),
+        Some(b"S") => alone(line, Call::Start),
+        Some(b"Q") => alone(line, Call::Quiet),
+        Some(b"U") => alone(line, Call::Unit),
+        Some(b"F") => frame(line),
+        Some(b"T") => Ok(Call::Take { port: port(line)? }),
+        Some(b"C") => Ok(Call::Counts { port: port(line)? }),
+        Some(b"M") => message(line),
+        _ => Err(Wrong::NoLetter),
+    }
+}
+
+// A hex digit's value.
 fn digit(byte: u8) -> u8
-    ensures { result ≤ 16 }
+    ensures { result ≤ 15 }
 {
     match byte {
         b'0'..=b'9' => byte - b'0',
         b'A'..=b'F' => byte - b'A' + 10,
         b'a'..=b'f' => byte - b'a' + 10,
-        _ => 16,
+        _ => 0,
     }
 }
 
-// One to `longest` hex digits.
-fn hex(word: &[u8], longest: usize) -> Wide {
-    if word.len() == 0 || longest < word.len() {
-        return Wide::Wrong;
-    }
-    let mut n: u64 = 0;
-    let mut i = 0;
-    while i < word.len() {
-        let d = digit(word[i]);
-        if 15 < d {
-            return Wide::Wrong;
-        }
-        n = (n << 4) | d as u64;
-        i += 1;
-    }
-    Wide::Number(n)
-}
-
-fn is_decimal(word: &[u8]) -> bool {
-    if let Narrow::Number(_) = words::decimal(word) {
-        true
-    } else {
-        false
-    }
-}
-
-fn is_hex(word: &[u8], longest: usize) -> bool {
-    if let Wide::Number(_) = hex(word, longest) {
-        true
-    } else {
-        false
-    }
-}
-
-// Whether a word is bytes: two hex digits each, `-` for none.
-fn is_bytes(word: &[u8]) -> bool {
-    if word.len() == 1 {
-        return word[0] == b'-';
-    }
-    if word.len() == 0 || word.len() % 2 == 1 {
-        return false;
-    }
-    let mut i = 0;
-    while i < word.len() {
-        if digit(word[i]) == 16 {
-            return false;
-        }
-        i += 1;
-    }
-    true
-}
-
-// Whether a word can stand for a field.
-fn is_good(word: &[u8], field: u64) -> bool {
-    match field {
-        NAME => is_hex(word, 16),
-        IDENTIFIER => is_hex(word, 8),
-        BYTES | PAYLOAD => is_bytes(word),
-        _ => is_decimal(word),
-    }
-}
-
-// What is wrong where there is no word for a field; the number of ports may be left out.
-fn missing(field: u64) -> u64
-    requires { field ≤ 8 }
-{
-    match field {
-        PORTS | END => NOTHING,
-        _ => MISSING + field,
-    }
-}
-
-// What is wrong with a word that is to stand for a field.
-fn judged(word: &[u8], field: u64) -> u64
-    requires { field ≤ 8 }
-{
-    if word.len() == 0 {
-        return missing(field);
-    }
-    if field == END {
-        return MORE_WORDS;
-    }
-    if is_good(word, field) {
-        return NOTHING;
-    }
-    MALFORMED + field
-}
-
-// The same of a word of a line, unless something before it is wrong.
-fn judged_at(line: &[u8], k: usize, field: u64, before: u64) -> u64
-    requires { field ≤ 8 }
-{
-    if before != NOTHING {
-        return before;
-    }
-    let found = word_at(line, k);
-    let start = found.start;
-    let end = found.end;
-    judged(&line[start..end], field)
-}
-
-// The words after the letter against three fields, the first that is wrong; the fields are filled up with `END`.
-fn fields(line: &[u8], a: u64, b: u64, c: u64) -> u64
-    requires { (a ≤ 8) × (b ≤ 8) × (c ≤ 8) }
-{
-    let wrong = judged_at(line, 1, a, NOTHING);
-    let wrong = judged_at(line, 2, b, wrong);
-    let wrong = judged_at(line, 3, c, wrong);
-    judged_at(line, 4, END, wrong)
-}
-
-// The same by the call's letter.
-fn by_letter(line: &[u8], letter: u8) -> u64 {
-    match letter {
-        b'P' => fields(line, NAME, PREFERRED, PORTS),
-        b'S' | b'Q' | b'U' => fields(line, END, END, END),
-        b'F' => fields(line, PORT, IDENTIFIER, BYTES),
-        b'T' | b'C' => fields(line, PORT, END, END),
-        b'M' => fields(line, PORT, REQUESTER, PAYLOAD),
-        _ => NO_LETTER,
-    }
-}
-
-// The letter of a line's call, 0 for none: its first byte, if a blank or nothing comes behind it.
-pub fn letter(line: &[u8]) -> u8 {
-    if line.len() == 0 {
-        return 0;
-    }
-    if 1 < line.len() {
-        if !words::is_blank(line[1]) {
-            return 0;
+// The bytes that digits stand for, as many as there is room for.
+pub fn decode<'a>(digits: &[u8], space: &'a mut [u8]) -> &'a [u8] {
+    let n = (digits.len() / 2).min(space.len());
+    for (byte, pair) in space.iter_mut().zip(digits.chunks_exact(2)) {
+        if let [high, low] = pair {
+            *byte = 16 * digit(*high) + digit(*low);
         }
     }
-    line[0]
-}
-
-// Why a line, without blanks at its ends, is no call.
-pub fn what_is_wrong(line: &[u8]) -> u64 {
-    if LONGEST_LINE < line.len() {
-        return TOO_LONG;
-    }
-    by_letter(line, letter(line))
-}
-
-// The number that a word of a line stands for; 0 where it stands for none, which `what_is_wrong` has told.
-pub fn decimal_at(line: &[u8], k: usize) -> u32 {
-    let found = word_at(line, k);
-    let start = found.start;
-    let end = found.end;
-    let Narrow::Number(n) = words::decimal(&line[start..end]) else {
-        return 0;
-    };
-    n
-}
-
-// The same of hex digits, `longest` of them at most.
-pub fn hex_at(line: &[u8], k: usize, longest: usize) -> u64 {
-    let found = word_at(line, k);
-    let start = found.start;
-    let end = found.end;
-    let Wide::Number(n) = hex(&line[start..end], longest) else {
-        return 0;
-    };
-    n
-}
-
-// The number of ports that a power-on has, its third word; four where it is left out.
-pub fn ports(line: &[u8]) -> u32 {
-    let found = word_at(line, 3);
-    if found.start == found.end {
-        return Unit::PORTS;
-    }
-    decimal_at(line, 3)
-}
-
-// A frame's identifier, its second word: eight digits at most, so that the remainder is the number.
-pub fn identifier(line: &[u8]) -> u32 {
-    (hex_at(line, 2, 8) % 4294967296) as u32
-}
-
-// Where a line's last word begins: after its last blank.
-fn last_word(line: &[u8]) -> usize
-    ensures { result ≤ length line.now }
-{
-    let mut i = line.len();
-    while 0 < i {
-        if words::is_blank(line[i - 1]) {
-            return i;
-        }
-        i -= 1;
-    }
-    i
-}
-
-// The bytes that digits stand for, as many as there is room for; the answer is how many.
-fn decode(digits: &[u8], bytes: &mut [u8]) -> usize
-    ensures { result ≤ length bytes.old }
-{
-    let n = digits.len() / 2;
-    let mut i = 0;
-    while i < n && i < bytes.len() {
-        let high = digit(digits[2 * i]) % 16;
-        let low = digit(digits[2 * i + 1]) % 16;
-        bytes[i] = 16 * high + low;
-        i += 1;
-    }
-    i
-}
-
-// The bytes of a line's last word, `-` being none.
-pub fn read_bytes(line: &[u8], bytes: &mut [u8]) -> usize
-    ensures { result ≤ length bytes.old }
-{
-    let start = last_word(line);
-    decode(&line[start..], bytes)
+    &space[..n]
 }

@@ -1,9 +1,9 @@
-// What a run of a script prints: lines by forms, the numbers in words, what came of the calls counted, and the summary.
+// What a run of a script prints: what came of the calls counted, the summary, and the numbers in words.
 #![tactic(auto)]
 
-pub mod form;
-pub mod output;
 pub mod reasons;
-pub mod summary;
-pub mod tally;
+mod summary;
+mod tally;
 pub mod words;
+
+pub use tally::{Frame, Tally};

@@ -1,95 +1,72 @@
-// The reasons why frames crossed to ports or stopped: in a frame's answer, and counted in the summary. They are told in the order of their numbers, but 0, that a
-// port was not asked, comes last.
-ghost use Rattle.std.specs.Prelude.{◌<◌, ◌≤◌, length};
+// The reasons why frames crossed to ports or stopped: in a frame's answer, and counted in the summary.
+ghost use Rattle.std.specs.Prelude.{◌<◌, ◌≤◌};
 
-use crate::{form, output, tally};
-use line_parts::print;
+use crate::tally::Port;
+use crate::words;
+use line_parts::{Line, Ports};
 
-// How many reasons there are.
-const REASONS: u64 = 7;
+// How many there are.
+pub const REASONS: usize = 7;
 
-// What parts one from the one before it, in a list that begins at `first`.
-fn part(out: &mut [u8], at: usize, first: usize) -> usize
-    requires { at ≤ length out.old }
-    ensures { result ≤ length out.old }
+// They are told in the order of their numbers, but 0, that a port was not asked, comes last.
+const ORDER: [usize; REASONS] = [1, 2, 3, 4, 5, 6, 0];
+
+// That a pair stopped a frame, as listed and as not listed.
+const STOPPED_AS_LISTED: usize = 5;
+
+const STOPPED_AS_NOT_LISTED: usize = 6;
+
+// The reason at a port, by its index from 0: four bits for each.
+pub fn at(reasons: u64, index: usize) -> usize
+    requires { index < 8 }
+    ensures { result < 16 }
 {
-    if at == first {
-        return at;
-    }
-    print::text(out, at, b", ")
+    ((reasons >> (4 * index)) % 16) as usize
 }
 
-// One of the list, by a form of the reason and the ports that have it, or how often it was met; nothing where that is 0.
-fn one(out: &mut [u8], at: usize, first: usize, form: &[u8], n: u64, reason: u64) -> usize
-    requires { at ≤ length out.old }
-    ensures { result ≤ length out.old }
-{
-    if n == 0 {
-        return at;
-    }
-    let next = part(out, at, first);
-    let told = [n, reason];
-    form::fill(out, next, form, &told)
-}
-
-// 1 where the lowest four bits are a reason, else 0.
-fn bit(reasons: u64, reason: u64) -> u64 {
-    if reasons % 16 == reason {
-        return 1;
-    }
-    0
-}
-
-// The ports that have a reason, of the first `ports`, as a mask.
-fn having(reasons: u64, ports: usize, reason: u64) -> u64
+// The first `ports` that have a reason, as a mask.
+fn having(reasons: u64, ports: usize, reason: usize) -> u64
     requires { ports ≤ 8 }
 {
-    let mut mask = 0;
-    let mut left = ports as u32;
-    while 0 < left {
-        left -= 1;
-        mask = (mask << 1) | bit(reasons >> (4 * left), reason);
+    let mut mask = 0u64;
+    for index in 0..ports {
+        if at(reasons, index) == reason {
+            mask |= 1 << index;
+        }
     }
     mask
 }
 
 // The reasons of a frame's answer: each that some of the ports have, behind these ports.
-pub fn told(out: &mut [u8], at: usize, reasons: u64, ports: usize) -> usize
-    requires { (at ≤ length out.old) × (ports ≤ 8) }
-    ensures { result ≤ length out.old }
+pub fn tell(reasons: u64, ports: usize, out: &mut Line)
+    requires { ports ≤ 8 }
 {
-    let mut next = at;
-    let mut k = 0;
-    while k < REASONS {
-        k += 1;
-        let mask = having(reasons, ports, k % REASONS);
-        next = one(out, next, at, b"%p0: %r1", mask, k % REASONS);
+    let mut parted = "";
+    for reason in ORDER {
+        let mask = having(reasons, ports, reason);
+        if mask != 0 {
+            let ports = Ports(mask);
+            let words = words::reason(reason);
+            out.put(format_args!("{parted}{ports}: {words}"));
+            parted = ", ";
+        }
     }
-    next
 }
 
-// Each reason that was met at a port, by its index from 0, and how often.
-fn counted(counts: &[u64], out: &mut [u8], first: usize, index: usize) -> usize
-    requires { (first ≤ length out.old) × (index < 8) }
-    ensures { result ≤ length out.old }
-{
-    let mut next = first;
-    let mut k = 0;
-    while k < REASONS {
-        k += 1;
-        let n = tally::met(counts, index, k % REASONS);
-        next = one(out, next, first, b"%r1 %d0", n, k % REASONS);
-    }
-    next
+// How many frames a pair stopped on the way to a port.
+pub(crate) fn stopped(port: &Port) -> u64 {
+    port.met[STOPPED_AS_LISTED].wrapping_add(port.met[STOPPED_AS_NOT_LISTED])
 }
 
-// The same as a line; none where none was met.
-pub fn write(rt: &(impl Print + Eprint), counts: &mut [u64], out: &mut [u8], index: usize)
-    requires { index < 8 }
-{
-    let first = print::text(out, 0, b"    ");
-    let end = counted(counts, out, first, index);
-    if first < end {
-        output::finish(rt, counts, out, end);
+// Each reason that was met at a port, and how often.
+pub(crate) fn tell_met(port: &Port, out: &mut Line) {
+    let mut parted = "";
+    for reason in ORDER {
+        let times = port.met[reason];
+        if times != 0 {
+            let words = words::reason(reason);
+            out.put(format_args!("{parted}{words} {times}"));
+            parted = ", ";
+        }
     }
 }

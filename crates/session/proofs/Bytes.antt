@@ -1,16 +1,16 @@
 -- A message cut into the words of the packets, and put together from them. Assumes nothing.
-use mathlib.Core.Path.{◌≡◌, refl, sym, subst, ◌∙◌}
-use mathlib.Core.List.{List, ◌++◌}
-use Prim.Native.Nat.{ℕ, suc, ◌+◌, ◌*◌, ◌/◌, ◌%◌, ◌^◌, ◌≤◌, ◌<◌, min}
-use native.Mathlib.Omega.{arith}
-use lib.ListN.{length, get_or, set, take, drop, length-take}
-use lib.Seq.{get_or-drop, get_or-take, take_at, take_all}
-use native.Mathlib.Nat.{div-div-eq-div-mul, div-one, mul_comm, pow-suc}
-use Rattle.storage.specs.Bytes.{bytes_of}
-use Rattle.storage.proofs.Bytes.{AllBytes, byte_of}
-use Rattle.packets.specs.Packets.{packets_of}
-use Rattle.packets.specs.Words.{cut_words, carried_in, word_at}
-use Rattle.packets.proofs.Words.{words_at, words_many, words_same, carried_at, carried_long}
+use Rattle.std.proofs.Common.{◌≡◌, refl, sym, ap, ◌∙◌, ℕ, ◌+◌, ◌-◌, ◌*◌, ◌/◌, ◌≤◌, ◌<◌, min, List, ◌++◌, length, get_or, set, take, drop, arith}
+use lib.ListN.{length-take}
+use lib.Seq.{get_or-drop, get_or-take, take_at, drop_at, take_all, take-add, take-take, drop-drop, length-take-le}
+use Rattle.std.proofs.lemmas.List.{drop-take, take_rest}
+use mathlib.Core.List.{append_assoc}
+use Rattle.std.specs.Int.{w64, to_le_bytes}
+use Rattle.storage.specs.Bytes.{packed, bytes_of}
+use Rattle.storage.proofs.Bytes.{AllBytes}
+use Rattle.packets.specs.Packets.{packets_of, packet}
+use Rattle.packets.specs.Words.{cut_words, carried_in}
+use Rattle.packets.proofs.Frames.{word_bytes}
+use Rattle.packets.proofs.Words.{words_at, words_many, words_same, carried_part, carried_long}
 use Rattle.session.specs.Session.{most_bytes, block_length, Session, session_of, with_packets, message}
 use Rattle.session.specs.Calls.{Writing, Written}
 use Rattle.session.proofs.Eight.{eight}
@@ -21,11 +21,11 @@ use Rattle.session.proofs.Paste.{Pasted, pasted_none, pasted_one, pasted_all}
 pub fill_start : (block bytes : List ℕ) → length block ≡ block_length → length bytes ≤ most_bytes → Pasted block 8 (cut_words bytes) block 0
 fill_start block bytes l b = pasted_none (omega (arith, words_many (packets_of (length bytes)) 1 bytes))
 
-pub fill_one : (bytes : List ℕ) {block x : List ℕ} {i w : ℕ} → i < (length bytes + 6) / 7 → Pasted block 8 (cut_words bytes) x i → w ≡ word_at bytes (7 * i) (i + 1)
+pub fill_one : (bytes : List ℕ) {block x : List ℕ} {i w : ℕ} → i < (length bytes + 6) / 7 → Pasted block 8 (cut_words bytes) x i → w ≡ packed (packet (i + 1) (take (length bytes - 7 * i) (drop (7 * i) bytes)))
     → Pasted block 8 (cut_words bytes) (set x (8 + i) w) (i + 1)
 fill_one bytes {block} {x} {i} {w} h P e =
     let n : i + 1 ≡ 1 + i = omega arith in
-    pasted_one P (omega (arith, words_many (packets_of (length bytes)) 1 bytes)) w (e ∙ rw n (sym (words_at (packets_of (length bytes)) 1 bytes i h)))
+    pasted_one P (omega (arith, words_many (packets_of (length bytes)) 1 bytes)) w (e ∙ rw (take_rest bytes (7 * i), n) (sym (words_at (packets_of (length bytes)) 1 bytes i h)))
 
 behind : (block ps rest : List ℕ) (n : ℕ) → length block ≡ block_length → length ps ≡ n → session_of (set (take 8 block ++ (ps ++ rest)) 3 n) ≡ with_packets ps (session_of block)
 unfolding session_of
@@ -45,106 +45,53 @@ pub message_long : (s : Session) → length (message s) ≡ min s.size (7 * leng
 unfolding message
 message_long s = length-take s.size (carried_in s.packets) ∙ rw (carried_long s.packets)
 
-pub message_at : (block : List ℕ) (i : ℕ) → length block ≡ block_length → i < length (message (session_of block))
-    → get_or (message (session_of block)) i 0 ≡ get_or (bytes_of 8 (get_or block (8 + i / 7) 0)) (i % 7 + 1) 0
+-- ---- j bytes of packet k
+within : (a j n : ℕ) (xs : List ℕ) → a + j ≤ n → take j (drop a (take n xs)) ≡ take j (drop a xs)
+within a j n xs h =
+    let e : n ≡ a + (n - a) = omega arith in
+    ap {A = ℕ} (λ m. take j (drop a (take m xs))) e
+    ∙ ap {A = List ℕ} (λ ys. take j ys) (drop-take a (n - a) xs)
+    ∙ take-take j (n - a) (drop a xs) (omega arith)
+
+message_part : (block : List ℕ) (k j : ℕ) → length block ≡ block_length → 0 < j → j ≤ 7 → 7 * k + j ≤ length (message (session_of block))
+    → take j (drop (7 * k) (message (session_of block))) ≡ take j (drop 1 (bytes_of 8 (get_or block (8 + k) 0)))
 unfolding message session_of
-message_at block i l h =
+message_part block k j l some few h =
     let long = message_long (session_of block) in
     let there = stored_is block l in
-    get_or-take (min (get_or block 2 0) most_bytes) (carried_in (take (get_or block 3 0) (drop 8 block))) i 0 (omega (arith, long))
-    ∙ carried_at (take (get_or block 3 0) (drop 8 block)) i (omega (arith, long))
-    ∙ rw (get_or-take (get_or block 3 0) (drop 8 block) (i / 7) 0 (omega (arith, long, there)), get_or-drop 8 block (i / 7) 0)
+    within (7 * k) j (min (get_or block 2 0) most_bytes) (carried_in (take (get_or block 3 0) (drop 8 block))) (omega (arith, long))
+    ∙ carried_part (take (get_or block 3 0) (drop 8 block)) k j (omega (arith, long)) few
+    ∙ rw (get_or-take (get_or block 3 0) (drop 8 block) k 0 (omega (arith, long, there)), get_or-drop 8 block k 0)
 
--- n bytes of a message m are there
-pub record There (m before x : List ℕ) (i : ℕ) : Type 0 where
-  pub room : length m ≤ length before
-  pub copy : Pasted before 0 m x i
+-- ---- a message written piece by piece
+pub written_none : (m before : List ℕ) → Written m before before 0
+written_none m before = record { inside = omega arith; bytes = refl }
 
-pub there_none : (m before : List ℕ) → length m ≤ length before → There m before before 0
-there_none m before h = record { room = h; copy = pasted_none (omega arith) }
+pub written_more : (m before : List ℕ) {x ys : List ℕ} {i : ℕ} (j : ℕ) → length m ≤ length before → i + j ≤ length m → ys ≡ take j (drop i m) → Written m before x i
+    → Written m before (take i x ++ (ys ++ drop j (drop i x))) (i + j)
+written_more m before {x} {ys} {i} j room h e W = record {
+  inside = h;
+  bytes =
+      rw (e, W.bytes, take_at (take i m) (drop i before) i front, drop_at (take i m) (drop i before) i front, drop-drop j i before)
+      (sym (ap {A = List ℕ} (λ l. l ++ drop (i + j) before) (take-add i j m) ∙ append_assoc (take i m) (take j (drop i m)) (drop (i + j) before)));
+}
+  where
+    front : length (take i m) ≡ i
+    front = length-take-le i m (omega arith)
 
-pub there_written : (m before x : List ℕ) (i : ℕ) → There m before x i → Written m before x i
-there_written m before x i T =
-    let e : 0 + i ≡ i = omega arith in
-    record { inside = T.copy.inside; bytes = T.copy.copy ∙ rw e }
-
-pub written_there : (m before x : List ℕ) (i : ℕ) → length m ≤ length before → Written m before x i → There m before x i
-written_there m before x i h W =
-    let e : 0 + i ≡ i = omega arith in
-    record { room = h; copy = record { fits = omega arith; inside = W.inside; copy = W.bytes ∙ rw e } }
-
-pub there_one : (block : List ℕ) {before x : List ℕ} {i v : ℕ} → length block ≡ block_length → i < length (message (session_of block)) → There (message (session_of block)) before x i
-    → v ≡ get_or (bytes_of 8 (get_or block (8 + i / 7) 0)) (i % 7 + 1) 0 → There (message (session_of block)) before (set x i v) (i + 1)
-there_one block {before} {x} {i} {v} l h T e =
-    let n : i ≡ 0 + i = omega arith in
-    record {
-      room = T.room;
-      copy = subst (λ (j : ℕ). Pasted before 0 (message (session_of block)) (set x j v) (i + 1)) (sym n) (pasted_one T.copy h v (e ∙ sym (message_at block i l h)));
-    }
-
--- byte j of packet k
-pub there_nth : (block : List ℕ) (k j d : ℕ) {before x : List ℕ} {v : ℕ} → length block ≡ block_length → j < 7 → 7 * k + j < length (message (session_of block)) → There (message (session_of block)) before x (7 * k + j)
-    → d ≡ 256 ^ j → v ≡ get_or block (8 + k) 0 / 256 / d % 256 → There (message (session_of block)) before (set x (7 * k + j) v) (7 * k + (j + 1))
-there_nth block k j d {before} {x} {v} l s h T p e =
-    let q : (7 * k + j) / 7 ≡ k = omega arith in
-    let r : (7 * k + j) % 7 + 1 ≡ suc j = omega arith in
-    let n : 7 * k + j + 1 ≡ 7 * k + (j + 1) = omega arith in
-    subst (λ (a : ℕ). There (message (session_of block)) before (set x (7 * k + j) v) a) n
-    (there_one block l h T (e ∙ rw (q, r, byte_of 8 (get_or block (8 + k) 0) (suc j) (omega arith), p, div-div-eq-div-mul (get_or block (8 + k) 0) 256 (256 ^ j), pow-suc 256 j, mul_comm 256 (256 ^ j))))
-
--- the seven bytes of packet k, one store each
-module _ (block : List ℕ) (k : ℕ) {before x : List ℕ} (l : length block ≡ block_length) (h : 7 * k + 7 ≤ length (message (session_of block))) (T : There (message (session_of block)) before x (7 * k)) where
-  abbrev m : List ℕ
-  m = message (session_of block)
-
-  abbrev a : ℕ
-  a = get_or block (8 + k) 0 / 256
-
-  abbrev x0 : List ℕ
-  x0 = set x (7 * k) (a % 256)
-
-  abbrev x1 : List ℕ
-  x1 = set x0 (7 * k + 1) (a / 256 % 256)
-
-  abbrev x2 : List ℕ
-  x2 = set x1 (7 * k + 2) (a / 65536 % 256)
-
-  abbrev x3 : List ℕ
-  x3 = set x2 (7 * k + 3) (a / 16777216 % 256)
-
-  abbrev x4 : List ℕ
-  x4 = set x3 (7 * k + 4) (a / 4294967296 % 256)
-
-  abbrev x5 : List ℕ
-  x5 = set x4 (7 * k + 5) (a / 1099511627776 % 256)
-
-  abbrev x6 : List ℕ
-  x6 = set x5 (7 * k + 6) (a / 281474976710656 % 256)
-
-  there_0 : There m before x0 (7 * k + 1)
-  there_0 =
-      let z : 7 * k ≡ 7 * k + 0 = omega arith in
-      subst (λ (i : ℕ). There m before (set x i (a % 256)) (7 * k + 1)) (sym z)
-      (there_nth block k 0 1 l (omega arith) (omega arith) (subst (λ (i : ℕ). There m before x i) z T) refl (rw (div-one a)))
-
-  there_3 : There m before x3 (7 * k + 4)
-  there_3 =
-      there_nth block k 3 16777216 l (omega arith) (omega arith)
-      (there_nth block k 2 65536 l (omega arith) (omega arith)
-      (there_nth block k 1 256 l (omega arith) (omega arith) there_0 refl refl)
-      refl refl)
-      refl refl
-
-  there_6 : There m before x6 (7 * k + 7)
-  there_6 =
-      there_nth block k 6 281474976710656 l (omega arith) (omega arith)
-      (there_nth block k 5 1099511627776 l (omega arith) (omega arith)
-      (there_nth block k 4 4294967296 l (omega arith) (omega arith) there_3 refl refl)
-      refl refl)
-      refl refl
-
-  pub there_seven : There m before x6 (7 * (k + 1))
-  there_seven = let e : 7 * k + 7 ≡ 7 * (k + 1) = omega arith in subst (λ (i : ℕ). There m before x6 i) e there_6
+-- the bytes of packet k, as far as the message goes
+pub write_step : (block : List ℕ) {before x ys bytes : List ℕ} (k n end : ℕ) → length block ≡ block_length → n ≡ length (message (session_of block)) → n ≤ length before
+    → k < (n + 6) / 7 → end ≡ min n (7 * k + 7) → bytes ≡ to_le_bytes w64 (get_or block (8 + k) 0) → ys ≡ take (1 + end - 7 * k - 1) (drop 1 bytes)
+    → Written (message (session_of block)) before x (min (7 * k) n)
+    → Written (message (session_of block)) before (take (7 * k) x ++ (ys ++ drop (end - 7 * k) (drop (7 * k) x))) (min (7 * (k + 1)) n)
+write_step block {before} {x} {ys} {bytes} k n end l long room turn e b y W =
+    let i : min (7 * k) n ≡ 7 * k = omega arith in
+    let to : min (7 * (k + 1)) n ≡ 7 * k + (end - 7 * k) = omega arith in
+    let j : 1 + end - 7 * k - 1 ≡ end - 7 * k = omega arith in
+    rw to
+    (written_more (message (session_of block)) before (end - 7 * k) (omega arith) (omega arith)
+    (y ∙ rw (j, b ∙ word_bytes (get_or block (8 + k) 0)) (sym (message_part block k (end - 7 * k) l (omega arith) (omega arith) (omega arith))))
+    (rw i at W))
 
 pub write_done : (block : List ℕ) {out x : List ℕ} {r : ℕ} → r ≡ length (message (session_of block)) → r ≤ most_bytes → Written (message (session_of block)) out x r → Writing block out x r
 write_done block {out} {x} {r} e s W = record { written = W.bytes ∙ rw (take_all r (message (session_of block)) (omega arith)); answer = e; small = s }

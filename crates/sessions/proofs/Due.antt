@@ -11,7 +11,7 @@ use borrow.Author.Tests.{lt-ltb, le-ltb, ltb-true, ltb-false}
 use Rattle.session.specs.Session.{Session}
 use Rattle.sessions.specs.Sessions.{talk_of, none, place_of, remove_at}
 use Rattle.sessions.specs.Due.{those, others, first_due, Ending, Next, Over, ending, leaving, InTime}
-use Rattle.sessions.specs.declared.AtLimit.TheVariants.{Nothing, Ended}
+use Rattle.std.specs.Prelude.{None, Some}
 use Rattle.sessions.proofs.Steps.{past_none, removed_long}
 
 module _ (test : Session → Bool) where
@@ -78,14 +78,14 @@ module _ (test : Session → Bool) where
 
 -- ---- one step of the code
 module _ (before : List ℕ) (time : ℕ) where
-  pub ends_nothing : length (talk_of before) ≤ first_due time (talk_of before) → Ending before before time Nothing
+  pub ends_nothing : length (talk_of before) ≤ first_due time (talk_of before) → Ending before before time None
   ends_nothing h = record {
     talk = past_none (first_due time (talk_of before)) (talk_of before) h;
     answer = rw (le-ltb (first_due time (talk_of before)) (length (talk_of before)) h);
   }
 
   pub ends_one : {after : List ℕ} {i peer : ℕ} → i ≡ first_due time (talk_of before) → i < length (talk_of before) → peer ≡ (get_or (talk_of before) i none).peer → talk_of after ≡ remove_at i (talk_of before)
-      → Ending before after time (Ended peer)
+      → Ending before after time (Some peer)
   ends_one {after} {i} {peer} e h p t =
       let inside : first_due time (talk_of before) < length (talk_of before) = rw (← e) h in
       record {

@@ -2,7 +2,7 @@
 use mathlib.Core.Path.{◌≡◌, refl, sym, ap, ◌∙◌}
 use mathlib.Core.Logic.{inr}
 use mathlib.Core.List.{List, [], ◌∷◌, ◌++◌, append-nil}
-use Prim.Native.Nat.{ℕ, suc, ◌+◌, ◌-◌, ◌*◌, ◌≤◌, ◌<◌}
+use Prim.Native.Nat.{ℕ, suc, ◌+◌, ◌-◌, ◌*◌, ◌≤◌, ◌<◌, max}
 use native.Mathlib.Numerals.{add-one}
 use native.Mathlib.Nat.{zero-add}
 use native.Mathlib.Omega.{arith}
@@ -42,18 +42,15 @@ module _ (ports p : ℕ) (words ys : List ℕ) (long : length words ≡ region_l
   time_back = head_kept words (ys ++ drop (1 + 1053 * p + 1053 - (1 + 1053 * p)) (drop (1 + 1053 * p) words)) (1053 * p) (omega arith)
 
 -- ---- the time is told
-pub tells : (ports told : ℕ) (words : List ℕ) → 0 < length words → time_of words < told → Telling words (set words 0 told) ports told
+pub tells : (ports told : ℕ) (words : List ℕ) → 0 < length words → Telling words (set words 0 (max (time_of words) told)) ports told
 unfolding talks_of
-tells ports told [] h l = absurd (omega arith)
-tells ports told (w ∷ ws) h l = record {
-  time = omega arith;
+tells ports told [] h = absurd (omega arith)
+tells ports told (w ∷ ws) h = record {
+  time = refl;
   talks =
-      ap {A = List ℕ} (λ x. blocks_of 1 1053 ports talk_of x) (store_back 0 (w ∷ ws) told h)
-      ∙ blocks_apart 0 1 (w ∷ ws) (told ∷ []) refl (omega arith) talk_of 1053 1 ports (inr (omega arith));
+      ap {A = List ℕ} (λ x. blocks_of 1 1053 ports talk_of x) (store_back 0 (w ∷ ws) (max w told) h)
+      ∙ blocks_apart 0 1 (w ∷ ws) (max w told ∷ []) refl (omega arith) talk_of 1053 1 ports (inr (omega arith));
 }
-
-pub tells_nothing : (ports told : ℕ) (words : List ℕ) → told ≤ time_of words → Telling words words ports told
-tells_nothing ports told words h = record { time = omega arith; talks = refl }
 
 -- ---- the first p ports have no session any more
 pub record Emptied (ports : ℕ) (start x : List ℕ) (p : ℕ) : Type 0 where

@@ -2,19 +2,19 @@
 use mathlib.Core.Path.{◌≡◌, refl, sym, ap, ◌∙◌}
 use mathlib.Core.Bool.{Bool, true, false, cond, ◌&&◌}
 use mathlib.Core.List.{List, [], ◌∷◌, ◌++◌}
-use mathlib.Core.Option.{Option, some}
+use Rattle.std.specs.Prelude.{Option, Some}
 use Prim.Native.Nat.{ℕ, zero, suc, ◌+◌, ◌*◌, ◌%◌, ◌≤◌, ◌<◌}
 use native.Mathlib.Nat.{not-suc-le-zero, le_of_suc-le-suc}
 use native.Mathlib.Numerals.{add-one}
 use native.Mathlib.Omega.{arith}
-use lib.ListN.{length, get_or, set, take}
+use lib.ListN.{length, get_or, set, take, drop}
 use lib.Seq.{take-suc, length-take-le, take_all}
 use lib.Dec.{eqb, ltb}
 use borrow.Author.Tests.{eqb-true, eq-eqb, ne_eqb, ltb-true, lt-ltb}
 use Rattle.storage.specs.Bytes.{packed}
 use Rattle.storage.proofs.Bytes.{AllBytes}
-use Rattle.packets.specs.Packets.{packets_of}
-use Rattle.packets.specs.Words.{cut_words, word_at}
+use Rattle.packets.specs.Packets.{packets_of, packet}
+use Rattle.packets.specs.Words.{cut_words}
 use Rattle.packets.proofs.Words.{words_at, words_many}
 use Rattle.session.specs.Session.{Session, most_bytes, next, is_last, is_asked, with_packet, timed, asking, message}
 use Rattle.sessions.specs.Sessions.{place_of, is_with, remove_at}
@@ -32,17 +32,17 @@ pub record Found (test : Session → Bool) (ss : List Session) (s : Session) : T
   pub passes : test s ≡ true
 
 module _ (test : Session → Bool) where
-  found_case : (x : Session) (ss : List Session) (s : Session) (b : Bool) → test x ≡ b → (first test ss ≡ some s → Found test ss s) → first test (x ∷ ss) ≡ some s → Found test (x ∷ ss) s
+  found_case : (x : Session) (ss : List Session) (s : Session) (b : Bool) → test x ≡ b → (first test ss ≡ Some s → Found test ss s) → first test (x ∷ ss) ≡ Some s → Found test (x ∷ ss) s
   unfolding first place_of
   found_case x ss s true t more e =
-      let got : some x ≡ some s = rw t at e in
+      let got : Some x ≡ Some s = rw t at e in
       let same : x ≡ s = cc in
       record { inside = rw t (omega arith); is = rw t same; passes = rw (← same) t }
   found_case x ss s false t more e =
       let F = more (rw t at e) in
       record { inside = rw t (omega (arith, F.inside)); is = rw t F.is; passes = F.passes }
 
-  pub found : (ss : List Session) (s : Session) → first test ss ≡ some s → Found test ss s
+  pub found : (ss : List Session) (s : Session) → first test ss ≡ Some s → Found test ss s
   unfolding first
   found [] s e = absurd (let z : ◌≡◌ {A = ℕ} 0 1 = cc in omega arith)
   found (x ∷ ss) s e = found_case x ss s (test x) refl (found ss s) e
@@ -51,30 +51,30 @@ module _ (test : Session → Bool) where
   unfolding first remove_at
   first_other [] i h t = absurd (not-suc-le-zero h)
   first_other (x ∷ ss) zero h t = rw t
-  first_other (x ∷ ss) (suc i) h t = ap {A = Option Session} (λ o. cond (test x) (some x) o) (first_other ss i (le_of_suc-le-suc h) t)
+  first_other (x ∷ ss) (suc i) h t = ap {A = Option Session} (λ o. cond (test x) (Some x) o) (first_other ss i (le_of_suc-le-suc h) t)
 
   pub first_set : (ss : List Session) (i : ℕ) (y : Session) → i < length ss → test (get_or ss i S.none) ≡ false → test y ≡ false → first test (set ss i y) ≡ first test ss
   unfolding first
   first_set [] i y h t u = absurd (not-suc-le-zero h)
   first_set (x ∷ ss) zero y h t u = rw (t, u)
-  first_set (x ∷ ss) (suc i) y h t u = ap {A = Option Session} (λ o. cond (test x) (some x) o) (first_set ss i y (le_of_suc-le-suc h) t u)
+  first_set (x ∷ ss) (suc i) y h t u = ap {A = Option Session} (λ o. cond (test x) (Some x) o) (first_set ss i y (le_of_suc-le-suc h) t u)
 
-  first_own_case : (x : Session) (ss : List Session) (y : Session) (b : Bool) → test x ≡ b → (place_of test ss < length ss → first test (set ss (place_of test ss) y) ≡ some y)
-      → place_of test (x ∷ ss) < length (x ∷ ss) → test y ≡ true → first test (set (x ∷ ss) (place_of test (x ∷ ss)) y) ≡ some y
+  first_own_case : (x : Session) (ss : List Session) (y : Session) (b : Bool) → test x ≡ b → (place_of test ss < length ss → first test (set ss (place_of test ss) y) ≡ Some y)
+      → place_of test (x ∷ ss) < length (x ∷ ss) → test y ≡ true → first test (set (x ∷ ss) (place_of test (x ∷ ss)) y) ≡ Some y
   unfolding first place_of
   first_own_case x ss y true t more h u = rw t (rw u)
   first_own_case x ss y false t more h u = let g : suc (place_of test ss) < suc (length ss) = rw t at h in rw t (rw t (more (le_of_suc-le-suc g)))
 
-  pub first_own : (ss : List Session) (y : Session) → place_of test ss < length ss → test y ≡ true → first test (set ss (place_of test ss) y) ≡ some y
+  pub first_own : (ss : List Session) (y : Session) → place_of test ss < length ss → test y ≡ true → first test (set ss (place_of test ss) y) ≡ Some y
   first_own [] y h u = absurd (not-suc-le-zero h)
   first_own (x ∷ ss) y h u = first_own_case x ss y (test x) refl (λ g. first_own ss y g u) h u
 
-  first_more_case : (x : Session) (ss ts : List Session) (s : Session) (b : Bool) → test x ≡ b → (first test ss ≡ some s → first test (ss ++ ts) ≡ some s) → first test (x ∷ ss) ≡ some s → first test ((x ∷ ss) ++ ts) ≡ some s
+  first_more_case : (x : Session) (ss ts : List Session) (s : Session) (b : Bool) → test x ≡ b → (first test ss ≡ Some s → first test (ss ++ ts) ≡ Some s) → first test (x ∷ ss) ≡ Some s → first test ((x ∷ ss) ++ ts) ≡ Some s
   unfolding first
   first_more_case x ss ts s true t more e = rw t (rw t at e)
   first_more_case x ss ts s false t more e = rw t (more (rw t at e))
 
-  pub first_more : (ss ts : List Session) (s : Session) → first test ss ≡ some s → first test (ss ++ ts) ≡ some s
+  pub first_more : (ss ts : List Session) (s : Session) → first test ss ≡ Some s → first test (ss ++ ts) ≡ Some s
   unfolding first
   first_more [] ts s e = absurd (let z : ◌≡◌ {A = ℕ} 0 1 = cc in omega arith)
   first_more (x ∷ ss) ts s e = first_more_case x ss ts s (test x) refl (first_more ss ts s) e
@@ -131,8 +131,12 @@ pub getting_other : (m : List ℕ) (peer j other word time : ℕ) (ss : List Ses
 getting_other m peer j other word time ss n G = record { session = G.session; found = other_first peer other word time ss n ∙ G.found; size = G.size; came = G.came }
 
 -- ---- a packet from the peer itself
+-- the word of the packet numbered k, of a message's bytes from `at` on
+abbrev pub word_at : List ℕ → ℕ → ℕ → ℕ
+word_at bytes at k = packed (packet k (drop at bytes))
+
 number : (m : List ℕ) (at k : ℕ) → k < 256 → word_at m at k % 256 ≡ k
-unfolding word_at packed
+unfolding packed
 number m at k h = omega arith
 
 module _ (m : List ℕ) (peer j time : ℕ) (ss : List Session) (bytes : AllBytes m) (few : length m ≤ most_bytes) (before : j < packets_of (length m)) (G : Getting m peer j ss) where

@@ -1,57 +1,80 @@
 -- A search along a list. Assumes nothing.
-use mathlib.Core.Path.{◌≡◌, ◌∙◌}
-use mathlib.Core.Bool.{Bool, true, false, cond}
-use mathlib.Core.List.{List, [], ◌∷◌}
-use Prim.Native.Nat.{ℕ, suc, ◌+◌, ◌≤◌, ◌<◌, zero-le}
-use native.Mathlib.Numerals.{add-one}
-use native.Mathlib.Omega.{arith}
-use lib.Dec.{eqb}
-use borrow.Author.Tests.{eq-eqb, ne_eqb}
-use lib.ListN.{length, get_or, drop, drop_of_length-le}
-use lib.Seq.{drop-cons}
-use Rattle.session.specs.Session.{Session}
-use Rattle.sessions.specs.Sessions.{none, place_of, is_with}
+use Rattle.std.proofs.Common.{◌≡◌, refl, ◌∙◌, ℕ, suc, ◌+◌, ◌≤◌, ◌<◌, Bool, true, false, cond, List, [], ◌∷◌, length, map, Option, None, Some, arith}
+use lib.Dec.{ltb}
+use borrow.Author.Tests.{ltb-true, ltb-false}
+use Rattle.std.specs.List.{position_or_len}
+use Rattle.std.proofs.lemmas.List.{length-map}
+use Rattle.std.proofs.lemmas.List.Recursion.{is_position_or_len}
+use Rattle.session.specs.Session.{Session, session_of}
+use Rattle.std.specs.Option.{IfSome, is_some, unwrap_or}
+use Rattle.sessions.specs.Sessions.{place_of, place_in, remove_at, removed_if}
+use Rattle.sessions.proofs.Steps.{past_none}
 
--- the first i did not pass
-pub record Passed (test : Session → Bool) (ss : List Session) (i : ℕ) : Type 0 where
-  pub inside : i ≤ length ss
-  pub rest : place_of test ss ≡ i + place_of test (drop i ss)
-
-pub passed_none : (test : Session → Bool) (ss : List Session) → Passed test ss 0
-passed_none test ss = record { inside = zero-le; rest = omega arith }
-
-module _ (test : Session → Bool) (ss : List Session) {i : ℕ} (P : Passed test ss i) where
-  pub passed_found : i < length ss → test (get_or ss i none) ≡ true → i ≡ place_of test ss
-  unfolding place_of
-  passed_found h t =
-      let e : place_of test (drop i ss) ≡ 0 = rw (drop-cons ss i none h, t) in
-      omega (arith, P.rest)
-
-  pub passed_more : i < length ss → test (get_or ss i none) ≡ false → Passed test ss (i + 1)
-  unfolding place_of
-  passed_more h t =
-      let e : place_of test (drop i ss) ≡ suc (place_of test (drop (suc i) ss)) = rw (drop-cons ss i none h, t) in
-      record { inside = omega arith; rest = rw (add-one i) (P.rest ∙ rw e (omega arith)) }
-
-  pub passed_all : length ss ≤ i → length ss ≡ place_of test ss
-  unfolding place_of
-  passed_all h =
-      let e : place_of test (drop i ss) ≡ 0 = rw (drop_of_length-le ss {i = i} h) in
-      omega (arith, P.rest, P.inside)
-
--- ---- the test of one session
-module _ (s : Session) where
-  pub with_false : (way peer : ℕ) {w : ℕ} → w ≡ s.way → (w ≡ way → ⊥) → false ≡ is_with way peer s
-  with_false way peer {w} e n = rw (← e, ne_eqb w way n)
-
-  pub with_rest_lem : (way peer : ℕ) {w p : ℕ} → w ≡ s.way → w ≡ way → p ≡ s.peer → eqb p peer ≡ is_with way peer s
-  with_rest_lem way peer {w} {p} e h q = rw (← e, ← q, eq-eqb w way h)
-
-place_case : (b : Bool) {n m : ℕ} → n ≤ m → cond b 0 (suc n) ≤ suc m
-place_case true h = zero-le
-place_case false h = omega arith
-
-pub place_inside : (test : Session → Bool) (ss : List Session) → place_of test ss ≤ length ss
+-- as the library finds it among the blocks
+pub place_is : (test : Session → Bool) (blocks : List (List ℕ)) → place_of test (map session_of blocks) ≡ position_or_len (λ b. test (session_of b)) blocks
 unfolding place_of
-place_inside test [] = zero-le
-place_inside test (s ∷ ss) = place_case (test s) (place_inside test ss)
+place_is test blocks = is_position_or_len (λ bs. place_of test (map session_of bs)) (λ b. test (session_of b)) refl (λ b bs. more (test (session_of b)) (place_of test (map session_of bs))) blocks
+  where
+    more : (b : Bool) (n : ℕ) → cond b 0 (suc n) ≡ cond b 0 (1 + n)
+    more true n = refl
+    more false n = omega arith
+
+pub place_by : (test : Session → Bool) (blocks : List (List ℕ)) {ss : List Session} {r : Option ℕ} → map session_of blocks ≡ ss
+    → r ≡ cond (ltb (position_or_len (λ b. test (session_of b)) blocks) (length blocks)) (Some (position_or_len (λ b. test (session_of b)) blocks)) None
+    → r ≡ place_in test ss
+place_by test blocks m e = e ∙ rw (← m, place_is test blocks, length-map blocks session_of)
+
+module _ (test : Session → Bool) (ss : List Session) where
+  pub place_some : {i : ℕ} → Some i ≡ place_in test ss → (i ≡ place_of test ss) × (place_of test ss < length ss)
+  place_some {i} e = go (ltb (place_of test ss) (length ss)) refl e
+    where
+      go : (b : Bool) → ltb (place_of test ss) (length ss) ≡ b → Some i ≡ cond b (Some (place_of test ss)) None → (i ≡ place_of test ss) × (place_of test ss < length ss)
+      go true t e = (cc, ltb-true (place_of test ss) (length ss) t)
+      go false t e = absurd (let z : ◌≡◌ {A = ℕ} 0 1 = cc in omega arith)
+
+  pub place_none : None ≡ place_in test ss → length ss ≤ place_of test ss
+  place_none e = go (ltb (place_of test ss) (length ss)) refl e
+    where
+      go : (b : Bool) → ltb (place_of test ss) (length ss) ≡ b → None ≡ cond b (Some (place_of test ss)) None → length ss ≤ place_of test ss
+      go true t e = absurd (let z : ◌≡◌ {A = ℕ} 0 1 = cc in omega arith)
+      go false t e = ltb-false (place_of test ss) (length ss) t
+
+  pub place_inside : place_of test ss ≤ length ss
+  unfolding place_of
+  place_inside = bound ss
+    where
+      case : (b : Bool) {n m : ℕ} → n ≤ m → cond b 0 (suc n) ≤ suc m
+      case true h = omega arith
+      case false h = omega arith
+
+      bound : (ss : List Session) → place_of test ss ≤ length ss
+      bound [] = omega arith
+      bound (s ∷ ss) = case (test s) (bound ss)
+
+  pub place_if : IfSome (place_in test ss) (λ i. i < length ss)
+  place_if = go (ltb (place_of test ss) (length ss)) refl
+    where
+      go : (b : Bool) → ltb (place_of test ss) (length ss) ≡ b → IfSome (cond b (Some (place_of test ss)) None) (λ i. i < length ss)
+      go true t = ltb-true (place_of test ss) (length ss) t
+      go false t = tt
+
+  pub place_is_some : is_some (place_in test ss) ≡ ltb (place_of test ss) (length ss)
+  place_is_some = go (ltb (place_of test ss) (length ss))
+    where
+      go : (b : Bool) → is_some (cond b (Some (place_of test ss)) None) ≡ b
+      go true = refl
+      go false = refl
+
+  pub place_or : unwrap_or (place_in test ss) (length ss) ≡ place_of test ss
+  place_or = go (ltb (place_of test ss) (length ss)) refl
+    where
+      go : (b : Bool) → ltb (place_of test ss) (length ss) ≡ b → unwrap_or (cond b (Some (place_of test ss)) None) (length ss) ≡ place_of test ss
+      go true t = refl
+      go false t = omega (arith, ltb-false (place_of test ss) (length ss) t, place_inside)
+
+  pub place_removed : removed_if (place_in test ss) ss ≡ remove_at (place_of test ss) ss
+  place_removed = go (ltb (place_of test ss) (length ss)) refl
+    where
+      go : (b : Bool) → ltb (place_of test ss) (length ss) ≡ b → removed_if (cond b (Some (place_of test ss)) None) ss ≡ remove_at (place_of test ss) ss
+      go true t = refl
+      go false t = past_none (place_of test ss) ss (ltb-false (place_of test ss) (length ss) t)

@@ -1,10 +1,8 @@
 -- "aborts sessions at their limit, oldest first": those at their limit, in order of opening, and those that stay. The oldest
 -- ends, again and again, until none is at its limit.
 -- Assumes nothing.
-use Rattle.std.specs.Prelude.{ℕ, zero, suc, Bool, cond, not, ◌≡◌, List, [], ◌∷◌, length, get_or, ltb}
+use Rattle.std.specs.Prelude.{ℕ, zero, suc, Bool, cond, not, ◌≡◌, List, [], ◌∷◌, length, get_or, ltb, Option, None, Some}
 use Rattle.session.specs.Session.{Session, is_due}
-use Rattle.sessions.specs.declared.AtLimit.{AtLimit}
-use Rattle.sessions.specs.declared.AtLimit.TheVariants.{Nothing, Ended}
 use Rattle.sessions.specs.Sessions.{talk_of, none, place_of, remove_at}
 
 -- those that pass a test, in order
@@ -20,10 +18,10 @@ abbrev pub first_due : ℕ → List Session → ℕ
 first_due time ss = place_of (is_due time) ss
 
 -- one step
-abbrev pub ended_by : ℕ → List Session → AtLimit
-ended_by time ss = cond (ltb (first_due time ss) (length ss)) (Ended (get_or ss (first_due time ss) none).peer) Nothing
+abbrev pub ended_by : ℕ → List Session → Option ℕ
+ended_by time ss = cond (ltb (first_due time ss) (length ss)) (Some (get_or ss (first_due time ss) none).peer) None
 
-pub record Ending (before after : List ℕ) (time : ℕ) (r : AtLimit) : Type 0 where
+pub record Ending (before after : List ℕ) (time : ℕ) (r : Option ℕ) : Type 0 where
   pub talk : talk_of after ≡ remove_at (first_due time (talk_of before)) (talk_of before)
   pub answer : r ≡ ended_by time (talk_of before)
 

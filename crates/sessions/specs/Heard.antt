@@ -2,16 +2,15 @@
 -- frames: a data packet, a request to send, a clear to send; and what a reply over 8 bytes does. An end takes out the session
 -- that sends to its sender, an abort both (`without`).
 -- Assumes nothing.
-use Rattle.std.specs.Prelude.{ℕ, ◌+◌, ◌-◌, ◌%◌, min, Bool, cond, ◌&&◌, ◌||◌, ◌≡◌, List, [], ◌∷◌, ◌++◌, length, drop, get_or, set, eqb, ltb, leb}
+use Rattle.std.specs.Prelude.{ℕ, ◌+◌, ◌-◌, ◌%◌, min, Bool, cond, ◌&&◌, ◌||◌, ◌≡◌, List, [], ◌∷◌, ◌++◌, length, drop, get_or, set, eqb, ltb, leb, Option, None, Some, Result, Ok, Err}
 use Rattle.packets.specs.Packets.{packets_of}
 use Rattle.packets.specs.Words.{cut_words}
 use Rattle.session.specs.Session.{most_bytes, Session, opened, with_packets, next, is_last, is_asked, with_packet, timed, asking, message}
+use Rattle.checks.specs.declared.refusal.Refusal.{Refusal}
+use Rattle.checks.specs.declared.refusal.Refusal.TheVariants.{ManySessions, WrongPacket, WrongSize}
 use Rattle.sessions.specs.declared.Data.{Data}
-use Rattle.sessions.specs.declared.Data.TheVariants.{Nothing, Refused, Stored, Ask, Given}
-use Rattle.sessions.specs.declared.Request.{Request}
-use Rattle.sessions.specs.declared.Request.TheVariants.{Full, Wrong, Opened}
-use Rattle.sessions.specs.declared.Clear.{Clear}
-use Rattle.sessions.specs.declared.Clear.TheVariants as Clears
+use Rattle.sessions.specs.declared.Data.TheVariants.{Stored, Ask, Given}
+use Rattle.sessions.specs.declared.Window.{Window}
 use Rattle.sessions.specs.Sessions.{most, talk_of, none, sending, remove_at}
 
 -- "T1 to T4 are 750, 1,250, 1,250 and 1,050 ms"
@@ -69,12 +68,13 @@ data_talk i word time ss =
 unfoldable pub data_message : ℕ → ℕ → List Session → List ℕ
 data_message i word ss = by_row i word ss [] [] (message (with_packet word (get_or ss i none))) [] []
 
-unfoldable pub data_answer : ℕ → ℕ → List Session → Data
+-- none where no session is there for it; 20, "wrong packet"
+unfoldable pub data_answer : ℕ → ℕ → List Session → Result (Option Data) Refusal
 data_answer i word ss =
-    by_row i word ss Nothing Refused (Given (length (message (with_packet word (get_or ss i none)))))
-    (ask_of (with_packet word (get_or ss i none))) Stored
+    by_row i word ss (Ok None) (Err WrongPacket) (Ok (Some (Given (length (message (with_packet word (get_or ss i none)))))))
+    (Ok (Some (ask_of (with_packet word (get_or ss i none))))) (Ok (Some Stored))
 
-pub record Hearing (before after : List ℕ) (i word time : ℕ) (out given : List ℕ) (r : Data) : Type 0 where
+pub record Hearing (before after : List ℕ) (i word time : ℕ) (out given : List ℕ) (r : Result (Option Data) Refusal) : Type 0 where
   pub talk : talk_of after ≡ data_talk i word time (talk_of before)
   pub answer : r ≡ data_answer i word (talk_of before)
   pub written : given ≡ data_message i word (talk_of before) ++ drop (length (data_message i word (talk_of before))) out
@@ -100,11 +100,11 @@ request_talk i peer size packets limit time ss =
     (remove_at i ss ++ (opened 1 peer size (first_count packets limit) (min limit window) T2 time ∷ []))
     ss)
 
-unfoldable pub request_answer : ℕ → ℕ → ℕ → ℕ → Request
+unfoldable pub request_answer : ℕ → ℕ → ℕ → ℕ → Result ℕ Refusal
 request_answer i size packets limit =
-    cond (is_full i) Full (cond (is_right size packets) (Opened (first_count packets limit)) Wrong)
+    cond (is_full i) (Err ManySessions) (cond (is_right size packets) (Ok (first_count packets limit)) (Err WrongSize))
 
-pub record Requesting (before after : List ℕ) (i peer size packets limit time : ℕ) (r : Request) : Type 0 where
+pub record Requesting (before after : List ℕ) (i peer size packets limit time : ℕ) (r : Result ℕ Refusal) : Type 0 where
   pub talk : talk_of after ≡ request_talk i peer size packets limit time (talk_of before)
   pub answer : r ≡ request_answer i size packets limit
 
@@ -135,11 +135,13 @@ clear_talk i count first time ss =
 abbrev pub through_of : ℕ → ℕ → Session → ℕ
 through_of count first s = min (first + min count window - 1) (length s.packets)
 
-unfoldable pub clear_answer : ℕ → ℕ → ℕ → List Session → Clear
-clear_answer i count first ss =
-    by_clear i count first ss Clears.Nothing Clears.Nothing Clears.Nothing
-    (Clears.Send i first (through_of count first (get_or ss i none)))
+abbrev pub window_of : ℕ → ℕ → ℕ → Window
+window_of at first through = record { at = at; first = first; through = through }
 
-pub record Clearing (before after : List ℕ) (i count first time : ℕ) (r : Clear) : Type 0 where
+unfoldable pub clear_answer : ℕ → ℕ → ℕ → List Session → Option Window
+clear_answer i count first ss =
+    by_clear i count first ss None None None (Some (window_of i first (through_of count first (get_or ss i none))))
+
+pub record Clearing (before after : List ℕ) (i count first time : ℕ) (r : Option Window) : Type 0 where
   pub talk : talk_of after ≡ clear_talk i count first time (talk_of before)
   pub answer : r ≡ clear_answer i count first (talk_of before)

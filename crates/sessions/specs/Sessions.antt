@@ -1,6 +1,6 @@
 -- Ticket 1: a port's sessions in order of opening, the oldest first: what 1,053 words mean, and which of them is meant.
 -- Assumes nothing.
-use Rattle.std.specs.Prelude.{ℕ, suc, ◌+◌, ◌*◌, Bool, cond, ◌&&◌, List, [], ◌∷◌, ◌++◌, take, drop, get_or, eqb}
+use Rattle.std.specs.Prelude.{ℕ, suc, ◌+◌, ◌*◌, Bool, cond, ◌&&◌, List, [], ◌∷◌, ◌++◌, length, take, drop, get_or, eqb, ltb, Option, None, Some}
 use Rattle.storage.specs.Blocks.{blocks_of}
 use Rattle.session.specs.Session.{block_length, Session, session_of}
 
@@ -28,6 +28,10 @@ unfoldable pub place_of : (Session → Bool) → List Session → ℕ
 place_of test [] = 0
 place_of test (s ∷ ss) = cond (test s) 0 (suc (place_of test ss))
 
+-- that place, if there is one
+abbrev pub place_in : (Session → Bool) → List Session → Option ℕ
+place_in test ss = cond (ltb (place_of test ss) (length ss)) (Some (place_of test ss)) None
+
 -- it goes that way, and is with that peer
 abbrev pub is_with : ℕ → ℕ → Session → Bool
 is_with way peer s = eqb s.way way && eqb s.peer peer
@@ -42,6 +46,10 @@ sending peer ss = place_of (is_with 2 peer) ss
 -- the one at a place ends; where there is none, nothing does
 unfoldable pub remove_at : {A : Type 0} → ℕ → List A → List A
 remove_at i xs = take i xs ++ drop (suc i) xs
+
+abbrev pub removed_if : {A : Type 0} → Option ℕ → List A → List A
+removed_if None xs = xs
+removed_if (Some i) xs = remove_at i xs
 
 -- the session that goes one way and is with a peer ends
 abbrev pub without : ℕ → ℕ → List Session → List Session

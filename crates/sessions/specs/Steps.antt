@@ -1,14 +1,22 @@
 -- What the steps of a data packet promise one another. Only private functions cite these; the rows are in `Heard.antt`.
-use Rattle.std.specs.Prelude.{ℕ, ◌≡◌, List, ◌++◌, length, drop, get_or, set}
-use Rattle.session.specs.Session.{with_packet, message}
+use Rattle.std.specs.Prelude.{ℕ, ◌+◌, ◌*◌, ◌≡◌, List, ◌++◌, length, take, drop, get_or, set}
+use Rattle.session.specs.Session.{block_length, with_packet, message}
 use Rattle.sessions.specs.declared.Data.{Data}
 use Rattle.sessions.specs.Sessions.{talk_of, none, remove_at}
 use Rattle.sessions.specs.Heard.{asked_next, asked, ask_of}
 
--- the message of the session at a place, at the front of `out`
-pub record Giving (words : List ℕ) (i : ℕ) (out given : List ℕ) (r : ℕ) : Type 0 where
-  pub written : given ≡ message (get_or (talk_of words) i none) ++ drop r out
-  pub answer : r ≡ length (message (get_or (talk_of words) i none))
+-- the block at the front of some words was changed in place
+pub record LendingFirst (R : List ℕ → Unit {0} → List ℕ → Type 0) (before after : List ℕ) : Type 0 where
+  pub block : List ℕ
+  pub changed : R (take block_length before) tt block
+  pub back : after ≡ block ++ drop block_length before
+
+-- block i of a port
+pub record Lending (R : List ℕ → Unit {0} → List ℕ → Type 0) (i : ℕ) (before after : List ℕ) : Type 0 where
+  pub block : List ℕ
+  pub long : length block ≡ block_length
+  pub changed : R (take block_length (drop (1 + block_length * i) before)) tt block
+  pub back : after ≡ take (1 + block_length * i) before ++ (block ++ drop block_length (drop (1 + block_length * i) before))
 
 pub record AskingNext (before after : List ℕ) (i time : ℕ) (r : Data) : Type 0 where
   pub talk : talk_of after ≡ set (talk_of before) i (asked_next time (get_or (talk_of before) i none))

@@ -2,14 +2,20 @@
 // first. What each frame of the transport protocol does to them, and which are at their limit.
 #![tactic(auto)]
 
-ghost use Rattle.std.specs.Prelude.{◌≡◌, [], ◌∷◌, ◌++◌, ◌+◌, ◌-◌, ◌≤◌, ◌<◌, min, length, get_or, set};
-ghost use Rattle.session.specs.Session.{most_bytes, session_of, is_due, is_last, is_asked, opened, with_packet, with_packets, timed, asking, next};
+ghost use Rattle.std.specs.Prelude.{◌≡◌, [], ◌∷◌, ◌++◌, ◌+◌, ◌-◌, ◌*◌, ◌≤◌, ◌<◌, length, get_or, set, map, IfSome};
+ghost use Rattle.std.specs.Fn.{FnOnceReturnsAtMut};
 ghost use Rattle.packets.specs.Words.{cut_words};
-ghost use Rattle.sessions.specs.Sessions.{most, port_length, blocks_in, talk_of, none, place_of, is_with, receiving, sending, remove_at, without};
+ghost use Rattle.session.specs.Way.{word};
+ghost use Rattle.session.specs.Opening.{opened_by};
+ghost use Rattle.session.specs.Session.{most_bytes, block_length, session_of, is_due, with_packet, with_packets, timed, asking};
+ghost use Rattle.sessions.specs.Sessions.{most, blocks_in, talk_of, none, place_in, is_with, receiving, sending, remove_at, removed_if, without};
 ghost use Rattle.sessions.specs.Heard.{ask_count, kept, Hearing, is_right, Requesting, is_busy, sending_of, Clearing};
-ghost use Rattle.sessions.specs.Steps.{Giving, AskingNext, TakingAsked, TakingLast};
+ghost use Rattle.sessions.specs.Steps.{Lending, LendingFirst, AskingNext, TakingAsked, TakingLast};
 ghost use Rattle.sessions.specs.Due.{Ending};
 ghost use Rattle.sessions.specs.Region.{region_length, Telling, Dropping};
+
+use checks::Refusal;
+use session::{BLOCK_LENGTH, Block, Opening, Way};
 
 // How many sessions are open on a port at most, both ways together.
 pub const MOST: usize = 4;
@@ -17,37 +23,23 @@ pub const MOST: usize = 4;
 // How many words a port has.
 pub const PORT_LENGTH: usize = 1053;
 
-// What a data packet comes to: no session is there for it, it is refused with 20, it is stored, it is stored and more are to
-// be asked for, or it was the last and the message was given out.
-#[derive(Clone, Copy)]
+pub type Port = [u64; PORT_LENGTH];
+
+// What a data packet comes to that a session takes: it is stored, it is stored and more are to be asked for, or it was the
+// last and the message was given out.
+#[derive(Clone, Copy, Debug, PartialEq, Eq)]
 pub enum Data {
-    Nothing,
-    Refused,
     Stored,
     Ask { count: u64, first: u64 },
     Given(usize),
 }
 
-// What a request to send comes to: 19, 21, or a session that is to ask for so many packets.
-#[derive(Clone, Copy)]
-pub enum Request {
-    Full,
-    Wrong,
-    Opened(u64),
-}
-
-// What a clear to send comes to: nothing is to be sent, or packets of the session at a place, from a number through another.
-#[derive(Clone, Copy)]
-pub enum Clear {
-    Nothing,
-    Send { at: usize, first: u64, through: u64 },
-}
-
-// Which session at its limit has ended: none, or that with a peer.
-#[derive(Clone, Copy)]
-pub enum AtLimit {
-    Nothing,
-    Ended(u64),
+// Packets to be sent, of the session at a place: from a number through another.
+#[derive(Clone, Copy, Debug, PartialEq, Eq)]
+pub struct Window {
+    pub at: usize,
+    pub first: u64,
+    pub through: u64,
 }
 
 // Milliseconds for the next packet, after one.
@@ -66,518 +58,363 @@ const T4: u64 = 1050;
 const WINDOW: u64 = 16;
 
 // How many sessions are open.
-pub fn count(words: &[u64]) -> usize
-    requires { length words.now ≡ port_length }
-    ensures { (result ≡ length (talk_of words.now)) × (result ≤ most) × (result ≤ get_or words.now 0 0) }
+pub fn count(port: &Port) -> usize
+    ensures { (result ≡ length (talk_of port.now)) × (result ≤ most) × (result ≤ get_or port.now 0 0) }
 {
-    let n = words[0];
-    if n < MOST as u64 { n as usize } else { MOST }
+    port[0].min(MOST as u64) as usize
 }
 
-// Whether the session in block i goes one way and is with a peer.
-fn is_with(words: &[u64], i: usize, way: u64, peer: u64) -> bool
-    requires { (length words.now ≡ port_length) × (i < most) }
-    ensures { result ≡ is_with way peer (get_or (blocks_in words.now) i none) }
+// The blocks of the sessions that are open.
+fn open_blocks(port: &Port) -> &[Block]
+    ensures value { map session_of result.now ≡ talk_of port.now }
+    ensures many { length result.now ≡ length (talk_of port.now) }
 {
-    let a = 1 + session::BLOCK_LENGTH * i;
-    let e = a + session::BLOCK_LENGTH;
-    if session::way(&words[a..e]) != way {
-        return false;
+    let (all, _) = port[1..].as_chunks();
+    &all[..count(port)]
+}
+
+// Changes the block at the front of some words. Apart from `change`, since a proof follows an array that is lent from a
+// slice only where that slice is the argument itself, and no part of it.
+fn change_first<F: FnOnce(&mut Block)>(words: &mut [u64], change: F)
+    requires callable { F.IsAlwaysCallable change }
+    requires long { block_length ≤ length words.old }
+    ensures { LendingFirst (FnOnceReturnsAtMut F.FnOnce change) words.old words.new }
+{
+    if let Some(block) = words.first_chunk_mut() {
+        change(block);
     }
-    session::peer(&words[a..e]) == peer
 }
 
-// Whether the session in block i is at its limit.
-fn is_due(words: &[u64], i: usize, time: u64) -> bool
-    requires { (length words.now ≡ port_length) × (i < most) }
-    ensures { result ≡ is_due time (get_or (blocks_in words.now) i none) }
+// Changes block i of a port.
+fn change<F: FnOnce(&mut Block)>(port: &mut Port, i: usize, change: F)
+    requires callable { F.IsAlwaysCallable change }
+    requires inside { i < most }
+    ensures { Lending (FnOnceReturnsAtMut F.FnOnce change) i port.old port.new }
 {
-    let a = 1 + session::BLOCK_LENGTH * i;
-    let e = a + session::BLOCK_LENGTH;
-    session::is_due(&words[a..e], time)
+    change_first(&mut port[1 + BLOCK_LENGTH * i..], change);
 }
 
-// The place of the session that goes one way and is with a peer, or how many there are.
-pub fn find(words: &[u64], way: u64, peer: u64) -> usize
-    requires { length words.now ≡ port_length }
-    ensures { result ≡ place_of (is_with way peer) (talk_of words.now) }
+// Whether a session goes one way and is with a peer.
+fn is_with(session: &Block, way: Way, peer: u8) -> bool
+    ensures { result ≡ is_with (word way) peer (session_of session.now) }
 {
-    let n = count(words);
-    let mut i = 0;
-    while i < n {
-        if is_with(words, i, way, peer) {
-            return i;
-        }
-        i += 1;
-    }
-    n
+    session::way(session) == Some(way) && session::peer(session) == peer
 }
 
-// The place of the oldest session that is at its limit, or how many there are.
-pub fn first_due(words: &[u64], time: u64) -> usize
-    requires { length words.now ≡ port_length }
-    ensures { result ≡ place_of (is_due time) (talk_of words.now) }
+// The place of the session that goes one way and is with a peer.
+pub fn find(port: &Port, way: Way, peer: u8) -> Option<usize>
+    ensures place { result ≡ place_in (is_with (word way) peer) (talk_of port.now) }
+    ensures inside { IfSome result (λ i. i < length (talk_of port.now)) }
 {
-    let n = count(words);
-    let mut i = 0;
-    while i < n {
-        if is_due(words, i, time) {
-            return i;
-        }
-        i += 1;
-    }
-    n
+    open_blocks(port)
+        .iter()
+        .position(|session| is_with(session, way, peer))
+}
+
+// The place of the oldest session that is at its limit.
+pub fn first_due(port: &Port, time: u64) -> Option<usize>
+    ensures place { result ≡ place_in (is_due time) (talk_of port.now) }
+    ensures inside { IfSome result (λ i. i < length (talk_of port.now)) }
+{
+    open_blocks(port)
+        .iter()
+        .position(|session| session::is_due(session, time))
 }
 
 // Copies the block behind block i into it.
-fn move_down(words: &mut [u64], i: usize)
-    requires { (length words.old ≡ port_length) × (i + 1 < most) }
-    ensures { blocks_in words.new ≡ set (blocks_in words.old) i (get_or (blocks_in words.old) (i + 1) none) }
+fn move_down(port: &mut Port, i: usize)
+    requires { i + 1 < most }
+    ensures { blocks_in port.new ≡ set (blocks_in port.old) i (get_or (blocks_in port.old) (i + 1) none) }
 {
-    let a = 1 + session::BLOCK_LENGTH * i;
-    let b = a + session::BLOCK_LENGTH;
-    let mut k = 0;
-    while k < session::BLOCK_LENGTH {
-        words[a + k] = words[b + k];
-        k += 1;
-    }
+    let start = 1 + BLOCK_LENGTH * i;
+    let next = start + BLOCK_LENGTH;
+    port.copy_within(next..next + BLOCK_LENGTH, start);
 }
 
 // Ends the session at a place; those behind it move up.
-pub fn close(words: &mut [u64], i: usize)
-    requires { (length words.old ≡ port_length) × (i < length (talk_of words.old)) }
-    ensures { talk_of words.new ≡ remove_at i (talk_of words.old) }
+pub fn close(port: &mut Port, i: usize)
+    requires { i < length (talk_of port.old) }
+    ensures { talk_of port.new ≡ remove_at i (talk_of port.old) }
 {
-    let n = count(words);
-    let last = n - 1;
-    let mut place = i;
-    while place < last {
-        move_down(words, place);
-        place += 1;
+    let last = count(port) - 1;
+    for place in i..last {
+        move_down(port, place);
     }
-    words[0] = last as u64;
+    port[0] = last as u64;
 }
 
 // Opens a session, the youngest.
-pub fn open(
-    words: &mut [u64],
-    way: u64,
-    peer: u64,
-    size: u64,
-    through: u64,
-    limit: u64,
-    timer: u64,
-    since: u64,
-)
-    requires { (length words.old ≡ port_length) × (length (talk_of words.old) < most) × (way ≤ 2) × (peer < 256) × (size ≤ most_bytes) × (limit ≤ 16) }
-    ensures { talk_of words.new ≡ talk_of words.old ++ (opened way peer size through limit timer since ∷ []) }
+pub fn open(port: &mut Port, opening: Opening)
+    requires { length (talk_of port.old) < most }
+    ensures { talk_of port.new ≡ talk_of port.old ++ (opened_by opening ∷ []) }
 {
-    let n = count(words);
-    let a = 1 + session::BLOCK_LENGTH * n;
-    let e = a + session::BLOCK_LENGTH;
-    session::open(
-        &mut words[a..e],
-        way,
-        peer,
-        size,
-        through,
-        limit,
-        timer,
-        since,
-    );
-    words[0] = (n + 1) as u64;
+    let n = count(port);
+    change(port, n, |session| session::open(session, opening));
+    port[0] = (n + 1) as u64;
 }
 
 // Puts a packet behind those of the session at a place.
-pub fn store(words: &mut [u64], i: usize, word: u64)
-    requires { (length words.old ≡ port_length) × (i < length (talk_of words.old)) }
-    ensures { talk_of words.new ≡ set (talk_of words.old) i (with_packet word (get_or (talk_of words.old) i none)) }
+pub fn store(port: &mut Port, i: usize, word: u64)
+    requires { i < length (talk_of port.old) }
+    ensures { talk_of port.new ≡ set (talk_of port.old) i (with_packet word (get_or (talk_of port.old) i none)) }
 {
-    let a = 1 + session::BLOCK_LENGTH * i;
-    let e = a + session::BLOCK_LENGTH;
-    session::store(&mut words[a..e], word);
-}
-
-// How many packets of the session at a place are there.
-fn stored(words: &[u64], i: usize) -> u64
-    requires { (length words.now ≡ port_length) × (i < length (talk_of words.now)) }
-    ensures { (result ≡ length (get_or (talk_of words.now) i none).packets) × (result ≤ 255) }
-{
-    let a = 1 + session::BLOCK_LENGTH * i;
-    let e = a + session::BLOCK_LENGTH;
-    session::stored(&words[a..e])
-}
-
-// Whether the packet that is to come next is the last of the message.
-fn is_last(words: &[u64], i: usize) -> bool
-    requires { (length words.now ≡ port_length) × (i < length (talk_of words.now)) }
-    ensures { result ≡ is_last (get_or (talk_of words.now) i none) }
-{
-    let a = 1 + session::BLOCK_LENGTH * i;
-    let e = a + session::BLOCK_LENGTH;
-    session::is_last(&words[a..e])
-}
-
-// Whether it is the last that was asked for, or past it.
-fn is_asked(words: &[u64], i: usize) -> bool
-    requires { (length words.now ≡ port_length) × (i < length (talk_of words.now)) }
-    ensures { result ≡ is_asked (get_or (talk_of words.now) i none) }
-{
-    let a = 1 + session::BLOCK_LENGTH * i;
-    let e = a + session::BLOCK_LENGTH;
-    session::is_asked(&words[a..e])
-}
-
-// How many bytes the message has.
-fn size(words: &[u64], i: usize) -> u64
-    requires { (length words.now ≡ port_length) × (i < length (talk_of words.now)) }
-    ensures { (result ≡ (get_or (talk_of words.now) i none).size) × (result ≤ most_bytes) }
-{
-    let a = 1 + session::BLOCK_LENGTH * i;
-    let e = a + session::BLOCK_LENGTH;
-    session::size(&words[a..e])
-}
-
-// How many packets may be asked for at a time.
-fn limit(words: &[u64], i: usize) -> u64
-    requires { (length words.now ≡ port_length) × (i < length (talk_of words.now)) }
-    ensures { (result ≡ (get_or (talk_of words.now) i none).limit) × (result ≤ 16) }
-{
-    let a = 1 + session::BLOCK_LENGTH * i;
-    let e = a + session::BLOCK_LENGTH;
-    session::limit(&words[a..e])
+    change(port, i, |session| session::store(session, word));
 }
 
 // Starts a timer.
-fn set_timer(words: &mut [u64], i: usize, timer: u64, since: u64)
-    requires { (length words.old ≡ port_length) × (i < length (talk_of words.old)) }
-    ensures { talk_of words.new ≡ set (talk_of words.old) i (timed timer since (get_or (talk_of words.old) i none)) }
+fn set_timer(port: &mut Port, i: usize, timer: u64, since: u64)
+    requires { i < length (talk_of port.old) }
+    ensures { talk_of port.new ≡ set (talk_of port.old) i (timed timer since (get_or (talk_of port.old) i none)) }
 {
-    let a = 1 + session::BLOCK_LENGTH * i;
-    let e = a + session::BLOCK_LENGTH;
-    session::set_timer(&mut words[a..e], timer, since);
+    change(port, i, |session| session::set_timer(session, timer, since));
 }
 
 // Notes that packets up to a number were asked for.
-fn ask_through(words: &mut [u64], i: usize, through: u64)
-    requires { (length words.old ≡ port_length) × (i < length (talk_of words.old)) }
-    ensures { talk_of words.new ≡ set (talk_of words.old) i (asking through (get_or (talk_of words.old) i none)) }
+fn ask_through(port: &mut Port, i: usize, through: u64)
+    requires { i < length (talk_of port.old) }
+    ensures { talk_of port.new ≡ set (talk_of port.old) i (asking through (get_or (talk_of port.old) i none)) }
 {
-    let a = 1 + session::BLOCK_LENGTH * i;
-    let e = a + session::BLOCK_LENGTH;
-    session::ask_through(&mut words[a..e], through);
+    change(port, i, |session| session::ask_through(session, through));
 }
 
-// Puts the message of the session at a place together at the front of `out`.
-fn write_out(words: &[u64], i: usize, out: &mut [u8]) -> usize
-    requires { (length words.now ≡ port_length) × (i < length (talk_of words.now)) × (most_bytes ≤ length out.old) }
-    ensures { Giving words.now i out.old out.new result }
+// Cuts a message into the packets of the session at a place.
+fn fill(port: &mut Port, i: usize, bytes: &[u8])
+    requires { (i < length (talk_of port.old)) × (length bytes.now ≤ most_bytes) }
+    ensures { talk_of port.new ≡ set (talk_of port.old) i (with_packets (cut_words bytes.now) (get_or (talk_of port.old) i none)) }
 {
-    let a = 1 + session::BLOCK_LENGTH * i;
-    let e = a + session::BLOCK_LENGTH;
-    session::write_out(&words[a..e], out)
+    change(port, i, |session| session::fill(session, bytes));
 }
 
 // How many packets are to be asked for next.
-fn ask_count(words: &[u64], i: usize) -> u64
-    requires { (length words.now ≡ port_length) × (i < length (talk_of words.now)) }
-    ensures { (result ≡ ask_count (get_or (talk_of words.now) i none)) × (result ≤ 16) }
+fn ask_count(session: &Block) -> u64
+    ensures { (result ≡ ask_count (session_of session.now)) × (result ≤ 16) }
 {
-    let n = (size(words, i) + 6) / 7;
-    let k = stored(words, i);
-    let most = limit(words, i);
-    if n < k {
-        return 0;
-    }
-    if n - k < most { n - k } else { most }
+    let packets = (session::size(session) + 6) / 7;
+    packets
+        .saturating_sub(session::stored(session))
+        .min(session::limit(session))
 }
 
 // Asks for the next packets.
-fn ask_next(words: &mut [u64], i: usize, time: u64) -> Data
-    requires { (length words.old ≡ port_length) × (i < length (talk_of words.old)) }
-    ensures { AskingNext words.old words.new i time result }
+fn ask_next(port: &mut Port, i: usize, time: u64) -> Data
+    requires { i < length (talk_of port.old) }
+    ensures { AskingNext port.old port.new i time result }
 {
-    let count = ask_count(words, i);
-    let k = stored(words, i);
-    ask_through(words, i, k + count);
-    set_timer(words, i, T2, time);
+    let session = &open_blocks(port)[i];
+    let count = ask_count(session);
+    let stored = session::stored(session);
+    ask_through(port, i, stored + count);
+    set_timer(port, i, T2, time);
     Data::Ask {
         count,
-        first: k + 1,
+        first: stored + 1,
     }
 }
 
 // Stores a packet and asks for the next.
-fn take_asked(words: &mut [u64], i: usize, word: u64, time: u64) -> Data
-    requires { (length words.old ≡ port_length) × (i < length (talk_of words.old)) }
-    ensures { TakingAsked words.old words.new i word time result }
+fn take_asked(port: &mut Port, i: usize, word: u64, time: u64) -> Data
+    requires { i < length (talk_of port.old) }
+    ensures { TakingAsked port.old port.new i word time result }
 {
-    store(words, i, word);
-    ask_next(words, i, time)
+    store(port, i, word);
+    ask_next(port, i, time)
 }
 
 // Stores a packet; the next is awaited.
-fn take_kept(words: &mut [u64], i: usize, word: u64, time: u64)
-    requires { (length words.old ≡ port_length) × (i < length (talk_of words.old)) }
-    ensures { talk_of words.new ≡ set (talk_of words.old) i (kept word time (get_or (talk_of words.old) i none)) }
+fn take_kept(port: &mut Port, i: usize, word: u64, time: u64)
+    requires { i < length (talk_of port.old) }
+    ensures { talk_of port.new ≡ set (talk_of port.old) i (kept word time (get_or (talk_of port.old) i none)) }
 {
-    store(words, i, word);
-    set_timer(words, i, T1, time);
+    store(port, i, word);
+    set_timer(port, i, T1, time);
 }
 
 // Stores the last packet: the message is given out, and the session ends.
-fn take_last(words: &mut [u64], i: usize, word: u64, out: &mut [u8]) -> usize
-    requires { (length words.old ≡ port_length) × (i < length (talk_of words.old)) × (most_bytes ≤ length out.old) }
-    ensures { TakingLast words.old words.new i word out.old out.new result }
+fn take_last(port: &mut Port, i: usize, word: u64, out: &mut [u8]) -> usize
+    requires { (i < length (talk_of port.old)) × (most_bytes ≤ length out.old) }
+    ensures { TakingLast port.old port.new i word out.old out.new result }
 {
-    store(words, i, word);
-    let n = write_out(words, i, out);
-    close(words, i);
+    store(port, i, word);
+    let n = session::write_out(&open_blocks(port)[i], out);
+    close(port, i);
     n
 }
 
-// A data packet, for the session at a place if there is one.
-fn data_at(words: &mut [u64], i: usize, word: u64, time: u64, out: &mut [u8]) -> Data
-    requires { (length words.old ≡ port_length) × (most_bytes ≤ length out.old) }
-    ensures { Hearing words.old words.new i word time out.old out.new result }
+// A data packet from a peer: None where no session is there for it.
+pub fn heard_data(
+    port: &mut Port,
+    peer: u8,
+    word: u64,
+    time: u64,
+    out: &mut [u8],
+) -> Result<Option<Data>, Refusal>
+    requires { most_bytes ≤ length out.old }
+    ensures { Hearing port.old port.new (receiving peer (talk_of port.old)) word time out.old out.new result }
 {
-    let n = count(words);
-    if n <= i {
-        return Data::Nothing;
+    let Some(i) = find(port, Way::Receiving, peer) else {
+        return Ok(None);
+    };
+    let session = &open_blocks(port)[i];
+    if word % 256 != session::stored(session) + 1 {
+        return Err(Refusal::WrongPacket);
     }
-    let k = stored(words, i);
-    if word % 256 != k + 1 {
-        return Data::Refused;
+    if session::is_last(session) {
+        return Ok(Some(Data::Given(take_last(port, i, word, out))));
     }
-    if is_last(words, i) {
-        let given = take_last(words, i, word, out);
-        return Data::Given(given);
+    if session::is_asked(session) {
+        return Ok(Some(take_asked(port, i, word, time)));
     }
-    if is_asked(words, i) {
-        return take_asked(words, i, word, time);
-    }
-    take_kept(words, i, word, time);
-    Data::Stored
+    take_kept(port, i, word, time);
+    Ok(Some(Data::Stored))
 }
 
-// A data packet from a peer.
-pub fn heard_data(words: &mut [u64], peer: u64, word: u64, time: u64, out: &mut [u8]) -> Data
-    requires { (length words.old ≡ port_length) × (most_bytes ≤ length out.old) }
-    ensures { Hearing words.old words.new (receiving peer (talk_of words.old)) word time out.old out.new result }
+// Ends the session at a place, if it is one.
+fn drop_at(port: &mut Port, place: Option<usize>)
+    requires { IfSome place (λ i. i < length (talk_of port.old)) }
+    ensures { talk_of port.new ≡ removed_if place (talk_of port.old) }
 {
-    let i = find(words, session::RECEIVING, peer);
-    data_at(words, i, word, time, out)
-}
-
-// Ends the session at a place, if there is one.
-fn drop_at(words: &mut [u64], i: usize)
-    requires { length words.old ≡ port_length }
-    ensures { talk_of words.new ≡ remove_at i (talk_of words.old) }
-{
-    if i < count(words) {
-        close(words, i);
+    if let Some(i) = place {
+        close(port, i);
     }
-}
-
-// The lesser of two.
-fn least(a: u64, b: u64) -> u64
-    ensures { result ≡ min a b }
-{
-    if a < b { a } else { b }
 }
 
 // Whether a size and a number of packets agree, and the size is one of a long message.
 fn is_right(size: u64, packets: u64) -> bool
     ensures { result ≡ is_right size packets }
 {
-    if size < 9 {
-        return false;
-    }
-    if 1785 < size {
-        return false;
-    }
-    packets == (size + 6) / 7
+    9 <= size && size <= 1785 && packets == (size + 6) / 7
 }
 
-// A request to send, the place of its sender's session given; where there is none, how many there are.
-fn request_at(
-    words: &mut [u64],
-    i: usize,
-    peer: u64,
-    size: u64,
-    packets: u64,
-    limit: u64,
-    time: u64,
-) -> Request
-    requires { (length words.old ≡ port_length) × (i ≤ length (talk_of words.old)) × (peer < 256) }
-    ensures { Requesting words.old words.new i peer size packets limit time result }
-{
-    if MOST <= i {
-        return Request::Full;
-    }
-    if !is_right(size, packets) {
-        return Request::Wrong;
-    }
-    let most = least(limit, WINDOW);
-    let c = least(packets, most);
-    drop_at(words, i);
-    open(words, session::RECEIVING, peer, size, c, most, T2, time);
-    Request::Opened(c)
-}
-
-// A request to send from a peer.
+// A request to send from a peer: 19, 21, or a session that is to ask for so many packets. It replaces its sender's first.
 pub fn heard_request(
-    words: &mut [u64],
-    peer: u64,
-    size: u64,
-    packets: u64,
-    limit: u64,
+    port: &mut Port,
+    peer: u8,
+    size: u16,
+    packets: u8,
+    limit: u8,
     time: u64,
-) -> Request
-    requires { (length words.old ≡ port_length) × (peer < 256) }
-    ensures { Requesting words.old words.new (receiving peer (talk_of words.old)) peer size packets limit time result }
+) -> Result<u64, Refusal>
+    ensures { Requesting port.old port.new (receiving peer (talk_of port.old)) peer size packets limit time result }
 {
-    let i = find(words, session::RECEIVING, peer);
-    request_at(words, i, peer, size, packets, limit, time)
-}
-
-// Cuts a message into the packets of the session at a place.
-fn fill(words: &mut [u64], i: usize, bytes: &[u8])
-    requires { (length words.old ≡ port_length) × (i < length (talk_of words.old)) × (length bytes.now ≤ most_bytes) }
-    ensures { talk_of words.new ≡ set (talk_of words.old) i (with_packets (cut_words bytes.now) (get_or (talk_of words.old) i none)) }
-{
-    let a = 1 + session::BLOCK_LENGTH * i;
-    let e = a + session::BLOCK_LENGTH;
-    session::fill(&mut words[a..e], bytes);
+    let first = find(port, Way::Receiving, peer);
+    let place = first.unwrap_or(count(port));
+    if MOST <= place {
+        return Err(Refusal::ManySessions);
+    }
+    if !is_right(size as u64, packets as u64) {
+        return Err(Refusal::WrongSize);
+    }
+    drop_at(port, first);
+    let limit = (limit as u64).min(WINDOW);
+    let count = (packets as u64).min(limit);
+    open(
+        port,
+        Opening {
+            way: Way::Receiving,
+            peer,
+            size: size as u64,
+            through: count,
+            limit,
+            timer: T2,
+            since: time,
+        },
+    );
+    Ok(count)
 }
 
 // Opens a session that sends a message, the youngest.
-pub fn open_reply(words: &mut [u64], peer: u64, bytes: &[u8], time: u64)
-    requires { (length words.old ≡ port_length) × (length (talk_of words.old) < most) × (peer < 256) × (length bytes.now ≤ most_bytes) }
-    ensures { talk_of words.new ≡ talk_of words.old ++ (sending_of peer bytes.now time ∷ []) }
+pub fn open_reply(port: &mut Port, peer: u8, bytes: &[u8], time: u64)
+    requires { (length (talk_of port.old) < most) × (length bytes.now ≤ most_bytes) }
+    ensures { talk_of port.new ≡ talk_of port.old ++ (sending_of peer bytes.now time ∷ []) }
 {
-    let n = count(words);
-    let size = bytes.len() as u64;
-    open(words, session::SENDING, peer, size, 0, 0, T3, time);
-    fill(words, n, bytes);
+    let n = count(port);
+    open(
+        port,
+        Opening {
+            way: Way::Sending,
+            peer,
+            size: bytes.len() as u64,
+            through: 0,
+            limit: 0,
+            timer: T3,
+            since: time,
+        },
+    );
+    fill(port, n, bytes);
 }
 
 // Whether a reply to a peer is refused with 19: four are open, or one is there already replying to that address.
-pub fn is_busy(words: &[u64], peer: u64) -> bool
-    requires { length words.now ≡ port_length }
-    ensures { result ≡ is_busy peer (talk_of words.now) }
+pub fn is_busy(port: &Port, peer: u8) -> bool
+    ensures { result ≡ is_busy peer (talk_of port.now) }
 {
-    let n = count(words);
-    if MOST <= n {
-        return true;
-    }
-    find(words, session::SENDING, peer) < n
+    MOST <= count(port) || find(port, Way::Sending, peer).is_some()
 }
 
 // Ends the session that goes one way and is with a peer, if there is one.
-fn drop_with(words: &mut [u64], way: u64, peer: u64)
-    requires { length words.old ≡ port_length }
-    ensures { talk_of words.new ≡ without way peer (talk_of words.old) }
+fn drop_with(port: &mut Port, way: Way, peer: u8)
+    ensures { talk_of port.new ≡ without (word way) peer (talk_of port.old) }
 {
-    let i = find(words, way, peer);
-    drop_at(words, i);
+    let place = find(port, way, peer);
+    drop_at(port, place);
 }
 
 // An end from a peer.
-pub fn heard_end(words: &mut [u64], peer: u64)
-    requires { length words.old ≡ port_length }
-    ensures { talk_of words.new ≡ without 2 peer (talk_of words.old) }
+pub fn heard_end(port: &mut Port, peer: u8)
+    ensures { talk_of port.new ≡ without 2 peer (talk_of port.old) }
 {
-    drop_with(words, session::SENDING, peer);
+    drop_with(port, Way::Sending, peer);
 }
 
 // An abort from a peer: it does not say which way, so that both end.
-pub fn heard_abort(words: &mut [u64], peer: u64)
-    requires { length words.old ≡ port_length }
-    ensures { talk_of words.new ≡ without 2 peer (without 1 peer (talk_of words.old)) }
+pub fn heard_abort(port: &mut Port, peer: u8)
+    ensures { talk_of port.new ≡ without 2 peer (without 1 peer (talk_of port.old)) }
 {
-    drop_with(words, session::RECEIVING, peer);
-    drop_with(words, session::SENDING, peer);
+    drop_with(port, Way::Receiving, peer);
+    drop_with(port, Way::Sending, peer);
 }
 
-// A clear to send, for the session at a place if there is one.
-fn clear_at(words: &mut [u64], i: usize, asked: u64, first: u64, time: u64) -> Clear
-    requires { length words.old ≡ port_length }
-    ensures { Clearing words.old words.new i asked first time result }
+// A clear to send from a peer, for so many packets from the one numbered `first` on: what is to be sent, if anything is.
+pub fn heard_clear(port: &mut Port, peer: u8, asked: u64, first: u64, time: u64) -> Option<Window>
+    ensures { Clearing port.old port.new (sending peer (talk_of port.old)) asked first time result }
 {
-    let n = count(words);
-    if n <= i {
-        return Clear::Nothing;
-    }
+    let at = find(port, Way::Sending, peer)?;
     if asked == 0 {
-        set_timer(words, i, T4, time);
-        return Clear::Nothing;
+        set_timer(port, at, T4, time);
+        return None;
     }
-    let last = stored(words, i);
-    if first == 0 {
-        return Clear::Nothing;
+    let last = session::stored(&open_blocks(port)[at]);
+    if first == 0 || last < first {
+        return None;
     }
-    if last < first {
-        return Clear::Nothing;
-    }
-    set_timer(words, i, T3, time);
-    let through = least(first + least(asked, WINDOW) - 1, last);
-    Clear::Send {
-        at: i,
-        first,
-        through,
-    }
-}
-
-// A clear to send from a peer, for so many packets from the one numbered `first` on.
-pub fn heard_clear(words: &mut [u64], peer: u64, asked: u64, first: u64, time: u64) -> Clear
-    requires { length words.old ≡ port_length }
-    ensures { Clearing words.old words.new (sending peer (talk_of words.old)) asked first time result }
-{
-    let i = find(words, session::SENDING, peer);
-    clear_at(words, i, asked, first, time)
+    set_timer(port, at, T3, time);
+    let through = (first + asked.min(WINDOW) - 1).min(last);
+    Some(Window { at, first, through })
 }
 
 // Packet k, counted from 1, of the session at a place.
-pub fn packet(words: &[u64], i: usize, k: usize) -> u64
-    requires { (length words.now ≡ port_length) × (i < length (talk_of words.now)) × (1 ≤ k) × (k ≤ length (get_or (talk_of words.now) i none).packets) }
-    ensures { result ≡ get_or (get_or (talk_of words.now) i none).packets (k - 1) 0 }
+pub fn packet(port: &Port, i: usize, k: usize) -> u64
+    requires { (i < length (talk_of port.now)) × (1 ≤ k) × (k ≤ length (get_or (talk_of port.now) i none).packets) }
+    ensures { result ≡ get_or (get_or (talk_of port.now) i none).packets (k - 1) 0 }
 {
-    let a = 1 + session::BLOCK_LENGTH * i;
-    let e = a + session::BLOCK_LENGTH;
-    session::packet(&words[a..e], k)
-}
-
-// The peer of the session at a place.
-fn peer_at(words: &[u64], i: usize) -> u64
-    requires { (length words.now ≡ port_length) × (i < length (talk_of words.now)) }
-    ensures { result ≡ (get_or (talk_of words.now) i none).peer }
-{
-    let a = 1 + session::BLOCK_LENGTH * i;
-    let e = a + session::BLOCK_LENGTH;
-    session::peer(&words[a..e])
+    session::packet(&open_blocks(port)[i], k)
 }
 
 // Ends the oldest session that is at its limit, if there is one. Tells its peer.
-pub fn end_due(words: &mut [u64], time: u64) -> AtLimit
-    requires { length words.old ≡ port_length }
-    ensures { Ending words.old words.new time result }
+pub fn end_due(port: &mut Port, time: u64) -> Option<u8>
+    ensures { Ending port.old port.new time result }
 {
-    let i = first_due(words, time);
-    if count(words) <= i {
-        return AtLimit::Nothing;
-    }
-    let peer = peer_at(words, i);
-    close(words, i);
-    AtLimit::Ended(peer)
+    let i = first_due(port, time)?;
+    let peer = session::peer(&open_blocks(port)[i]);
+    close(port, i);
+    Some(peer)
 }
 
 // Drops every session, silently: at power-on, and where the unit becomes Lost.
-pub fn drop_all(words: &mut [u64])
-    requires { length words.old ≡ port_length }
-    ensures { talk_of words.new ≡ [] }
+pub fn drop_all(port: &mut [u64])
+    requires { 0 < length port.old }
+    ensures { talk_of port.new ≡ [] }
 {
-    words[0] = 0;
+    port[0] = 0;
 }
 
 // Tells the time of a region, in milliseconds: an earlier one counts as the last.
@@ -585,11 +422,7 @@ pub fn tell_time(words: &mut [u64], ports: usize, told: u64)
     requires { length words.old ≡ region_length ports }
     ensures { Telling words.old words.new ports told }
 {
-    let time = words[0];
-    if told <= time {
-        return;
-    }
-    words[0] = told;
+    words[0] = words[0].max(told);
 }
 
 // Drops every session of every port of a region.
@@ -597,11 +430,8 @@ pub fn drop_every(words: &mut [u64], ports: usize)
     requires { (length words.old ≡ region_length ports) × (ports ≤ 8) }
     ensures { Dropping words.old words.new ports }
 {
-    let mut p = 0;
-    while p < ports {
-        let a = 1 + PORT_LENGTH * p;
-        let e = a + PORT_LENGTH;
-        drop_all(&mut words[a..e]);
-        p += 1;
+    for p in 0..ports {
+        let start = 1 + PORT_LENGTH * p;
+        drop_all(&mut words[start..start + PORT_LENGTH]);
     }
 }

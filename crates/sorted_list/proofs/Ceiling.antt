@@ -2,15 +2,14 @@
 use mathlib.Core.Path.{◌≡◌, refl, ap, ◌∙◌}
 use mathlib.Core.Bool.{Bool, true, false, cond}
 use mathlib.Core.List.{List}
-use Prim.Native.Nat.{ℕ, zero, suc, ◌-◌, ◌^◌, ◌≤◌, ◌<◌, zero-le, ◌+◌}
+use Prim.Native.Nat.{ℕ, zero, suc, ◌-◌, ◌^◌, ◌≤◌, ◌<◌, zero-le}
 use native.Mathlib.Nat.{pow-suc}
 use native.Mathlib.Omega.{arith}
 use borrow.Author.Tests.{ltb-true, lt-ltb, ne_eqb}
 use lib.Dec.{eqb, ltb}
-use lib.ListN.{length, get_or, take}
-use lib.Seq.{length-take-le}
+use lib.ListN.{length, get_or}
 use Rattle.pgn_list.specs.PgnList.{list_size}
-use Rattle.sorted_list.specs.SortedList.{Probed, Finding, found_mark, marked, probed, more, middle, halving_in, halving, halved, most_probes}
+use Rattle.sorted_list.specs.SortedList.{Probed, Finding, probed, more, middle, halving_in, halving, halved, most_probes}
 use Rattle.sorted_list.proofs.Halving.{halving_none, halving_one}
 
 -- one probe and what is left on either side
@@ -58,29 +57,6 @@ module _ (x : ℕ) (list : List ℕ) (above : (i : ℕ) → i < list_size → ge
       ∙ ap (λ p. suc (suc (suc (suc (suc p.probes))))) (on 31 32 31 (omega arith) refl (omega arith))
       ∙ ap (λ p. suc (suc (suc (suc (suc (suc p.probes)))))) (halving_none list x 32 32 (omega arith)))
 
--- what a search in the first n words tells
-told_few : (list : List ℕ) (n x : ℕ) → length list ≡ list_size → n ≤ list_size → (halved x (take n list)).probes ≤ most_probes
-told_few list n x long fits = ceiling x (take n list) (omega (arith, length-take-le n list (omega arith)))
-
-module _ (list : List ℕ) (n x : ℕ) (long : length list ≡ list_size) (fits : n ≤ list_size) where
-  pub told_found : {probes : ℕ} → probed true probes ≡ halved x (take n list) → Finding (take n list) x (found_mark + probes)
-  told_found e = record { answer = ap marked e; few = told_few list n x long fits }
-
-  pub told_absent : {probes : ℕ} → probed false probes ≡ halved x (take n list) → Finding (take n list) x probes
-  told_absent e = record { answer = ap marked e; few = told_few list n x long fits }
-
--- and what that says
-module _ {list : List ℕ} {x r : ℕ} (F : Finding list x r) where
-  pub mark_found : found_mark ≤ r → ((halved x list).found ≡ true) × (r - found_mark ≡ (halved x list).probes)
-  mark_found h = go (halved x list).found refl
-    where
-      go : (b : Bool) → (halved x list).found ≡ b → (b ≡ true) × (r - found_mark ≡ (halved x list).probes)
-      go true e = (refl, omega (arith, rw e at F.answer))
-      go false e = absurd (omega (arith, rw e at F.answer, F.few))
-
-  pub mark_absent : r < found_mark → ((halved x list).found ≡ false) × (r ≡ (halved x list).probes)
-  mark_absent h = go (halved x list).found refl
-    where
-      go : (b : Bool) → (halved x list).found ≡ b → (b ≡ false) × (r ≡ (halved x list).probes)
-      go true e = absurd (omega (arith, rw e at F.answer))
-      go false e = (refl, rw e at F.answer)
+-- what a search tells
+pub told : {list : List ℕ} {x probes : ℕ} {found : Bool} → length list ≤ list_size → probed found probes ≡ halved x list → Finding list x found probes
+told {list} {x} fits e = record { answer = e; few = omega (arith, ap (λ p. p.probes) e, ceiling x list fits) }

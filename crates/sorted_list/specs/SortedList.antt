@@ -45,16 +45,10 @@ halved x list = halving list x 0 (length list)
 abbrev pub most_probes : ℕ
 most_probes = 6
 
--- the contract of a search: the probes, and 64 more where x was found
-abbrev pub found_mark : ℕ
-found_mark = 64
-
-abbrev pub marked : Probed → ℕ
-marked p = cond p.found (found_mark + p.probes) p.probes
-
-pub record Finding (list : List ℕ) (x r : ℕ) : Type 0 where
-  pub answer : r ≡ marked (halved x list)
-  pub few : (halved x list).probes ≤ most_probes
+-- the contract of a search
+pub record Finding (list : List ℕ) (x : ℕ) (found : Bool) (probes : ℕ) : Type 0 where
+  pub answer : probed found probes ≡ halved x list
+  pub few : probes ≤ most_probes
 
 -- ---- the order
 -- each is below all that follow it

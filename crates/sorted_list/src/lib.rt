@@ -7,9 +7,12 @@ ghost use Rattle.pgn_list.specs.PgnList.{list_size};
 ghost use Rattle.sorted_list.specs.SortedList.{Finding, put_one, fitted};
 ghost use Rattle.sorted_list.specs.Steps.{MakingRoom};
 
-// What a search tells: how many places it looked at, and this more where it found the PGN. One number, since two would have to be put together
-// and taken apart again on the way of a frame.
-pub const FOUND: u32 = 64;
+// What a search tells: whether it found the PGN, and at how many places it looked.
+#[derive(Clone, Copy, Debug, PartialEq, Eq)]
+pub struct Probed {
+    pub found: bool,
+    pub probes: u32,
+}
 
 // `by` where y is below x, else 0: a number, so that no jump hangs on it, which would be guessed wrong every other time.
 fn if_below(y: u64, x: u64, by: usize) -> usize
@@ -18,25 +21,31 @@ fn if_below(y: u64, x: u64, by: usize) -> usize
     if y < x { by } else { 0 }
 }
 
-// Searches the first n of a list for x by halving: each probe is the middle place of those left, the lower of two.
-pub fn find(list: &[u64], n: usize, x: u64) -> u32
-    requires { (length list.now ≡ list_size) × (n ≤ list_size) }
-    ensures { Finding (take n list.now) x result }
+// Searches a list for x by halving: each probe is the middle place of those left, the lower of two.
+pub fn find(list: &[u64], x: u64) -> Probed
+    requires { length list.now ≤ list_size }
+    ensures { Finding list.now x result.found result.probes }
 {
     let mut lo = 0;
-    let mut left = n;
+    let mut left = list.len();
     let mut probes: u32 = 0;
     while 0 < left {
         let half = (left - 1) / 2;
         probes += 1;
         let y = list[lo + half];
         if y == x {
-            return FOUND + probes;
+            return Probed {
+                found: true,
+                probes,
+            };
         }
         lo += if_below(y, x, half + 1);
         left = (left - 1 + if_below(y, x, 1)) / 2;
     }
-    probes
+    Probed {
+        found: false,
+        probes,
+    }
 }
 
 // Moves those at the end of the first n of a list that are above x up by one. Tells how many stand before them.
@@ -44,14 +53,12 @@ fn make_room(list: &mut [u64], n: usize, x: u64) -> usize
     requires { n < length list.old }
     ensures { MakingRoom list.old list.new n x result }
 {
-    let mut i = n;
-    while 0 < i {
-        let y = list[i - 1];
+    for i in (0..n).rev() {
+        let y = list[i];
         if y <= x {
-            return i;
+            return i + 1;
         }
-        list[i] = y;
-        i -= 1;
+        list[i + 1] = y;
     }
     0
 }
@@ -70,9 +77,7 @@ pub fn fit(list: &mut [u64], n: usize, size: usize)
     requires { (n ≤ length list.old) × (size ≤ length list.old) }
     ensures { take size list.new ≡ fitted size (take n list.old) }
 {
-    let mut i = n;
-    while i < size {
-        list[i] = 0;
-        i += 1;
+    if n < size {
+        list[n..size].fill(0);
     }
 }

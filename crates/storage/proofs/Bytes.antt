@@ -2,11 +2,12 @@
 use mathlib.Core.Path.{◌≡◌, refl, sym, ap, ◌∙◌}
 use mathlib.Core.List.{List, [], ◌∷◌, ◌++◌}
 use Prim.Native.Nat.{ℕ, zero, suc, ◌+◌, ◌-◌, ◌*◌, ◌/◌, ◌%◌, ◌^◌, ◌≤◌, ◌<◌, zero-le}
-use native.Mathlib.Nat.{not-suc-le-zero, le_of_suc-le-suc, pow-suc, sub-zero, suc-sub-suc, div-div-eq-div-mul, div-one, mul_assoc, mul_comm, mul-le-mul_left, mul-suc, one-mul, pow-le-pow_right}
+use native.Mathlib.Nat.{not-suc-le-zero, le_of_suc-le-suc, pow-suc, sub-zero, suc-sub-suc, div-div-eq-div-mul, div-one, mul_assoc, mul_comm, mul-le-mul_left, mul-suc, one-mul}
 use native.Mathlib.Omega.{arith}
 use lib.Pow.{pow-add}
-use lib.ListN.{length, get_or, take, drop, replicate, length-drop, take-append-drop}
-use lib.Seq.{take_at, take_all, take-add, drop-cons, drop-drop, length-take-le}
+use lib.ListN.{length, get_or, take, drop, replicate, length-drop, take-append-drop, drop_of_length-le}
+use lib.Seq.{take_at, take-add, drop-cons, drop-drop, length-take-le}
+use Rattle.std.specs.Int.{w16, w32, w64, from_le_bytes}
 use Rattle.storage.specs.Bytes.{packed, bytes_of, Packing}
 
 -- every element is a byte
@@ -81,27 +82,49 @@ packing_join m n bytes at low high fits L H = record {
     long : length (take m (drop at bytes)) ≡ m
     long = length-take-le m (drop at bytes) (simp length-drop (omega arith))
 
--- n bytes that are the last are more than n too
-pub packing_last : {m : ℕ} (n : ℕ) {bytes : List ℕ} {at r : ℕ} → m ≤ n → length bytes ≤ at + m → Packing m bytes at r → Packing n bytes at r
-packing_last {m} n {bytes} {at} h l P = record {
-  number = P.number ∙ rw (take_all m (drop at bytes) (simp length-drop (omega arith)), take_all n (drop at bytes) (simp length-drop (omega arith)));
-  small = omega (arith, P.small, pow-le-pow_right {n = 256} (omega arith) {i = m} {j = n} h);
-}
-
-pub packing_none : (bytes : List ℕ) (at : ℕ) → Packing 0 bytes at 0
-unfolding packed
-packing_none bytes at = record { number = refl; small = omega arith }
-
--- four to seven bytes
-pub packed_short : {bytes : List ℕ} {low high : ℕ} → 4 ≤ length bytes → length bytes < 8 → Packing 4 bytes 0 low → Packing 3 bytes 4 high → low + 4294967296 * high ≡ packed (take 8 bytes)
-packed_short {bytes} some few L H =
-    rw (L.number, H.number, take_all 3 (drop 4 bytes) (simp length-drop (omega arith)), take_all 8 bytes (omega arith))
-    (sym (ap packed (sym (take-append-drop 4 bytes)) ∙ packed_append (take 4 bytes) (drop 4 bytes) ∙ rw (length-take-le 4 bytes some)))
-
 -- one byte more, in front
 pub packed_step : (bytes : List ℕ) (i : ℕ) → i < length bytes → packed (drop i bytes) ≡ get_or bytes i 0 + 256 * packed (drop (suc i) bytes)
 unfolding packed
 packed_step bytes i h = rw (drop-cons bytes i 0 h)
+
+-- past the last byte there is nothing more
+pub packed_none : (bytes : List ℕ) (i : ℕ) → length bytes ≤ i → packed (drop i bytes) ≡ 0
+unfolding packed
+packed_none bytes i h = rw (drop_of_length-le bytes {i = i} h)
+
+-- ---- the library's words of two, four and eight bytes
+pub word_of_two : (bytes : List ℕ) → length bytes ≡ 2 → from_le_bytes w16 bytes ≡ packed bytes
+word_of_two bytes l = omega (arith, packed_step bytes 0 (omega arith), packed_step bytes 1 (omega arith), packed_none bytes 2 (omega arith))
+
+pub word_of_four : (bytes : List ℕ) → length bytes ≡ 4 → from_le_bytes w32 bytes ≡ packed bytes
+word_of_four bytes l =
+    omega (
+      arith,
+      packed_step bytes 0 (omega arith),
+      packed_step bytes 1 (omega arith),
+      packed_step bytes 2 (omega arith),
+      packed_step bytes 3 (omega arith),
+      packed_none bytes 4 (omega arith),
+    )
+
+pub word_of_eight : (bytes : List ℕ) → length bytes ≡ 8 → from_le_bytes w64 bytes ≡ packed bytes
+word_of_eight bytes l =
+    omega (
+      arith,
+      packed_step bytes 0 (omega arith),
+      packed_step bytes 1 (omega arith),
+      packed_step bytes 2 (omega arith),
+      packed_step bytes 3 (omega arith),
+      packed_step bytes 4 (omega arith),
+      packed_step bytes 5 (omega arith),
+      packed_step bytes 6 (omega arith),
+      packed_step bytes 7 (omega arith),
+      packed_none bytes 8 (omega arith),
+    )
+
+-- four bytes and those behind them
+pub packed_from_four : (bytes : List ℕ) → 4 ≤ length bytes → packed bytes ≡ packed (take 4 bytes) + 4294967296 * packed (drop 4 bytes)
+packed_from_four bytes some = ap packed (sym (take-append-drop 4 bytes)) ∙ packed_append (take 4 bytes) (drop 4 bytes) ∙ rw (length-take-le 4 bytes some)
 
 -- past the last byte there is nothing
 pub past : (n w i : ℕ) → n ≤ i → get_or (bytes_of n w) i 0 ≡ 0

@@ -3,3 +3,4 @@ pub mod Blocks
 pub mod Bytes
 pub mod Walk
 pub mod Copy
+pub mod Chunks

@@ -1,70 +1,34 @@
 // Storage that a caller lends. The laws of its parts and blocks are in proofs/; the code here packs bytes into a word and reads them back.
 #![tactic(auto)]
 
-ghost use Rattle.std.specs.Prelude.{◌≡◌, ◌+◌, ◌≤◌, ◌<◌, length, take, get_or};
-ghost use Rattle.storage.specs.Bytes.{packed, bytes_of, Packing};
+ghost use Rattle.std.specs.Prelude.{◌≡◌, ◌^◌, ◌<◌, length, take, get_or};
+ghost use Rattle.storage.specs.Bytes.{packed, bytes_of};
 
-// The word of two bytes from `at` on, least significant first.
-fn pack_two(bytes: &[u8], at: usize) -> u64
-    requires { at + 2 ≤ length bytes.now }
-    ensures { Packing 2 bytes.now at result }
+// The word of three bytes at most.
+fn pack_few(bytes: &[u8]) -> u64
+    requires { length bytes.now < 4 }
+    ensures number { result ≡ packed bytes.now }
+    ensures small { result < 2 ^ 24 }
 {
-    bytes[at] as u64 + 256 * bytes[at + 1] as u64
-}
-
-// The word of four.
-fn pack_four(bytes: &[u8], at: usize) -> u64
-    requires { at + 4 ≤ length bytes.now }
-    ensures { Packing 4 bytes.now at result }
-{
-    let low = pack_two(bytes, at);
-    let high = pack_two(bytes, at + 2);
-    low + 65536 * high
-}
-
-// The word of eight: a tree of sums and no loop, which the compiler makes one load of.
-fn pack_eight(bytes: &[u8]) -> u64
-    requires { 8 ≤ length bytes.now }
-    ensures { result ≡ packed (take 8 bytes.now) }
-{
-    let low = pack_four(bytes, 0);
-    let high = pack_four(bytes, 4);
-    low + 4294967296 * high
-}
-
-// The word of the bytes from `at` on, three at most.
-fn pack_last(bytes: &[u8], at: usize) -> u64
-    requires { (at ≤ length bytes.now) × (length bytes.now < at + 4) }
-    ensures { Packing 3 bytes.now at result }
-{
-    let left = bytes.len() - at;
-    if left == 0 {
-        return 0;
+    match *bytes {
+        [] => 0,
+        [a] => a as u64,
+        [a, b] => u16::from_le_bytes([a, b]) as u64,
+        [a, b, c, ..] => u32::from_le_bytes([a, b, c, 0]) as u64,
     }
-    if left == 1 {
-        return bytes[at] as u64;
-    }
-    let low = pack_two(bytes, at);
-    if left == 2 {
-        return low;
-    }
-    low + 65536 * bytes[at + 2] as u64
 }
 
 // The word that up to eight bytes make, least significant first; a ninth byte has no say. No loop, so that a short frame costs little.
 pub fn pack(bytes: &[u8]) -> u64
     ensures { result ≡ packed (take 8 bytes.now) }
 {
-    let n = bytes.len();
-    if 8 <= n {
-        return pack_eight(bytes);
+    if let Some(eight) = bytes.first_chunk() {
+        return u64::from_le_bytes(*eight);
     }
-    if n < 4 {
-        return pack_last(bytes, 0);
+    match bytes.split_first_chunk() {
+        Some((four, rest)) => u32::from_le_bytes(*four) as u64 + (pack_few(rest) << 32),
+        None => pack_few(bytes),
     }
-    let low = pack_four(bytes, 0);
-    let high = pack_last(bytes, 4);
-    low + 4294967296 * high
 }
 
 // Byte i of a word, the least significant being byte 0; 0 where a word has no such byte.

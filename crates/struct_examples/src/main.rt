@@ -92,13 +92,9 @@ fn short_takes(rt: &impl Print, queue: Queue) -> Queue {
 fn copied(block: &[u64]) -> Queue
     requires { length block.now ≡ block_length }
 {
-    let mut copy = [0u64; queue::BLOCK_LENGTH];
-    let mut i: usize = 0;
-    while i < queue::BLOCK_LENGTH {
-        copy[i] = block[i];
-        i += 1;
-    }
-    Queue { words: copy }
+    let mut words = [0u64; queue::BLOCK_LENGTH];
+    words.copy_from_slice(block);
+    Queue { words }
 }
 
 // A frame from port 2, which joins the queues of the other ports.
@@ -116,10 +112,15 @@ fn frame(rt: &impl Print, record: &mut [u64], id: u32, data: &[u8]) {
 // Priorities 6, 6 and 3, as in P11, and 7.
 fn joined(rt: &impl Print, record: &mut [u64]) {
     deorasaeng::deorasaeng_power_on(record, 0x20001C000AC00123, 0x90);
-    frame(rt, record, 0x18FEF126, b"\x01");
-    frame(rt, record, 0x18FEF226, b"\x02\x02");
-    frame(rt, record, 0x0CFEF326, b"\x03\x03\x03");
-    frame(rt, record, 0x1CFEF426, b"\x11\x22\x33\x44\x55\x66\x77\x88");
+    let frames: [(u32, &[u8]); 4] = [
+        (0x18FEF126, b"\x01"),
+        (0x18FEF226, b"\x02\x02"),
+        (0x0CFEF326, b"\x03\x03\x03"),
+        (0x1CFEF426, b"\x11\x22\x33\x44\x55\x66\x77\x88"),
+    ];
+    for (id, data) in frames {
+        frame(rt, record, id, data);
+    }
 }
 
 // Taken until nothing waits.
@@ -181,20 +182,30 @@ fn ask(rt: &impl Print, lists: &[u64], word: &[u8], last: Link, first: u32, pgn:
 // Unit 2 joins segment 4 too.
 fn heard(rt: &impl Print, lists: &[u64]) {
     let last = link(2, 3, 4);
-    ask(rt, lists, b"65097 from 1", last, 1, 65097);
-    ask(rt, lists, b"61444 from 1", last, 1, 61444);
-    ask(rt, lists, b"61444 from 4", last, 4, 61444);
-    ask(rt, lists, b"60928 from 1", last, 1, 60928);
+    let asked: [(&[u8], u32, u32); 4] = [
+        (b"65097 from 1", 1, 65097),
+        (b"61444 from 1", 1, 61444),
+        (b"61444 from 4", 4, 61444),
+        (b"60928 from 1", 1, 60928),
+    ];
+    for (word, first, pgn) in asked {
+        ask(rt, lists, word, last, first, pgn);
+    }
 }
 
 fn refused(rt: &impl Print, lists: &[u64]) {
-    ask(rt, lists, b"unit 3", link(3, 1, 4), 1, 65097);
-    ask(rt, lists, b"port 9", link(2, 9, 4), 1, 65097);
-    ask(rt, lists, b"segment 5", link(2, 3, 5), 1, 65097);
-    ask(rt, lists, b"port 2 twice", link(2, 2, 4), 1, 65097);
-    ask(rt, lists, b"ring", link(2, 3, 1), 1, 65097);
-    ask(rt, lists, b"two ports on 3", link(2, 3, 3), 1, 65097);
-    ask(rt, lists, b"ring, 61185 asked", link(2, 3, 1), 1, 61185);
+    let asked: [(&[u8], Link, u32); 7] = [
+        (b"unit 3", link(3, 1, 4), 65097),
+        (b"port 9", link(2, 9, 4), 65097),
+        (b"segment 5", link(2, 3, 5), 65097),
+        (b"port 2 twice", link(2, 2, 4), 65097),
+        (b"ring", link(2, 3, 1), 65097),
+        (b"two ports on 3", link(2, 3, 3), 65097),
+        (b"ring, 61185 asked", link(2, 3, 1), 61185),
+    ];
+    for (word, last, pgn) in asked {
+        ask(rt, lists, word, last, 1, pgn);
+    }
     let short = [0u64; plan_shape::BLOCK_SIZE];
     ask(rt, &short, b"lists of 34 words", link(2, 3, 4), 1, 65097);
 }

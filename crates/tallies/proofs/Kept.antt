@@ -2,7 +2,7 @@
 use mathlib.Core.Path.{◌≡◌, refl, sym, ap, ◌∙◌}
 use mathlib.Core.Bool.{Bool, true, false, cond}
 use mathlib.Core.List.{List, [], ◌∷◌, ◌++◌, map, append_assoc, append-nil}
-use mathlib.Core.Option.{Option, none, some}
+use Rattle.std.specs.Prelude.{Option, None, Some}
 use Prim.Native.Nat.{ℕ, zero, suc, ◌+◌, ◌%◌, ◌^◌, ◌≤◌, ◌<◌}
 use native.Mathlib.Decide.{ℕ_discrete}
 use native.Mathlib.Omega.{arith}
@@ -84,7 +84,7 @@ module _ {x : Queued} {h : List (Event Frame)} (K : Kept x h) where
           ]
 
   -- ---- a take that gives a frame
-  leaves : (f : Frame) (before behind : List Frame) → x.row ≡ before ++ f ∷ behind → pull priority x.row ≡ some (record { frame = f; others = before ++ behind })
+  leaves : (f : Frame) (before behind : List Frame) → x.row ≡ before ++ f ∷ behind → pull priority x.row ≡ Some (record { frame = f; others = before ++ behind })
       → Kept (record { row = before ++ behind; tally = counted_out (priority f) x.tally }) (h ++ (Take ∷ []))
   unfolding counted_out
   leaves f before behind split gives =
@@ -118,12 +118,12 @@ module _ {x : Queued} {h : List (Event Frame)} (K : Kept x h) where
                 let one = rw (eq-eqb (priority f) (priority f) refl) at (parts (priority f)) in
                 rw (e, get_or-set_same x.tally.waiting (priority f) (one_less (get_or x.tally.waiting (priority f) 0)) 0 (omega (arith, K.eight, rank_small f)), K.waiting (priority f) (rank_small f)) (omega (arith, n, one, K.few))
             | no ne ↦
-                let none = rw (ne_eqb (priority f) rank (λ z. ne (sym z))) at (parts rank) in
-                rw (get_or-set_other x.tally.waiting (priority f) rank (one_less (get_or x.tally.waiting (priority f) 0)) 0 ne) (K.waiting rank l ∙ omega (arith, none))
+                let None = rw (ne_eqb (priority f) rank (λ z. ne (sym z))) at (parts rank) in
+                rw (get_or-set_other x.tally.waiting (priority f) rank (one_less (get_or x.tally.waiting (priority f) 0)) 0 ne) (K.waiting rank l ∙ omega (arith, None))
           ]
 
   -- ---- a take of an empty row
-  empties : x.row ≡ [] → pull priority x.row ≡ none → Kept (record { row = []; tally = x.tally }) (h ++ (Take ∷ []))
+  empties : x.row ≡ [] → pull priority x.row ≡ None → Kept (record { row = []; tally = x.tally }) (h ++ (Take ∷ []))
   empties empty gives = record {
     row = row_append [] h (Take ∷ []) ∙ rw (K.row, gives);
     few = omega arith;
@@ -159,8 +159,8 @@ kept_sent x h K (f ∷ fs) = go (room size x.row) refl (λ y g J. kept_sent y g 
 
 -- ---- a call, by what it asks and sends
 pub kept_next : {x : Queued} {h : List (Event Frame)} → Kept x h → (a : Option ℕ) (q : ℕ) (fs : List Frame) → Kept (queue_next a q x fs) (h ++ happens size a q x.row fs)
-kept_next {x} {h} K none q fs = kept_sent x h K fs
-kept_next {x} {h} K (some p) q fs = go (eqb p q)
+kept_next {x} {h} K None q fs = kept_sent x h K fs
+kept_next {x} {h} K (Some p) q fs = go (eqb p q)
   where
     go : (b : Bool) → Kept (cond b (taking x) x) (h ++ cond b (Take ∷ []) [])
     go true = kept_taking K

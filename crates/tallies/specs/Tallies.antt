@@ -1,7 +1,6 @@
 -- docs/RULES.md, "How full a queue is": what is counted at a port, in every list of calls from power-on. Proved as `every_count` in proofs/Tallies.antt.
 -- The quoted words are the request's. In this file ports are counted from 0. Assumes nothing.
-use Rattle.std.specs.Prelude.{◌≡◌, List, [], ◌∷◌, ◌++◌, ℕ, suc, ◌+◌, ◌%◌, ◌^◌, ◌<◌, eqb, length, get_or}
-use Rattle.std.proofs.Math.Option.{Option, none, some}
+use Rattle.std.specs.Prelude.{◌≡◌, List, [], ◌∷◌, ◌++◌, ℕ, suc, ◌+◌, ◌%◌, ◌^◌, ◌<◌, eqb, length, get_or, Option, None, Some}
 use Rattle.delivery.specs.Row.{pull, given, kept}
 use Rattle.delivery.specs.Port.{Event, Join, Take, joined, count}
 use Rattle.delivery.specs.Product.{Answered, happened}
@@ -17,8 +16,8 @@ use Rattle.demand_3.specs.Demand3.{Answer, ToCounts, Made, bridge, model_after}
 
 -- the frames that the takes of a history gave, from a row on: a take that finds the row empty gives none
 abbrev pub frames : Option Frame → List Frame
-frames none = []
-frames (some f) = f ∷ []
+frames None = []
+frames (Some f) = f ∷ []
 
 abbrev pub gone : List Frame → List (Event Frame) → List Frame
 gone row [] = []

@@ -1,7 +1,7 @@
 -- Digits, written and read back, are the same bytes. Assumes nothing.
 use mathlib.Core.Path.{◌≡◌, refl, sym, ap, ◌∙◌}
 use mathlib.Core.List.{List, [], ◌∷◌, ◌++◌}
-use Prim.Native.Nat.{ℕ, zero, suc, ◌+◌, ◌-◌, ◌*◌, ◌/◌, ◌%◌, ◌^◌, ◌≤◌, ◌<◌}
+use Prim.Native.Nat.{ℕ, zero, suc, ◌+◌, ◌*◌, ◌/◌, ◌%◌, ◌^◌, ◌≤◌, ◌<◌}
 use native.Mathlib.Decide.{dec_lt}
 use native.Mathlib.Nat.{pow-suc, div-div-eq-div-mul}
 use native.Mathlib.Omega.{arith}
@@ -13,10 +13,12 @@ use Rattle.storage.specs.Bytes.{packed, bytes_of}
 use Rattle.storage.proofs.Bytes.{AllBytes, bytes_of_length, bytes_back}
 use Rattle.text.specs.Writing.{Writing}
 use Rattle.text.proofs.Writing.{writing_join}
-use Rattle.text.specs.Digits.{hex_digit, hex_value, Reading, hex_of, hex_bytes, pair_at, from_four, decimal_in, decimal_of}
+use Rattle.std.specs.Int.{w64, byte_at, bytes_low_first, to_le_bytes}
+use Rattle.std.proofs.lemmas.Bool.Decides.{nat_tests}
+use Rattle.text.specs.Digits.{hex_digit, hex_value, value_or_0, hex_of, hex_bytes, pair_at, from_four, decimal_in, decimal_of}
 
 -- ---- hex
-pub value_of_digit : (d : ℕ) → d < 16 → hex_value (hex_digit d) ≡ d
+pub value_of_digit : (d : ℕ) → d < 16 → value_or_0 (hex_digit d) ≡ d
 unfolding hex_digit hex_value
 value_of_digit d h =
     elim (dec_lt d 10) [
@@ -31,36 +33,16 @@ value_of_digit d h =
           (omega arith)
     ]
 
-module _ {c : ℕ} where
-  pub value_low : c < 48 → Reading c 0
-  unfolding hex_value
-  value_low h = record { value = rw (lt-leb 48 c h, lt-leb 65 c (omega arith)); small = omega arith }
-
-  pub value_decimal : 48 ≤ c → c ≤ 57 → Reading c (c - 48)
-  unfolding hex_value
-  value_decimal h k = record { value = rw (le-leb 48 c h, le-leb c 57 k); small = omega arith }
-
-  pub value_between : 57 < c → c < 65 → Reading c 0
-  unfolding hex_value
-  value_between h k = record { value = rw (le-leb 48 c (omega arith), lt-leb c 57 h, lt-leb 65 c k); small = omega arith }
-
-  pub value_letter : 65 ≤ c → c ≤ 70 → Reading c (c - 55)
-  unfolding hex_value
-  value_letter h k = record { value = rw (le-leb 48 c (omega arith), lt-leb c 57 (omega arith), le-leb 65 c h, le-leb c 70 k); small = omega arith }
-
-  pub value_high : 70 < c → Reading c 0
-  unfolding hex_value
-  value_high h = record {
-    value = rw (le-leb 48 c (omega arith), lt-leb c 57 (omega arith), le-leb 65 c (omega arith), lt-leb c 70 h);
-    small = omega arith;
-  }
+value_small : (c : ℕ) → value_or_0 c < 16
+unfolding hex_value
+value_small c = grind (arith, nat_tests)
 
 -- the higher half of a byte is below 16
 pub high_digit : {b : ℕ} → b < 256 → b / 16 % 16 ≡ b / 16
 high_digit h = omega arith
 
 -- a byte's two digits
-pub byte_of_pair : (b : ℕ) → b < 256 → 16 * hex_value (hex_digit (b / 16)) + hex_value (hex_digit (b % 16)) ≡ b
+pub byte_of_pair : (b : ℕ) → b < 256 → 16 * value_or_0 (hex_digit (b / 16)) + value_or_0 (hex_digit (b % 16)) ≡ b
 byte_of_pair b h = rw (value_of_digit (b / 16) (omega arith), value_of_digit (b % 16) (omega arith)) (omega arith)
 
 pub hex_long : (bs : List ℕ) → length (hex_of bs) ≡ 2 * length bs
@@ -95,22 +77,6 @@ hex_bytes_at [] i h = absurd (omega arith)
 hex_bytes_at (c ∷ []) i h = absurd (omega arith)
 hex_bytes_at (c ∷ d ∷ cs) zero h = refl
 hex_bytes_at (c ∷ d ∷ cs) (suc i) h = rw (twice i, add-one (suc (suc (2 * i)))) (hex_bytes_at cs i (omega arith) ∙ rw (add-one (2 * i)))
-
-value_small : (c : ℕ) → hex_value c < 16
-value_small c =
-    elim (dec_lt c 48) [
-      | yes h ↦ small (value_low h)
-      | no n ↦ elim (dec_lt 57 c) [
-        | no m ↦ small (value_decimal (omega arith) (omega arith))
-        | yes k ↦ elim (dec_lt c 65) [
-          | yes l ↦ small (value_between k l)
-          | no o ↦ elim (dec_lt 70 c) [ yes p ↦ small (value_high p) | no q ↦ small (value_letter (omega arith) (omega arith)) ]
-        ]
-      ]
-    ]
-  where
-    small : {r : ℕ} → Reading c r → hex_value c < 16
-    small r = rw r.value at r.small
 
 pub pair_small : (cs : List ℕ) (at : ℕ) → pair_at cs at < 256
 pair_small cs at = omega (arith, value_small (get_or cs at 0), value_small (get_or cs (at + 1) 0))
@@ -176,15 +142,30 @@ decimal_long n h = decimal_short 10 9 n (omega arith)
 pub decimal_nine : (n : ℕ) → n < 2 ^ 32 → length (decimal_of (n / 10)) ≤ 9
 decimal_nine n h = decimal_short 10 8 (n / 10) (omega arith)
 
--- ---- the bytes of a word
+-- ---- bytes
 -- one more byte's digits
-pub hex_word_more : {a b c : List ℕ} {at m n : ℕ} (word i : ℕ) → Writing a b at (hex_of (take i (bytes_of 8 word))) m → Writing b c m (hex_of (get_or (bytes_of 8 word) i 0 ∷ [])) n
-    → i < 8 → at + 2 * i ≤ length a → Writing a c at (hex_of (take (i + 1) (bytes_of 8 word))) n
-hex_word_more {a} {b} {c} {at} {m} {n} word i v w h fits =
-    let bs = bytes_of 8 word in
-    let short : length (take i bs) ≡ i = length-take-le i bs (omega (arith, bytes_of_length 8 word)) in
-    rw (add-one i, take-suc bs i 0 (omega (arith, bytes_of_length 8 word)), hex_append (take i bs) (get_or bs i 0 ∷ []))
-    (writing_join v w (omega (arith, hex_long (take i bs), short)))
+pub hex_more : {a b c : List ℕ} {at m n : ℕ} (i : ℕ) (bs : List ℕ) → Writing a b at (hex_of (take i bs)) m → Writing b c m (hex_of (get_or bs i 0 ∷ [])) n
+    → i < length bs → at + 2 * i ≤ length a → Writing a c at (hex_of (take (i + 1) bs)) n
+hex_more i bs v w h fits =
+    rw (add-one i, take-suc bs i 0 h, hex_append (take i bs) (get_or bs i 0 ∷ []))
+    (writing_join v w (omega (arith, hex_long (take i bs), length-take-le i bs (omega arith))))
+
+-- byte i of a number, as the library has it, and what is above it
+above : (i n : ℕ) → n / 256 ^ i / 256 ≡ n / 256 ^ suc i
+above i n = div-div-eq-div-mul n (256 ^ i) 256 ∙ rw (pow-suc 256 i)
+
+byte_is : (i n : ℕ) → byte_at i n ≡ n / 256 ^ i % 256
+byte_is zero n = omega arith
+byte_is (suc i) n = refl
+
+low_first : (i k n : ℕ) → bytes_low_first i k n ≡ bytes_of k (n / 256 ^ i)
+unfolding bytes_of
+low_first i zero n = refl
+low_first i (suc k) n = rw (byte_is i n, above i n, low_first (suc i) k n)
+
+-- the bytes of a word, as the library has them
+pub word_bytes : (word : ℕ) → to_le_bytes w64 word ≡ bytes_of 8 word
+word_bytes word = let e : word / 256 ^ 0 ≡ word = omega arith in rw e at (low_first 0 8 word)
 
 -- the digits of the first bytes of a word
 pub hex_take_long : (len bytes : ℕ) → len ≤ 8 → length (hex_of (take len (bytes_of 8 bytes))) ≡ 2 * len

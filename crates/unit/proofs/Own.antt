@@ -1,22 +1,22 @@
 -- The unit's own words: read, stored, and as power_on leaves them. Assumes nothing.
+use Rattle.std.specs.Prelude.{None}
 use mathlib.Core.Path.{◌≡◌, refl, sym, ◌∙◌}
 use mathlib.Core.Bool.{Bool, true, false, not, cond}
 use mathlib.Core.Logic.{inr}
-use mathlib.Core.List.{List, [], ◌∷◌}
+use mathlib.Core.List.{List, [], ◌∷◌, ◌++◌}
 use Prim.Native.Nat.{ℕ, zero, suc, ◌+◌, ◌%◌, ◌^◌, ◌≤◌, ◌<◌}
 use native.Mathlib.Nat.{mod-lt, mod-eq_of_lt}
 use native.Mathlib.Omega.{arith}
 use borrow.Author.Tests.{eq-eqb, ne_eqb}
-use lib.ListN.{length, get_or, set, take, replicate}
+use lib.ListN.{length, get_or, set, take, drop, replicate}
 use lib.Seq.{get_or-take}
-use Rattle.storage.proofs.Parts.{back, part_in, part_apart, store_back}
+use Rattle.storage.proofs.Parts.{part_in, part_apart, store_back}
 use Rattle.storage.proofs.Blocks.{blocks_apart, blocks_filled, part_filled}
 use Rattle.filter.specs.Filter.{filter_of, meant, clear}
 use Rattle.filter.specs.Filter.{block_size as filter_length}
 use Rattle.queue.specs.Queue.{row_of, tally_of, queue_of, idle}
 use Rattle.queue.specs.Queue.{block_length as queue_length}
 use Rattle.losses.specs.Losses.{held, counter_length, losses_of}
-use Rattle.addresses.specs.declared.Place.TheVariants.{Free}
 use Rattle.addresses.specs.Table.{places, place_from, place_of, table_of, table_length}
 use Rattle.unit.specs.declared.Claim.{Claim}
 use Rattle.unit.specs.declared.Claim.TheVariants.{Unstarted, Claiming, Claimed, Lost}
@@ -28,12 +28,12 @@ use Rattle.unit.specs.PowerOn.{power_on_refusal, PoweringOn}
 use Rattle.unit.proofs.Count.{count_same, count_taken, count_refused, ports_bounds, ports_taken}
 
 -- ---- reading
-pub lost_from_lem : (word : ℕ) → (word ≡ 0 → ⊥) → (word ≡ 1 → ⊥) → (word ≡ 2 → ⊥) → Lost ≡ claim_from word
+pub lost_from_lem : (word : ℕ) → 2 < word → Lost ≡ claim_from word
 unfolding claim_from
-lost_from_lem zero a b c = absurd (a refl)
-lost_from_lem (suc zero) a b c = absurd (b refl)
-lost_from_lem (suc (suc zero)) a b c = absurd (c refl)
-lost_from_lem (suc (suc (suc n))) a b c = refl
+lost_from_lem zero h = absurd (omega arith)
+lost_from_lem (suc zero) h = absurd (omega arith)
+lost_from_lem (suc (suc zero)) h = absurd (omega arith)
+lost_from_lem (suc (suc (suc n))) h = refl
 
 module _ (ports : ℕ) (words : List ℕ) where
   pub own_read : record {
@@ -77,26 +77,16 @@ back_word Claiming = refl
 back_word Claimed = refl
 back_word Lost = refl
 
-five_stores : (words : List ℕ) (a b c d e : ℕ) → 5 ≤ length words → set (set (set (set (set words 0 a) 1 b) 2 c) 3 d) 4 e ≡ back 0 5 words (a ∷ b ∷ c ∷ d ∷ e ∷ [])
-five_stores [] a b c d e h = absurd (omega arith)
-five_stores (x ∷ []) a b c d e h = absurd (omega arith)
-five_stores (x ∷ y ∷ []) a b c d e h = absurd (omega arith)
-five_stores (x ∷ y ∷ z ∷ []) a b c d e h = absurd (omega arith)
-five_stores (x ∷ y ∷ z ∷ t ∷ []) a b c d e h = absurd (omega arith)
-five_stores (x ∷ y ∷ z ∷ t ∷ u ∷ rest) a b c d e h = refl
-
 unit_of_five : (u : Unit) → u.address < 256 → u.preferred < 2 ^ 32 → 2 ≤ u.ports → u.ports ≤ 8 → unit_of (claim_word u.claim ∷ u.address ∷ u.preferred ∷ u.name ∷ u.ports ∷ []) ≡ u
 unfolding unit_of ports_of
 unit_of_five u a p l m = rw (back_word u.claim, mod-eq_of_lt a, mod-eq_of_lt p, count_same l m)
 
-pub own_stored : (words : List ℕ) (u : Unit) (w : ℕ) → 5 ≤ length words → u.address < 256 → u.preferred < 2 ^ 32 → 2 ≤ u.ports → u.ports ≤ 8 → w ≡ claim_word u.claim → (ports : ℕ)
-    → model_of ports (set (set (set (set (set words 0 w) 1 u.address) 2 u.preferred) 3 u.name) 4 u.ports) ≡ with_rest (model_of ports words) (with_own (model_of ports words).rest u)
+pub own_stored : (words : List ℕ) (u : Unit) → 5 ≤ length words → u.address < 256 → u.preferred < 2 ^ 32 → 2 ≤ u.ports → u.ports ≤ 8 → (ports : ℕ)
+    → model_of ports ((claim_word u.claim ∷ u.address ∷ u.preferred ∷ u.name ∷ u.ports ∷ []) ++ drop 5 words) ≡ with_rest (model_of ports words) (with_own (model_of ports words).rest u)
 unfolding model_of
-own_stored words u w full a p l m e ports =
+own_stored words u full a p l m ports =
     let ys = claim_word u.claim ∷ u.address ∷ u.preferred ∷ u.name ∷ u.ports ∷ [] in
     rw (
-      e,
-      five_stores words (claim_word u.claim) u.address u.preferred u.name u.ports full,
       part_in 0 5 words ys refl (omega arith),
       unit_of_five u a p l m,
       blocks_apart 0 5 words ys refl (omega arith) filter_of filter_length (pairs_from ports) (pair_count ports) (inr (omega arith)),
@@ -143,16 +133,16 @@ no_losses : losses_of (replicate counter_length 0) ≡ 0
 unfolding losses_of held
 no_losses = refl
 
-no_place : place_of (replicate 2 0) ≡ Free
+no_place : place_of (replicate 2 0) ≡ None
 unfolding place_of place_from
 no_place = refl
 
-no_table : (n : ℕ) → n ≡ table_length → table_of (replicate n 0) ≡ replicate places Free
+no_table : (n : ℕ) → n ≡ table_length → table_of (replicate n 0) ≡ replicate places None
 unfolding table_of
 no_table n e = rw (blocks_filled n 0 place_of 2 0 254 (omega arith), no_place)
 
 pub wiped : (n ports : ℕ) (u : Unit) → n ≡ record_length ports → with_rest (model_of ports (replicate n 0)) (with_own (model_of ports (replicate n 0)).rest u) ≡ record {
-  rest = record { own = u; pairs = replicate (pair_count ports) clear; table = replicate places Free };
+  rest = record { own = u; pairs = replicate (pair_count ports) clear; table = replicate places None };
   queues = replicate ports idle;
   seen = record { losses = replicate (pair_count ports + 1) 0 };
 }

@@ -1,7 +1,7 @@
 -- The model of a unit, which is the book of docs/RULES.md: the pairs, the address table, the unit itself, and for each port a row of frames in order of
 -- joining, with what is counted there. And what a record of words means as a model. All is over the number of ports; ports are counted from 0 here.
 -- Assumes nothing.
-use Rattle.std.specs.Prelude.{ℕ, zero, suc, ◌+◌, ◌-◌, ◌*◌, ◌%◌, ◌^◌, cond, List, [], take, drop, get_or, set, ltb}
+use Rattle.std.specs.Prelude.{ℕ, zero, suc, ◌+◌, ◌-◌, ◌*◌, ◌%◌, ◌^◌, cond, List, take, drop, get_or, set, ltb}
 use Rattle.storage.specs.Blocks.{blocks_of}
 use Rattle.filter.specs.Filter.{Filter, filter_of}
 use Rattle.filter.specs.Filter.{block_size as filter_length}
@@ -9,8 +9,7 @@ use Rattle.queue.specs.declared.Frame.{Frame}
 use Rattle.queue.specs.Queue.{Queued, queue_of, idle}
 use Rattle.queue.specs.Queue.{block_length as queue_length}
 use Rattle.losses.specs.Losses.{counter_length, losses_of}
-use Rattle.addresses.specs.declared.Place.{Place}
-use Rattle.addresses.specs.Table.{table_length, table_of}
+use Rattle.addresses.specs.Table.{table_length, table_of, Place}
 use Rattle.unit.specs.declared.Claim.{Claim}
 use Rattle.unit.specs.declared.Claim.TheVariants.{Unstarted, Claiming, Claimed, Lost}
 use Rattle.unit.specs.declared.Unit.{Unit}

@@ -1,14 +1,12 @@
 -- The unit itself, docs/RULES.md, "Addresses" and rule 1 of "Forwarding": its claim state, what is its own, the frames that it sends, when it may start.
 -- Assumes nothing.
-use Rattle.std.specs.Prelude.{ℕ, ◌+◌, Bool, true, false, not, ◌&&◌, List, [], ◌∷◌, ltb, eqb}
+use Rattle.std.specs.Prelude.{ℕ, ◌+◌, Bool, true, false, not, ◌&&◌, List, [], ◌∷◌, ltb, eqb, None, Option, Some}
 use Rattle.identifier.specs.Identifier.{ps_of, has_destination}
 use Rattle.queue.specs.declared.Frame.{Frame}
 use Rattle.checks.specs.Checks.{Check, check}
 use Rattle.unit.specs.declared.Claim.{Claim}
 use Rattle.unit.specs.declared.Claim.TheVariants.{Unstarted, Claiming, Claimed, Lost}
 use Rattle.unit.specs.declared.Unit.{Unit}
-use Rattle.unit.specs.declared.Sent.{Sent}
-use Rattle.unit.specs.declared.Sent.TheVariants.{One}
 
 -- ---- the claim state
 abbrev pub is_unstarted : Claim → Bool
@@ -67,16 +65,16 @@ claim_frame own = record { id = 0x18EEFF00 + own.address; len = 8; bytes = own.n
 abbrev pub cannot_claim_frame : Unit → Frame
 cannot_claim_frame own = record { id = 0x18EEFFFE; len = 8; bytes = own.name }
 
-abbrev pub frames_sent : Sent → List Frame
-frames_sent Sent.Nothing = []
-frames_sent (One f) = f ∷ []
+abbrev pub frames_sent : Option Frame → List Frame
+frames_sent None = []
+frames_sent (Some f) = f ∷ []
 
 -- a request: "answered with a claim, or cannot-claim if Lost; Unstarted answers none"
-abbrev pub request_answer : Unit → Claim → Sent
-request_answer own Unstarted = Sent.Nothing
-request_answer own Claiming = One (claim_frame own)
-request_answer own Claimed = One (claim_frame own)
-request_answer own Lost = One (cannot_claim_frame own)
+abbrev pub request_answer : Unit → Claim → Option Frame
+request_answer own Unstarted = None
+request_answer own Claiming = Some (claim_frame own)
+request_answer own Claimed = Some (claim_frame own)
+request_answer own Lost = Some (cannot_claim_frame own)
 
 -- ---- Start
 -- 18: Start not in Unstarted, which comes before 8: the preferred address not 0 to 253

@@ -1,9 +1,8 @@
 -- Power-on: what it is refused with, the model that it leaves, and its contract. `lent` is the length of the record that was lent.
 -- Assumes nothing.
-use Rattle.std.specs.Prelude.{ℕ, ◌+◌, Bool, not, List, [], ◌∷◌, ◌≡◌, eqb, length, replicate}
+use Rattle.std.specs.Prelude.{ℕ, ◌+◌, Bool, not, List, [], ◌∷◌, ◌≡◌, eqb, length, replicate, None}
 use Rattle.filter.specs.Filter.{clear}
 use Rattle.queue.specs.Queue.{idle}
-use Rattle.addresses.specs.declared.Place.TheVariants.{Free}
 use Rattle.addresses.specs.Table.{places}
 use Rattle.checks.specs.Checks.{check, first}
 use Rattle.unit.specs.Count.{is_count, count_of, pair_count}
@@ -21,7 +20,7 @@ power_on_refusal count lent = first (check (not_long (count_of count) lent) 2 �
 -- power-on: every pair cleared, every queue empty and nothing counted, no loss, the table empty, the unit Unstarted
 abbrev pub fresh : ℕ → ℕ → ℕ → Model
 fresh ports name preferred = record {
-  rest = record { own = fresh_unit name preferred ports; pairs = replicate (pair_count ports) clear; table = replicate places Free };
+  rest = record { own = fresh_unit name preferred ports; pairs = replicate (pair_count ports) clear; table = replicate places None };
   queues = replicate ports idle;
   seen = record { losses = replicate (pair_count ports + 1) 0 };
 }

@@ -8,8 +8,10 @@ ghost use Rattle.unit.specs.Count.{count_of, Counting};
 ghost use Rattle.unit.specs.Model.{claim_from, record_length};
 ghost use Rattle.unit.specs.Own.{is_unstarted, is_claiming, start_checks, holds_address, is_own, consumes, fresh_unit, moved, claim_frame, cannot_claim_frame, request_answer, is_claimed, claim_word};
 ghost use Rattle.checks.specs.Checks.{first};
+ghost use Rattle.checks.specs.Refusals.{number_in};
 ghost use Rattle.unit.specs.PowerOn.{PoweringOn};
 
+use checks::Refusal;
 use queue::Frame;
 pub use words::{ports_of, read_unit, store_claim, store_unit};
 
@@ -17,7 +19,7 @@ pub use words::{ports_of, read_unit, store_claim, store_unit};
 pub const NO_ADDRESS: u8 = 254;
 
 // How far the unit's own address claim is.
-#[derive(Clone, Copy)]
+#[derive(Clone, Copy, PartialEq, Eq, Debug)]
 pub enum Claim {
     Unstarted,
     Claiming,
@@ -25,14 +27,7 @@ pub enum Claim {
     Lost,
 }
 
-// What the unit sends of its own.
-#[derive(Clone, Copy)]
-pub enum Sent {
-    Nothing,
-    One(Frame),
-}
-
-#[derive(Clone, Copy)]
+#[derive(Clone, Copy, PartialEq, Eq, Debug)]
 pub struct Unit {
     pub claim: Claim,
     pub address: u8,
@@ -46,73 +41,44 @@ impl Claim {
     pub fn from_word(word: u64) -> Claim
         ensures { result ≡ claim_from word }
     {
-        if word == 0 {
-            return Claim::Unstarted;
+        match word {
+            0 => Claim::Unstarted,
+            1 => Claim::Claiming,
+            2 => Claim::Claimed,
+            _ => Claim::Lost,
         }
-        if word == 1 {
-            return Claim::Claiming;
-        }
-        if word == 2 {
-            return Claim::Claimed;
-        }
-        Claim::Lost
     }
 
     // The word that stands for a state.
     pub fn word(self) -> u64
         ensures { result ≡ claim_word self }
     {
-        match self {
-            Claim::Unstarted => 0,
-            Claim::Claiming => 1,
-            Claim::Claimed => 2,
-            Claim::Lost => 3,
-        }
+        self as u64
     }
 
     pub fn is_unstarted(self) -> bool
         ensures { result ≡ is_unstarted self }
     {
-        match self {
-            Claim::Unstarted => true,
-            Claim::Claiming => false,
-            Claim::Claimed => false,
-            Claim::Lost => false,
-        }
+        self == Claim::Unstarted
     }
 
     pub fn is_claiming(self) -> bool
         ensures { result ≡ is_claiming self }
     {
-        match self {
-            Claim::Unstarted => false,
-            Claim::Claiming => true,
-            Claim::Claimed => false,
-            Claim::Lost => false,
-        }
+        self == Claim::Claiming
     }
 
     pub fn is_claimed(self) -> bool
         ensures { result ≡ is_claimed self }
     {
-        match self {
-            Claim::Unstarted => false,
-            Claim::Claiming => false,
-            Claim::Claimed => true,
-            Claim::Lost => false,
-        }
+        self == Claim::Claimed
     }
 
     // Whether the unit has an address: Claiming or Claimed.
     pub fn holds_address(self) -> bool
         ensures { result ≡ holds_address self }
     {
-        match self {
-            Claim::Unstarted => false,
-            Claim::Claiming => true,
-            Claim::Claimed => true,
-            Claim::Lost => false,
-        }
+        matches!(self, Claim::Claiming | Claim::Claimed)
     }
 }
 
@@ -173,10 +139,7 @@ impl Unit {
     pub fn count_of(count: u64) -> u32
         ensures { Counting (count_of count) result }
     {
-        if count < (Self::FEWEST_PORTS as u64) {
-            return Self::PORTS;
-        }
-        if (Self::MOST_PORTS as u64) < count {
+        if count < Self::FEWEST_PORTS as u64 || (Self::MOST_PORTS as u64) < count {
             return Self::PORTS;
         }
         count as u32
@@ -195,27 +158,32 @@ impl Unit {
         }
     }
 
-    // Power-on with a number of ports: the record becomes that of a fresh unit, of four ports where it can't have so many, which is told with 27. Refused
-    // with 2 where it is not of its length.
-    pub fn power_on_ports(words: &mut [u64], name: u64, preferred: u32, count: u32) -> u32
-        ensures { PoweringOn count words.old words.new name preferred result }
+    // Power-on with a number of ports: the record becomes that of a fresh unit, of four ports where it can't have so many, which is told as `PortCount`.
+    // Refused with `WrongLength` where it is not of its length.
+    pub fn power_on_ports(
+        words: &mut [u64],
+        name: u64,
+        preferred: u32,
+        count: u32,
+    ) -> Result<(), Refusal>
+        ensures { PoweringOn count words.old words.new name preferred (number_in result) }
     {
         let ports = Unit::count_of(count as u64);
         if words.len() != Unit::record_length(ports as usize) {
-            return 2;
+            return Err(Refusal::WrongLength);
         }
-        words::wipe(words);
+        words.fill(0);
         let unit = Unit::fresh(name, preferred, ports);
         words::store_unit(words, unit);
         if ports != count {
-            return 27;
+            return Err(Refusal::PortCount);
         }
-        0
+        Ok(())
     }
 
     // Power-on with four ports.
-    pub fn power_on(words: &mut [u64], name: u64, preferred: u32) -> u32
-        ensures { PoweringOn 4 words.old words.new name preferred result }
+    pub fn power_on(words: &mut [u64], name: u64, preferred: u32) -> Result<(), Refusal>
+        ensures { PoweringOn 4 words.old words.new name preferred (number_in result) }
     {
         Unit::power_on_ports(words, name, preferred, Self::PORTS)
     }
@@ -227,45 +195,35 @@ impl Unit {
         Unit {
             claim,
             address,
-            preferred: self.preferred,
-            name: self.name,
-            ports: self.ports,
+            ..self
         }
     }
 
-    // The number that Start is refused with by the unit's state, or 0.
-    pub fn start_refusal(self) -> u32
-        ensures { result ≡ first (start_checks self) }
+    // Whether the unit may start: of its state, and then of its preferred address.
+    pub fn check_start(self) -> Result<(), Refusal>
+        ensures { number_in result ≡ first (start_checks self) }
     {
-        let claim = self.claim;
-        if claim.is_unstarted() {
-            if 253 < self.preferred {
-                return 8;
-            }
-            return 0;
+        if !self.claim.is_unstarted() {
+            return Err(Refusal::WrongState);
         }
-        18
+        if 253 < self.preferred {
+            return Err(Refusal::NoAddress);
+        }
+        Ok(())
     }
 
     // Whether an address is the unit's.
     pub fn is_own(self, address: u32) -> bool
         ensures { result ≡ is_own self address }
     {
-        let claim = self.claim;
-        if claim.holds_address() {
-            return address == self.address as u32;
-        }
-        false
+        self.claim.holds_address() && address == self.address as u32
     }
 
     // Whether a frame is for the unit (rule 1).
     pub fn consumes(self, id: u32) -> bool
         ensures { result ≡ consumes self id }
     {
-        if identifier::has_destination(id) {
-            return self.is_own(identifier::ps(id));
-        }
-        false
+        identifier::has_destination(id) && self.is_own(identifier::ps(id))
     }
 
     // The frame that claims the unit's address.
@@ -291,15 +249,13 @@ impl Unit {
     }
 
     // The answer to a request for address claimed.
-    pub fn request_answer(self) -> Sent
+    pub fn request_answer(self) -> Option<Frame>
         ensures { result ≡ request_answer self self.claim }
     {
-        let claim = self.claim;
-        match claim {
-            Claim::Unstarted => Sent::Nothing,
-            Claim::Claiming => Sent::One(self.claim_frame()),
-            Claim::Claimed => Sent::One(self.claim_frame()),
-            Claim::Lost => Sent::One(self.cannot_claim_frame()),
+        match self.claim {
+            Claim::Unstarted => None,
+            Claim::Claiming | Claim::Claimed => Some(self.claim_frame()),
+            Claim::Lost => Some(self.cannot_claim_frame()),
         }
     }
 }

@@ -1,21 +1,10 @@
-// The record's words: the unit's own, which stand first, read and stored; and all of them 0.
-ghost use Rattle.std.specs.Prelude.{◌≡◌, ℕ, ◌≤◌, length, replicate};
+// The unit's own words, which stand first in the record, read and stored.
+ghost use Rattle.std.specs.Prelude.{◌≡◌, ℕ, ◌≤◌, length};
 ghost use Rattle.unit.specs.Count.{ports_of, Counting};
 ghost use Rattle.unit.specs.Model.{model_of, own_length, with_own, with_rest};
 ghost use Rattle.unit.specs.Own.{moved};
 
 use crate::{Claim, Unit};
-
-// Every word 0.
-pub fn wipe(words: &mut [u64])
-    ensures { words.new ≡ replicate (length words.old) 0 }
-{
-    let mut i: usize = 0;
-    while i < words.len() {
-        words[i] = 0;
-        i += 1;
-    }
-}
 
 // The number of ports of the unit in a record of any length.
 pub fn ports_of(words: &[u64]) -> u32
@@ -54,10 +43,11 @@ pub fn store_unit(words: &mut [u64], unit: Unit)
     requires { (own_length ≤ length words.old) × (2 ≤ unit.ports) × (unit.ports ≤ 8) }
     ensures { (ports : ℕ) → model_of ports words.new ≡ with_rest (model_of ports words.old) (with_own (model_of ports words.old).rest unit) }
 {
-    let claim = unit.claim;
-    words[0] = claim.word();
-    words[1] = unit.address as u64;
-    words[2] = unit.preferred as u64;
-    words[3] = unit.name;
-    words[4] = unit.ports as u64;
+    words[..5].copy_from_slice(&[
+        unit.claim.word(),
+        unit.address as u64,
+        unit.preferred as u64,
+        unit.name,
+        unit.ports as u64,
+    ]);
 }

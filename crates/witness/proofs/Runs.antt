@@ -12,10 +12,8 @@ use Rattle.storage.proofs.Blocks.{length_blocks}
 use Rattle.storage.proofs.Parts.{back}
 use Rattle.delivery.specs.Calls.{after_calls, answers_of}
 use Rattle.delivery.proofs.Calls.{after_append, answers_append, length_answers}
-use Rattle.queue.specs.declared.Taken.TheVariants.{Given, Nothing}
-use Rattle.bridge.specs.declared.TakeAnswer.TheVariants.{Refused, Took}
-use Rattle.bridge.specs.declared.UnitAnswer.{UnitAnswer}
-use Rattle.bridge.specs.declared.UnitAnswer.TheVariants.{Told}
+use Rattle.std.specs.Prelude.{Some, None}
+use Rattle.bridge.specs.Told.{Refused, Took, UnitTold, Told}
 use Rattle.unit.specs.Count.{count_of, ports_of}
 use Rattle.unit.specs.Model.{Model, model_of, record_length}
 use Rattle.unit.specs.PowerOn.{PoweringOn}
@@ -30,12 +28,12 @@ code_long : (x : Answer) → length (code x) ≡ answer_words
 unfolding code
 code_long (ToFrame r) = refl
 code_long (ToTake (Refused number)) = refl
-code_long (ToTake (Took (Given f))) = refl
-code_long (ToTake (Took Nothing)) = refl
+code_long (ToTake (Took (Some f))) = refl
+code_long (ToTake (Took None)) = refl
 code_long (ToMessage r reply) = refl
 code_long (ToStart r) = refl
 code_long (ToQuiet number) = refl
-code_long (ToUnit (UnitAnswer.Refused number)) = refl
+code_long (ToUnit (UnitTold.Refused number)) = refl
 code_long (ToUnit (Told own)) = refl
 code_long (ToCounts r) = refl
 

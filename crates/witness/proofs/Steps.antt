@@ -1,5 +1,7 @@
 -- One call, written down: an answer's words, the bytes that a call names, and the book's move by the contract of the call. Assumes nothing.
-use mathlib.Core.Path.{◌≡◌, sym, ap, ◌∙◌}
+use mathlib.Core.Path.{◌≡◌, refl, sym, ap, ◌∙◌}
+use mathlib.Core.Bool.{Bool, true, false, cond}
+use mir.Val.{bool_byte}
 use mathlib.Core.List.{List, [], ◌∷◌, append-nil}
 use Prim.Native.Nat.{ℕ, ◌+◌, ◌-◌, ◌≤◌, min}
 use native.Mathlib.Decide.{dec_lt}
@@ -7,12 +9,8 @@ use native.Mathlib.Nat.{zero-add}
 use native.Mathlib.Omega.{arith}
 use lib.ListN.{length, take, drop, drop_of_length-le}
 use lib.Seq.{sets, sets-eq, drop-length, take_all, take-add, drop_at, length-take-le}
-use Rattle.bridge.specs.declared.FrameAnswer.{FrameAnswer}
-use Rattle.bridge.specs.declared.TakeAnswer.{TakeAnswer}
-use Rattle.message_answers.specs.declared.MessageAnswer.{MessageAnswer}
-use Rattle.bridge.specs.declared.StartAnswer.{StartAnswer}
-use Rattle.bridge.specs.declared.UnitAnswer.{UnitAnswer}
-use Rattle.bridge.specs.declared.CountsAnswer.{CountsAnswer}
+use Rattle.bridge.specs.Told.{FrameTold, TakeTold, StartTold, UnitTold, CountsTold}
+use Rattle.message_answers.specs.Messages.{MessageTold}
 use Rattle.unit.specs.Own.{claim_word}
 use Rattle.unit.specs.Count.{ports_of}
 use Rattle.unit.specs.Model.{record_length}
@@ -24,6 +22,11 @@ use Rattle.witness.specs.Replay.{Stepping}
 -- as many words as there is room for, stored from the first on, are the words
 pub stored : (words room : List ℕ) → length room ≡ length words → sets room 0 words ≡ words
 stored words room e = sets-eq words room 0 (omega arith) ∙ rw (zero-add (length words), ← e, drop-length room) (append-nil words)
+
+-- a truth value as a word
+pub flag : (b : Bool) → bool_byte b ≡ cond b 1 0
+flag true = refl
+flag false = refl
 
 -- ---- the bytes that a call names
 part_in : (bytes : List ℕ) (a e : ℕ) → a ≤ e → e ≤ length bytes → take (e - a) (drop a bytes) ≡ drop a (take e bytes)
@@ -54,28 +57,28 @@ part_is bytes from to a e h k =
 
 -- ---- one call, by its contract
 module _ {w w' out : List ℕ} (long : length w ≡ record_length (ports_of w)) where
-  pub frame_step : {port id : ℕ} {bytes : List ℕ} {r : FrameAnswer} → Framing (ports_of w) w w' port id bytes r → out ≡ code (ToFrame r) → Stepping w w' (FrameIn port id bytes) out
+  pub frame_step : {port id : ℕ} {bytes : List ℕ} {r : FrameTold} → Framing (ports_of w) w w' port id bytes r → out ≡ code (ToFrame r) → Stepping w w' (FrameIn port id bytes) out
   unfolding answer
   frame_step l o = record { state = rw long at l.call.state; answer = o ∙ ap (λ r. code (ToFrame r)) (rw long at l.answer); ports = l.call.count }
 
-  pub take_step : {port : ℕ} {r : TakeAnswer} → TakingOut (ports_of w) w w' port r → out ≡ code (ToTake r) → Stepping w w' (TakeOut port) out
+  pub take_step : {port : ℕ} {r : TakeTold} → TakingOut (ports_of w) w w' port r → out ≡ code (ToTake r) → Stepping w w' (TakeOut port) out
   unfolding answer
   take_step l o = record { state = rw long at l.call.state; answer = o ∙ ap (λ r. code (ToTake r)) (rw long at l.answer); ports = l.call.count }
 
-  pub message_step : {port requester : ℕ} {payload lent back : List ℕ} {r : MessageAnswer} → Messaging (ports_of w) w w' port requester payload lent back r
+  pub message_step : {port requester : ℕ} {payload lent back : List ℕ} {r : MessageTold} → Messaging (ports_of w) w w' port requester payload lent back r
       → out ≡ padded (r.refusal ∷ r.pgn ∷ r.length ∷ r.told.entry ∷ r.told.to ∷ r.told.pgn ∷ []) → Stepping w w' (Message port requester payload (length lent)) out
   unfolding answer code
   message_step {r} l o = record {
     state = rw long at l.call.state;
-    answer = o ∙ ap (λ (r : MessageAnswer). padded (r.refusal ∷ r.pgn ∷ r.length ∷ r.told.entry ∷ r.told.to ∷ r.told.pgn ∷ [])) (rw long at l.answer);
+    answer = o ∙ ap (λ (r : MessageTold). padded (r.refusal ∷ r.pgn ∷ r.length ∷ r.told.entry ∷ r.told.to ∷ r.told.pgn ∷ [])) (rw long at l.answer);
     ports = l.call.count;
   }
 
-  pub start_step : {r : StartAnswer} → Starting (ports_of w) w w' r → out ≡ padded (r.refusal ∷ r.unsent ∷ claim_word r.claim ∷ []) → Stepping w w' Start out
+  pub start_step : {r : StartTold} → Starting (ports_of w) w w' r → out ≡ padded (r.refusal ∷ r.unsent ∷ claim_word r.claim ∷ []) → Stepping w w' Start out
   unfolding answer code
   start_step l o = record {
     state = rw long at l.call.state;
-    answer = o ∙ ap (λ (r : StartAnswer). padded (r.refusal ∷ r.unsent ∷ claim_word r.claim ∷ [])) (rw long at l.answer);
+    answer = o ∙ ap (λ (r : StartTold). padded (r.refusal ∷ r.unsent ∷ claim_word r.claim ∷ [])) (rw long at l.answer);
     ports = l.call.count;
   }
 
@@ -88,10 +91,10 @@ module _ {w w' out : List ℕ} (long : length w ≡ record_length (ports_of w)) 
   }
 
 -- the unit is read: the record stays
-pub unit_step : {w out : List ℕ} {r : UnitAnswer} → length w ≡ record_length (ports_of w) → Reading (ports_of w) w r → out ≡ code (ToUnit r) → Stepping w w ReadUnit out
+pub unit_step : {w out : List ℕ} {r : UnitTold} → length w ≡ record_length (ports_of w) → Reading (ports_of w) w r → out ≡ code (ToUnit r) → Stepping w w ReadUnit out
 unfolding answer
 unit_step long l o = record { state = rw long at l.call.state; answer = o ∙ ap (λ r. code (ToUnit r)) (rw long at l.answer); ports = l.call.count }
 
-pub counts_step : {w out : List ℕ} {port : ℕ} {r : CountsAnswer} → length w ≡ record_length (ports_of w) → Counting (ports_of w) w port r → out ≡ code (ToCounts r) → Stepping w w (ReadCounts port) out
+pub counts_step : {w out : List ℕ} {port : ℕ} {r : CountsTold} → length w ≡ record_length (ports_of w) → Counting (ports_of w) w port r → out ≡ code (ToCounts r) → Stepping w w (ReadCounts port) out
 unfolding answer
 counts_step long l o = record { state = rw long at l.call.state; answer = o ∙ ap (λ r. code (ToCounts r)) (rw long at l.answer); ports = l.call.count }

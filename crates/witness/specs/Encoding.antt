@@ -1,11 +1,8 @@
 -- Calls and answers as words. A call is five words: its kind, the port, a further argument, and the place of its bytes, from where to where, among the
 -- bytes of all calls. An answer is twelve words. Assumes nothing.
-use Rattle.std.specs.Prelude.{ℕ, ◌-◌, ◌%◌, ◌^◌, cond, List, [], ◌∷◌, ◌++◌, eqb, length, take, drop, get_or, replicate}
-use Rattle.queue.specs.declared.Taken.TheVariants.{Given, Nothing}
+use Rattle.std.specs.Prelude.{ℕ, ◌-◌, ◌%◌, ◌^◌, cond, List, [], ◌∷◌, ◌++◌, eqb, length, take, drop, get_or, replicate, Some, None}
 use Rattle.address_claims.specs.Events.{event_number, old_name}
-use Rattle.bridge.specs.declared.TakeAnswer.TheVariants.{Refused, Took}
-use Rattle.bridge.specs.declared.UnitAnswer.{UnitAnswer}
-use Rattle.bridge.specs.declared.UnitAnswer.TheVariants.{Told}
+use Rattle.bridge.specs.Told.{Refused, Took, UnitTold, Told}
 use Rattle.unit.specs.Own.{claim_word}
 use Rattle.bridge.specs.Calls.{Call, FrameIn, TakeOut, Message, Start, Quiet, ReadUnit, ReadCounts}
 use Rattle.demand_3.specs.Demand3.{Answer, ToFrame, ToTake, ToMessage, ToStart, ToQuiet, ToUnit, ToCounts}
@@ -49,12 +46,12 @@ unfoldable pub code : Answer → List ℕ
 code (ToFrame r) =
     padded (r.refusal ∷ cond r.consumed 1 0 ∷ r.accepted ∷ r.lost ∷ r.unsent ∷ r.compared ∷ event_number r.event ∷ old_name r.event ∷ r.reasons ∷ [])
 code (ToTake (Refused number)) = padded (number ∷ [])
-code (ToTake (Took (Given f))) = padded (0 ∷ 1 ∷ f.id ∷ f.len ∷ f.bytes ∷ [])
-code (ToTake (Took Nothing)) = padded (0 ∷ [])
+code (ToTake (Took (Some f))) = padded (0 ∷ 1 ∷ f.id ∷ f.len ∷ f.bytes ∷ [])
+code (ToTake (Took None)) = padded (0 ∷ [])
 code (ToMessage r reply) = padded (r.refusal ∷ r.pgn ∷ r.length ∷ r.told.entry ∷ r.told.to ∷ r.told.pgn ∷ [])
 code (ToStart r) = padded (r.refusal ∷ r.unsent ∷ claim_word r.claim ∷ [])
 code (ToQuiet number) = padded (number ∷ [])
-code (ToUnit (UnitAnswer.Refused number)) = padded (number ∷ [])
+code (ToUnit (UnitTold.Refused number)) = padded (number ∷ [])
 code (ToUnit (Told own)) = padded (0 ∷ claim_word own.claim ∷ own.address ∷ own.preferred ∷ own.name ∷ own.ports ∷ [])
 code (ToCounts r) =
     padded

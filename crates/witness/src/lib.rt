@@ -2,16 +2,19 @@
 // contract says of the whole list what demand 3 says: the answers are the book's.
 #![tactic(auto)]
 
-ghost use Rattle.std.specs.Prelude.{◌≡◌, cond, [], ◌∷◌, ◌*◌, ◌≤◌, min, length};
+ghost use Rattle.std.specs.Prelude.{◌≡◌, ◌∷◌, ◌*◌, ◌≤◌, length};
 ghost use Rattle.unit.specs.Count.{ports_of};
 ghost use Rattle.unit.specs.Model.{record_length};
+ghost use Rattle.checks.specs.Refusals.{number_in};
+ghost use Rattle.bridge.specs.Told.{frame_told, take_told, unit_told, counts_told};
 ghost use Rattle.bridge.specs.Calls.{FrameIn, TakeOut, Message, Start, Quiet, ReadUnit, ReadCounts};
 ghost use Rattle.demand_3.specs.Demand3.{ToFrame, ToTake, ToUnit, ToCounts};
 ghost use Rattle.witness.specs.Encoding.{call_words, answer_words, call_from, call_of, padded, code};
 ghost use Rattle.witness.specs.Replay.{Stepping, Running, Replaying};
 
-use bridge::{CountsAnswer, FrameAnswer, TakeAnswer, UnitAnswer};
-use queue::Taken;
+use bridge::FrameAnswer;
+use checks::Refusal;
+use queue::{Frame, Tally};
 use unit::Unit;
 
 // The words of a call, and of an answer.
@@ -19,115 +22,98 @@ pub const CALL_WORDS: usize = 5;
 
 pub const ANSWER_WORDS: usize = 12;
 
-// An answer's first nine words; 0 stands behind them.
-fn put(out: &mut [u64], a: u64, b: u64, c: u64, d: u64, e: u64, f: u64, g: u64, h: u64, i: u64)
-    requires { length out.old ≡ answer_words }
-    ensures { out.new ≡ padded (a ∷ b ∷ c ∷ d ∷ e ∷ f ∷ g ∷ h ∷ i ∷ []) }
+// An answer's words; 0 stands behind them.
+fn put(out: &mut [u64], words: &[u64])
+    requires { (length out.old ≡ answer_words) × (length words.now ≤ answer_words) }
+    ensures { out.new ≡ padded words.now }
 {
-    out[0] = a;
-    out[1] = b;
-    out[2] = c;
-    out[3] = d;
-    out[4] = e;
-    out[5] = f;
-    out[6] = g;
-    out[7] = h;
-    out[8] = i;
-    out[9] = 0;
-    out[10] = 0;
-    out[11] = 0;
+    let n = words.len();
+    out[..n].copy_from_slice(words);
+    out[n..].fill(0);
 }
 
-// A truth value as a number.
-fn flag(b: bool) -> u64
-    ensures { result ≡ cond b 1 0 }
+// The number of a refusal, 0 for none.
+fn number(r: Result<(), Refusal>) -> u32
+    ensures { result ≡ number_in r }
 {
-    if b {
-        return 1;
+    match r {
+        Ok(()) => 0,
+        Err(refusal) => refusal.number(),
     }
-    0
 }
 
 // What a frame's call answered.
-fn write_frame(r: FrameAnswer, out: &mut [u64])
+fn write_frame(r: Result<FrameAnswer, Refusal>, out: &mut [u64])
     requires { length out.old ≡ answer_words }
-    ensures { out.new ≡ code (ToFrame r) }
+    ensures { out.new ≡ code (ToFrame (frame_told r)) }
 {
-    let event = r.event;
-    let number = event.number();
-    let old = event.old_name();
-    let consumed = flag(r.consumed);
-    put(
-        out,
-        r.refusal as u64,
-        consumed,
-        r.accepted as u64,
-        r.lost as u64,
-        r.unsent as u64,
-        r.compared as u64,
-        number as u64,
-        old,
-        r.reasons,
-    );
+    match r {
+        Ok(a) => put(
+            out,
+            &[
+                0,
+                a.consumed as u64,
+                a.accepted as u64,
+                a.lost as u64,
+                a.unsent as u64,
+                a.compared as u64,
+                a.event.number() as u64,
+                a.event.old_name(),
+                a.reasons,
+            ],
+        ),
+        Err(refusal) => put(out, &[refusal.number() as u64]),
+    }
 }
 
 // What a take answered.
-fn write_take(r: TakeAnswer, out: &mut [u64])
+fn write_take(r: Result<Option<Frame>, Refusal>, out: &mut [u64])
     requires { length out.old ≡ answer_words }
-    ensures { out.new ≡ code (ToTake r) }
+    ensures { out.new ≡ code (ToTake (take_told r)) }
 {
     match r {
-        TakeAnswer::Refused(number) => put(out, number as u64, 0, 0, 0, 0, 0, 0, 0, 0),
-        TakeAnswer::Took(taken) => match taken {
-            Taken::Given(f) => put(out, 0, 1, f.id as u64, f.len as u64, f.bytes, 0, 0, 0, 0),
-            Taken::Nothing => put(out, 0, 0, 0, 0, 0, 0, 0, 0, 0),
-        },
+        Ok(Some(f)) => put(out, &[0, 1, f.id as u64, f.len as u64, f.bytes]),
+        Ok(None) => put(out, &[0]),
+        Err(refusal) => put(out, &[refusal.number() as u64]),
     }
 }
 
 // What the unit was told to be.
-fn write_unit(r: UnitAnswer, out: &mut [u64])
+fn write_unit(r: Result<Unit, Refusal>, out: &mut [u64])
     requires { length out.old ≡ answer_words }
-    ensures { out.new ≡ code (ToUnit r) }
+    ensures { out.new ≡ code (ToUnit (unit_told r)) }
 {
     match r {
-        UnitAnswer::Refused(number) => put(out, number as u64, 0, 0, 0, 0, 0, 0, 0, 0),
-        UnitAnswer::Told(unit) => {
-            let claim = unit.claim;
-            put(
-                out,
+        Ok(unit) => put(
+            out,
+            &[
                 0,
-                claim.word(),
+                unit.claim.word(),
                 unit.address as u64,
                 unit.preferred as u64,
                 unit.name,
                 unit.ports as u64,
-                0,
-                0,
-                0,
-            );
-        }
+            ],
+        ),
+        Err(refusal) => put(out, &[refusal.number() as u64]),
     }
 }
 
 // What was told to be counted at a port.
-fn write_counts(r: CountsAnswer, out: &mut [u64])
+fn write_counts(r: Result<Tally, Refusal>, out: &mut [u64])
     requires { length out.old ≡ answer_words }
-    ensures { out.new ≡ code (ToCounts r) }
+    ensures { out.new ≡ code (ToCounts (counts_told r)) }
 {
-    let tally = r.tally;
-    out[0] = r.refusal as u64;
-    out[1] = tally.waiting[0];
-    out[2] = tally.waiting[1];
-    out[3] = tally.waiting[2];
-    out[4] = tally.waiting[3];
-    out[5] = tally.waiting[4];
-    out[6] = tally.waiting[5];
-    out[7] = tally.waiting[6];
-    out[8] = tally.waiting[7];
-    out[9] = tally.accepted;
-    out[10] = tally.taken;
-    out[11] = 0;
+    match r {
+        Ok(tally) => {
+            let [a, b, c, d, e, f, g, h] = tally.waiting;
+            put(
+                out,
+                &[0, a, b, c, d, e, f, g, h, tally.accepted, tally.taken],
+            );
+        }
+        Err(refusal) => put(out, &[refusal.number() as u64]),
+    }
 }
 
 // The calls, each with its answer written down.
@@ -159,17 +145,17 @@ fn message(
     ensures { Stepping words.old words.new (Message port requester payload.now (length reply.old)) out.new }
 {
     let r = bridge::message(words, port, requester, payload, reply);
+    let told = r.told();
     put(
         out,
-        r.refusal as u64,
-        r.pgn as u64,
-        r.length as u64,
-        r.told.entry as u64,
-        r.told.to as u64,
-        r.told.pgn,
-        0,
-        0,
-        0,
+        &[
+            r.number() as u64,
+            r.pgn as u64,
+            r.length as u64,
+            told.entry as u64,
+            told.to as u64,
+            told.pgn,
+        ],
     );
 }
 
@@ -177,28 +163,18 @@ fn start(words: &mut [u64], out: &mut [u64])
     requires { (length words.old ≡ record_length (ports_of words.old)) × (length out.old ≡ answer_words) }
     ensures { Stepping words.old words.new Start out.new }
 {
-    let r = bridge::start(words);
-    let claim = r.claim;
-    put(
-        out,
-        r.refusal as u64,
-        r.unsent as u64,
-        claim.word(),
-        0,
-        0,
-        0,
-        0,
-        0,
-        0,
-    );
+    match bridge::start(words) {
+        Ok(a) => put(out, &[0, a.unsent as u64, a.claim.word()]),
+        Err(refusal) => put(out, &[refusal.number() as u64]),
+    }
 }
 
 fn quiet(words: &mut [u64], out: &mut [u64])
     requires { (length words.old ≡ record_length (ports_of words.old)) × (length out.old ≡ answer_words) }
     ensures { Stepping words.old words.new Quiet out.new }
 {
-    let number = bridge::quiet(words);
-    put(out, number as u64, 0, 0, 0, 0, 0, 0, 0, 0);
+    let r = bridge::quiet(words);
+    put(out, &[number(r) as u64]);
 }
 
 fn read_unit(words: &[u64], out: &mut [u64])
@@ -230,41 +206,15 @@ fn perform(
     requires { (length words.old ≡ record_length (ports_of words.old)) × (length out.old ≡ answer_words) }
     ensures { Stepping words.old words.new (call_from kind port argument bytes.now (length reply.old)) out.new }
 {
-    if kind == 0 {
-        frame(words, port, argument, bytes, out);
-        return;
+    match kind {
+        0 => frame(words, port, argument, bytes, out),
+        1 => take(words, port, out),
+        2 => message(words, port, argument, bytes, reply, out),
+        3 => start(words, out),
+        5 => read_unit(words, out),
+        6 => read_counts(words, port, out),
+        _ => quiet(words, out),
     }
-    if kind == 1 {
-        take(words, port, out);
-        return;
-    }
-    if kind == 2 {
-        message(words, port, argument, bytes, reply, out);
-        return;
-    }
-    if kind == 3 {
-        start(words, out);
-        return;
-    }
-    if kind == 5 {
-        read_unit(words, out);
-        return;
-    }
-    if kind == 6 {
-        read_counts(words, port, out);
-        return;
-    }
-    quiet(words, out);
-}
-
-// The lesser of two numbers.
-fn least(a: usize, b: usize) -> usize
-    ensures { result ≡ min a b }
-{
-    if a < b {
-        return a;
-    }
-    b
 }
 
 // One call, as its words say.
@@ -275,8 +225,8 @@ fn step(words: &mut [u64], call: &[u64], bytes: &[u8], reply: &mut [u8], out: &m
     let kind = call[0];
     let port = (call[1] % 4294967296) as u32;
     let argument = (call[2] % 4294967296) as u32;
-    let end = least(call[4] as usize, bytes.len());
-    let start = least(call[3] as usize, end);
+    let end = (call[4] as usize).min(bytes.len());
+    let start = (call[3] as usize).min(end);
     perform(words, kind, port, argument, &bytes[start..end], reply, out);
 }
 
@@ -292,14 +242,16 @@ fn run(
     requires { (length words.old ≡ record_length (ports_of words.old)) × (call_words * count ≤ length calls.now) × (answer_words * count ≤ length answers.old) }
     ensures { Running words.old words.new calls.now bytes.now (length reply.old) answers.old answers.new count }
 {
-    let mut i: usize = 0;
-    while i < count {
+    for i in 0..count {
         let a = CALL_WORDS * i;
-        let e = a + CALL_WORDS;
         let b = ANSWER_WORDS * i;
-        let f = b + ANSWER_WORDS;
-        step(words, &calls[a..e], bytes, reply, &mut answers[b..f]);
-        i += 1;
+        step(
+            words,
+            &calls[a..a + CALL_WORDS],
+            bytes,
+            reply,
+            &mut answers[b..b + ANSWER_WORDS],
+        );
     }
 }
 
@@ -316,11 +268,11 @@ pub fn replay(
 ) -> u32
     ensures { Replaying words.old words.new name preferred ports calls.now bytes.now (length reply.old) answers.old answers.new result }
 {
-    let number = Unit::power_on_ports(words, name, preferred, ports);
-    if number == 2 {
-        return number;
+    let powered = number(Unit::power_on_ports(words, name, preferred, ports));
+    if powered == 2 {
+        return powered;
     }
-    let count = least(calls.len() / CALL_WORDS, answers.len() / ANSWER_WORDS);
+    let count = (calls.len() / CALL_WORDS).min(answers.len() / ANSWER_WORDS);
     run(words, calls, bytes, reply, answers, count);
-    number
+    powered
 }

@@ -27,96 +27,45 @@ const HEAD: usize = 4;
 // The words of the largest unit's record, one of eight ports.
 const MOST_WORDS: usize = 6266;
 
-// A number that is being read, whether it has a digit, and whether a comment goes on.
+// What is being read: a number with a digit at least, a comment, or neither.
 #[derive(Clone, Copy)]
-struct Reading {
-    value: u64,
-    has_digit: bool,
-    in_comment: bool,
+enum Reading {
+    Number(u64),
+    Comment,
+    Nothing,
 }
 
-// The value of a hex digit, 16 where a byte is none.
-fn digit(byte: u8) -> u8
-    ensures { result ≤ 16 }
-{
-    match byte {
-        b'0'..=b'9' => byte - b'0',
-        b'A'..=b'F' => byte - b'A' + 10,
-        b'a'..=b'f' => byte - b'a' + 10,
-        _ => 16,
-    }
+// The value of a hex digit.
+fn digit(byte: u8) -> Option<u32> {
+    char::from(byte).to_digit(16)
 }
 
-// What is read after one byte more; the number is whole where the byte is no digit.
+// What is read after one byte more; a number is whole where the byte is no digit.
 fn after(reading: Reading, byte: u8) -> Reading {
-    if byte == b'\n' {
-        return Reading {
-            value: 0,
-            has_digit: false,
-            in_comment: false,
-        };
-    }
-    if reading.in_comment || byte == b'#' {
-        return Reading {
-            value: 0,
-            has_digit: false,
-            in_comment: true,
-        };
-    }
-    let d = digit(byte);
-    if d == 16 {
-        return Reading {
-            value: 0,
-            has_digit: false,
-            in_comment: false,
-        };
-    }
-    Reading {
-        value: (reading.value << 4) | d as u64,
-        has_digit: true,
-        in_comment: false,
+    match (reading, byte, digit(byte)) {
+        (_, b'\n', _) => Reading::Nothing,
+        (Reading::Comment, _, _) | (_, b'#', _) => Reading::Comment,
+        (_, _, None) => Reading::Nothing,
+        (Reading::Number(value), _, Some(d)) => Reading::Number((value << 4) | u64::from(d)),
+        (Reading::Nothing, _, Some(d)) => Reading::Number(u64::from(d)),
     }
 }
 
-// A number at the end of the others, if there is room.
-fn push(numbers: &mut [u64], count: usize, value: u64) -> usize
-    requires { count ≤ length numbers.old }
-    ensures { result ≤ length numbers.old }
-{
-    if count < numbers.len() {
-        numbers[count] = value;
-        return count + 1;
-    }
-    count
-}
-
-// The number before a byte, where that byte ends one.
-fn ended(numbers: &mut [u64], count: usize, reading: Reading, byte: u8) -> usize
-    requires { count ≤ length numbers.old }
-    ensures { result ≤ length numbers.old }
-{
-    if reading.has_digit && digit(byte) == 16 {
-        return push(numbers, count, reading.value);
-    }
-    count
-}
-
-// The numbers of the text, each ended by a byte that is no digit; how many there are.
+// The numbers of the text, each ended by a byte that is no digit, as far as there is room; how many there are.
 fn read_numbers(text: &[u8], numbers: &mut [u64]) -> usize
     ensures { result ≤ length numbers.old }
 {
     let mut count = 0;
-    let mut reading = Reading {
-        value: 0,
-        has_digit: false,
-        in_comment: false,
-    };
-    let mut i = 0;
-    while i < text.len() {
-        let byte = text[i];
-        count = ended(numbers, count, reading, byte);
-        reading = after(reading, byte);
-        i += 1;
+    let mut reading = Reading::Nothing;
+    for byte in text {
+        if let Reading::Number(value) = reading
+            && digit(*byte).is_none()
+            && count < numbers.len()
+        {
+            numbers[count] = value;
+            count += 1;
+        }
+        reading = after(reading, *byte);
     }
     count
 }
@@ -125,12 +74,10 @@ fn read_numbers(text: &[u8], numbers: &mut [u64]) -> usize
 fn copy_bytes(numbers: &[u64], bytes: &mut [u8]) -> usize
     ensures { result ≤ length bytes.old }
 {
-    let mut i = 0;
-    while i < numbers.len() && i < bytes.len() {
-        bytes[i] = (numbers[i] % 256) as u8;
-        i += 1;
+    for (byte, n) in bytes.iter_mut().zip(numbers) {
+        *byte = (*n % 256) as u8;
     }
-    i
+    bytes.len().min(numbers.len())
 }
 
 // A number in hex and what stands behind it.
@@ -150,10 +97,8 @@ fn print_word(rt: &impl Print, n: u64, is_last: bool) {
 
 // The answers' words in hex, those of an answer a line.
 fn print_answers(rt: &impl Print, answers: &[u64]) {
-    let mut i = 0;
-    while i < answers.len() {
-        print_word(rt, answers[i], i % ANSWER_WORDS == LAST_WORD);
-        i += 1;
+    for (i, word) in answers.iter().enumerate() {
+        print_word(rt, *word, i % ANSWER_WORDS == LAST_WORD);
     }
 }
 
@@ -172,21 +117,9 @@ fn print_record(rt: &impl Print, words: &[u64], ports: usize)
     requires { ports ≤ 8 }
 {
     let _ = rt.print("waiting ");
-    let mut i = 0;
-    while i < ports {
+    for i in 0..ports {
         print_waiting(rt, words, i, i + 1 == ports);
-        i += 1;
     }
-}
-
-// The lesser of two numbers.
-fn least(a: usize, b: usize) -> usize
-    ensures { (result ≤ a) × (result ≤ b) }
-{
-    if a < b {
-        return a;
-    }
-    b
 }
 
 // How many calls are made: as many as were said, have their words, and there is room for.
@@ -194,8 +127,8 @@ fn calls_made(said: u64, numbers: usize) -> usize
     requires { 4 ≤ numbers }
     ensures { (4 + 5 * result ≤ numbers) × (result ≤ 1024) }
 {
-    let most = least((numbers - HEAD) / 5, CALLS);
-    least(said as usize, most)
+    let most = ((numbers - HEAD) / 5).min(CALLS);
+    most.min(said as usize)
 }
 
 // How much of the storage is the record of a unit with so many ports.
@@ -203,7 +136,7 @@ fn record_length(ports: usize) -> usize
     requires { (2 ≤ ports) × (ports ≤ 8) }
     ensures { result ≤ 6266 }
 {
-    least(Unit::record_length(ports), MOST_WORDS)
+    Unit::record_length(ports).min(MOST_WORDS)
 }
 
 // Power-on and the calls; how many frames wait is told from the record after them.
@@ -220,7 +153,7 @@ fn make_calls(rt: &impl Print, words: &mut [u64], numbers: &[u64], answers: &mut
         (numbers[1] % 4294967296) as u32,
         (numbers[2] % 4294967296) as u32,
         &numbers[HEAD..end],
-        &bytes[0..k],
+        &bytes[..k],
         &mut reply,
         answers,
     );
@@ -234,28 +167,23 @@ fn run(rt: &impl Print, numbers: &[u64])
     let n = calls_made(numbers[3], numbers.len());
     let ports = Unit::count_of(numbers[2]) as usize;
     let length = record_length(ports);
-    let mut record = [0u64; MOST_WORDS];
-    let mut space = [0u64; ANSWER_WORDS * CALLS];
-    let words: &mut [u64] = &mut record;
-    let answers: &mut [u64] = &mut space;
-    make_calls(rt, &mut words[0..length], numbers, answers, n);
-    let written = &answers[..];
-    print_answers(rt, &written[0..ANSWER_WORDS * n]);
-    print_record(rt, words, ports);
+    let mut words = [0u64; MOST_WORDS];
+    let mut answers = [0u64; ANSWER_WORDS * CALLS];
+    make_calls(rt, &mut words[..length], numbers, &mut answers, n);
+    print_answers(rt, &answers[..ANSWER_WORDS * n]);
+    print_record(rt, &words, ports);
 }
 
 fn main(rt: HostRuntime) {
     let mut text = [0u8; MOST];
     let n = bench_io::read_full(&mut rt.stdin(), &mut text);
-    let mut space = [0u64; NUMBERS];
-    let numbers: &mut [u64] = &mut space;
-    let count = read_numbers(&text[..n], numbers);
+    let mut numbers = [0u64; NUMBERS];
+    let count = read_numbers(&text[..n], &mut numbers);
     if count < HEAD {
         let _ = rt.println(
             "a NAME, a preferred address, a number of ports and of calls come first",
         );
         return;
     }
-    let read = &numbers[..];
-    run(&rt, &read[0..count]);
+    run(&rt, &numbers[..count]);
 }

@@ -1,20 +1,24 @@
--- `address_claims::contest` meets its contract: the tests are those of the definition. Assumes nothing.
+-- `address_claims::contest` meets its contract: the order of the NAMEs is the definition's tests. Assumes nothing.
+use Rattle.std.proofs.Common.{◌<◌, arith}
+use Rattle.std.specs.Cmp.{ranked}
 use borrow.Author.Tests.{eq-eqb, ne_eqb, lt-ltb, le-ltb}
 use Rattle.address_claims.specs.Claims.{contest_event}
 use Rattle.address_claims.proofs.contest.Goals as goal
 
-pub returns-then-name-holder : goal.returns-then-name-holder
+pub returns-in_default : goal.returns-in_default
 unfolding contest_event
-returns-then-name-holder c = rw (c.in-Held.is, eq-eqb _ _ c.if-name-holder.true)
+returns-in_default c = rw c.in_default.is
 
-pub returns-then-name-holder-2 : goal.returns-then-name-holder-2
+pub returns-in-Less : goal.returns-in-Less
 unfolding contest_event
-returns-then-name-holder-2 c = rw (c.in-Held.is, ne_eqb _ _ c.if-name-holder.false, lt-ltb _ _ c.if-name-holder-2.true)
+returns-in-Less c = let less : c.args.name < c.in-Some.holder.name = ranked _ _ _ c.in-Less.ensures in
+    rw (c.in-Some.is, ne_eqb c.args.name c.in-Some.holder.name (λ e. omega arith), lt-ltb _ _ less)
 
-pub returns-in-Free : goal.returns-in-Free
+pub returns-in-Equal : goal.returns-in-Equal
 unfolding contest_event
-returns-in-Free c = rw c.in-Free.is
+returns-in-Equal c = rw (c.in-Some.is, eq-eqb _ _ (ranked _ _ _ c.in-Equal.ensures))
 
-pub returns-else-name-holder-2 : goal.returns-else-name-holder-2
+pub returns-in-Greater : goal.returns-in-Greater
 unfolding contest_event
-returns-else-name-holder-2 c = rw (c.in-Held.is, ne_eqb _ _ c.if-name-holder.false, le-ltb _ _ c.if-name-holder-2.false)
+returns-in-Greater c = let greater : c.in-Some.holder.name < c.args.name = ranked _ _ _ c.in-Greater.ensures in
+    rw (c.in-Some.is, ne_eqb c.args.name c.in-Some.holder.name (λ e. omega arith), le-ltb c.args.name c.in-Some.holder.name (omega arith))

@@ -1,20 +1,15 @@
 -- `address_pairs::any_outer` meets its contract: one table after the other. Assumes nothing.
-use mathlib.Core.Path.{sym, ◌∙◌}
-use native.Mathlib.Omega.{arith}
-use Rattle.address_pairs.proofs.Tables.{start, other, found, done, table_count}
+use Rattle.std.proofs.Common.{rules, tests, ◌∙◌}
+use Rattle.std.proofs.lemmas.Iterator.{YieldsList-from_slice}
+use Rattle.std.proofs.lemmas.Iterator.Search.{any_from_yields_List}
+use Rattle.address_pairs.specs.AddressPairs.{outer_side, stands, pairs_of}
+use Rattle.address_pairs.proofs.Tables.{any_is}
 use Rattle.address_pairs.proofs.any_outer.Goals as goal
 
-pub loop-i-init : goal.loop-i-init
-loop-i-init c = start _ _
-
-pub stands_in-requires : goal.stands_in-requires
-stands_in-requires c = (omega arith, omega arith)
-
-pub returns-then-stands_in : goal.returns-then-stands_in
-returns-then-stands_in c = found c.loop-i.invariant (omega (arith, table_count c.args.tables.now)) (sym c.stands_in.ensures ∙ c.if-stands_in.true)
-
-pub loop-i-preserved : goal.loop-i-preserved
-loop-i-preserved c = other c.loop-i.invariant (omega (arith, table_count c.args.tables.now)) (sym c.stands_in.ensures ∙ c.if-stands_in.false)
-
 pub returns : goal.returns
-returns c = done c.loop-i.invariant (omega (arith, table_count c.args.tables.now))
+returns c =
+    let address = c.args.address in
+    rw (← c.whole.ensures.value)
+    (any_from_yields_List (λ p. stands outer_side (pairs_of p) address) _ _ c.any.result c.any.ensures.ran
+    (YieldsList-from_slice c.whole.result.now c.iter.ensures.rest) (λ x b q k. search (rules, tests))
+    ∙ any_is address c.whole.result.now)

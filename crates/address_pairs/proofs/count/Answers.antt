@@ -1,10 +1,7 @@
 -- `address_pairs::count` meets its contract: a count above sixteen is sixteen. Assumes nothing.
-use native.Mathlib.Omega.{arith}
-use Rattle.address_pairs.proofs.Looking.{counted}
+use Rattle.std.proofs.Common.{sym, ◌∙◌}
+use Rattle.address_pairs.proofs.Looking.{as_many}
 use Rattle.address_pairs.proofs.count.Goals as goal
 
-pub returns-then-n : goal.returns-then-n
-returns-then-n c = counted c.args.table.now (omega arith)
-
 pub returns : goal.returns
-returns c = counted c.args.table.now (omega arith)
+returns c = (c.min.ensures ∙ sym (as_many c.args.table.now), c.min.ensures)

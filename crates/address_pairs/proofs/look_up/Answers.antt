@@ -1,23 +1,19 @@
--- `address_pairs::look_up` meets its contract: the pairs are compared one after the other. Assumes nothing.
-use mathlib.Core.Path.{sym, ◌∙◌}
-use native.Mathlib.Omega.{arith}
-use Rattle.address_pairs.proofs.Looking.{start, other, found, done}
+-- `address_pairs::look_up` meets its contract: the pairs are searched, and the other side is read. Assumes nothing.
+use Rattle.std.proofs.Common.{ℕ, ◌-◌, arith, rules, tests, ap, ◌∙◌, Option, Some}
+use Rattle.std.proofs.lemmas.Iterator.{YieldsList-from_slice}
+use Rattle.std.proofs.lemmas.Iterator.Search.{find_from_yields_List}
+use Rattle.address_pairs.proofs.Looking.{has, side_is, look_up_found}
 use Rattle.address_pairs.proofs.look_up.Goals as goal
 
-pub loop-i-init : goal.loop-i-init
-loop-i-init c = start _ _ _ c.count-n.ensures.1
-
-pub address_at-requires : goal.address_at-requires
-address_at-requires c = (omega arith, c.requires.1)
-
-pub address_at-requires-then-address_at-address : goal.address_at-requires-then-address_at-address
-address_at-requires-then-address_at-address c = (omega arith, omega arith)
-
-pub returns-then-address_at-address : goal.returns-then-address_at-address
-returns-then-address_at-address c = found c.loop-i.invariant (omega arith) (sym c.address_at.ensures ∙ c.if-address_at-address.true) c.address_at-then-address_at-address.ensures
-
-pub loop-i-preserved : goal.loop-i-preserved
-loop-i-preserved c = other c.loop-i.invariant (omega arith) (λ e. c.if-address_at-address.false (c.address_at.ensures ∙ e))
+pub returns-in_err-pair : goal.returns-in_err-pair
+returns-in_err-pair c =
+    let a = c.args in
+    let found = find_from_yields_List (has a.from a.address) _ _ c.find.result c.find.ensures.ran (YieldsList-from_slice c.pairs.result.now c.iter.ensures.rest) (λ x b q k. search (rules, tests)) in
+    c.from_residual.ensures ∙ look_up_found a.from (1 - a.from) a.address c.pairs.result.now c.pairs.ensures (rw c.in_err-pair.was at found)
 
 pub returns : goal.returns
-returns c = done c.loop-i.invariant (omega arith)
+returns c =
+    let a = c.args in
+    let found = find_from_yields_List (has a.from a.address) _ _ c.find.result c.find.ensures.ran (YieldsList-from_slice c.pairs.result.now c.iter.ensures.rest) (λ x b q k. search (rules, tests)) in
+    ap {B = Option ℕ} Some (c.address_in.ensures ∙ side_is c.in_ok-pair.pair.now (1 - a.from) (omega arith))
+    ∙ look_up_found a.from (1 - a.from) a.address c.pairs.result.now c.pairs.ensures (rw c.in_ok-pair.was at found)

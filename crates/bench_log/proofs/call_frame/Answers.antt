@@ -4,8 +4,8 @@ use Rattle.bench_log.proofs.call_frame.Goals as goal
 
 pub returns-then-len-gt8 : goal.returns-then-len-gt8
 returns-then-len-gt8 c = let log = c.args.log.now in
-    rw (c.wide-port.ensures.0, c.id_of-id.ensures, long_bytes log c.wide-len.result c.wide-len.ensures.0 c.if-len-gt8.true) at c.call_long.ensures
+    rw (c.from-port.ensures, c.id_of-id.ensures, long_bytes log c.from-len.result c.from-len.ensures c.if-len-gt8.true) at c.call_long.ensures
 
 pub returns : goal.returns
 returns c = let log = c.args.log.now in
-    rw (c.wide-port.ensures.0, c.id_of-id.ensures, short_bytes log c.wide-len.result c.wide-len.ensures.0 c.if-len-gt8.false) at c.frame.ensures
+    rw (c.from-port.ensures, c.id_of-id.ensures, short_bytes log c.from-len.result c.from-len.ensures c.if-len-gt8.false) at c.frame.ensures

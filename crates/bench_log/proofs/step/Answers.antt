@@ -11,4 +11,4 @@ pub returns-then-log-eq0 : goal.returns-then-log-eq0
 returns-then-log-eq0 c = at_end c.if-out-lt-LINE_ROOM.false c.if-log-eq0.true
 
 pub returns : goal.returns
-returns c = at_unknown c.if-out-lt-LINE_ROOM.false c.if-log-eq0.false (number_unknown c.args.log.now c.if-kind-eq1.false c.if-kind-eq2.false) c.put_refused-written.ensures (search rules)
+returns c = at_unknown c.if-out-lt-LINE_ROOM.false c.if-log-eq0.false (number_unknown c.args.log.now c.if-kind-eq1.false c.if-kind-eq2.false) (rw c.number.ensures at c.put_refused-written.ensures) (search rules)

@@ -9,4 +9,4 @@ pub returns-then-log-lt-TAKE_SIZE : goal.returns-then-log-lt-TAKE_SIZE
 returns-then-log-lt-TAKE_SIZE c = at_cut c.requires.0 (λ z. omega arith) (number_cut_take c.args.log.now c.requires.1 c.if-log-lt-TAKE_SIZE.true) c.cut.ensures (search rules)
 
 pub returns : goal.returns
-returns c = at_take c.requires.0 (λ z. omega arith) c.requires.1 c.if-log-lt-TAKE_SIZE.false c.wide-port.ensures.0 c.do_take-written.ensures (search rules)
+returns c = at_take c.requires.0 (λ z. omega arith) c.requires.1 c.if-log-lt-TAKE_SIZE.false c.from-port.ensures c.do_take-written.ensures (search rules)

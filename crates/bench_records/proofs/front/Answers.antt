@@ -1,15 +1,24 @@
 -- `front` meets its contract: by the length and the kind. Assumes nothing.
-use Rattle.bench_records.proofs.Numbers.{front_frame, front_take, front_unknown, empty_unknown, number_unknown}
+use Rattle.std.proofs.Common.{arith, sym, ◌∙◌}
+use borrow.Author.Tests.{eqb-true}
+use Rattle.bench_records.proofs.Numbers.{front_frame, front_take, front_refused, empty_unknown, number_unknown, number_cut_frame, number_cut_take}
+use Rattle.bench_records.proofs.front.Goals.{in-1, in-2}
 use Rattle.bench_records.proofs.front.Goals as goal
 
-pub returns-then-log-eq0 : goal.returns-then-log-eq0
-returns-then-log-eq0 c = front_unknown (empty_unknown _ c.if-log-eq0.true)
+pub returns-then-is_empty : goal.returns-then-is_empty
+returns-then-is_empty c = front_refused (empty_unknown _ (eqb-true _ _ (sym c.is_empty.ensures ∙ c.if-is_empty.true)))
 
-pub returns-then-kind-eq1 : goal.returns-then-kind-eq1
-returns-then-kind-eq1 c = front_frame c.if-kind-eq1.true c.whole.ensures
+pub returns-in_default : goal.returns-in_default
+returns-in_default c = front_refused (number_unknown _ (λ e. omega arith) (λ e. omega arith))
 
-pub returns-then-kind-eq2 : goal.returns-then-kind-eq2
-returns-then-kind-eq2 c = front_take c.if-kind-eq2.true c.whole-then-kind-eq2.ensures
+pub returns-then-log-size : goal.returns-then-log-size
+returns-then-log-size c = elim c.match-log.branch [
+  | in-1 w ↦ front_refused (number_cut_frame c.args.log.now (omega arith) (omega arith))
+  | in-2 w ↦ front_refused (number_cut_take c.args.log.now (omega arith) (omega arith))
+]
 
 pub returns : goal.returns
-returns c = front_unknown (number_unknown _ c.if-kind-eq1.false c.if-kind-eq2.false)
+returns c = elim c.match-log.branch [
+  | in-1 w ↦ rw w.size-is (front_frame (omega arith) (omega arith))
+  | in-2 w ↦ rw w.size-is (front_take (omega arith) (omega arith))
+]

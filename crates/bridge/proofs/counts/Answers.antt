@@ -1,21 +1,27 @@
--- `bridge::counts` meets its contract, by what the refusal and the read of the queue ensure. Assumes nothing.
-use mathlib.Core.Path.{sym, ◌∙◌}
+-- `bridge::counts` meets its contract, by what the checks and the read of the queue ensure. Assumes nothing.
+use mathlib.Core.Path.{◌≡◌, refl, sym}
 use native.Mathlib.Omega.{arith}
+use Rattle.std.proofs.Common.{rules}
 use lib.ListN.{length}
+use Rattle.checks.specs.Refusals.{number}
+use Rattle.checks.proofs.Refusals.{number_positive}
 use Rattle.refusals.proofs.Checks.{take_goes}
+use Rattle.bridge.specs.Told.{counts_refused, counts_told}
 use Rattle.bridge.proofs.Answers.{counts_refused_lem, counts_read}
 use Rattle.bridge.proofs.counts.Goals as goal
 
-pub returns-then-number-ne0 : goal.returns-then-number-ne0
-returns-then-number-ne0 c = rw (← c.ports_of-ports.ensures.count, c.counts_refused.ensures) (counts_refused_lem c.take_refusal-number.ensures c.if-number-ne0.true)
+pub returns-in_err-check_take : goal.returns-in_err-check_take
+returns-in_err-check_take c =
+    let told : counts_told c.from_residual.result ≡ counts_refused (number c.in_err-check_take.field-0.0) = search rules in
+    rw (← c.ports_of-ports.ensures.count, told) (counts_refused_lem c.in_err-check_take.ensures (λ z. omega (arith, number_positive c.in_err-check_take.field-0.0)))
 
 pub overflow_sub-q : goal.overflow_sub-q
-overflow_sub-q c = (take_goes c.ports_of-ports.result (length c.args.words.now) c.args.port (sym c.take_refusal-number.ensures ∙ c.if-number-ne0.false)).1
+overflow_sub-q c = (take_goes c.ports_of-ports.result (length c.args.words.now) c.args.port (sym c.in_ok-check_take.ensures)).1
 
-pub counts_at-tally-requires : goal.counts_at-tally-requires
-counts_at-tally-requires c = let G = take_goes c.ports_of-ports.result (length c.args.words.now) c.args.port (sym c.take_refusal-number.ensures ∙ c.if-number-ne0.false) in
+pub counts_at-requires : goal.counts_at-requires
+counts_at-requires c = let G = take_goes c.ports_of-ports.result (length c.args.words.now) c.args.port (sym c.in_ok-check_take.ensures) in
     omega (arith, G.0, G.1, G.2)
 
 pub returns : goal.returns
-returns c = let G = take_goes c.ports_of-ports.result (length c.args.words.now) c.args.port (sym c.take_refusal-number.ensures ∙ c.if-number-ne0.false) in
-    rw (← c.ports_of-ports.ensures.count) (counts_read c.take_refusal-number.ensures c.if-number-ne0.false (c.counts_at-tally.ensures _ (omega (arith, G.1, G.2))))
+returns c = let G = take_goes c.ports_of-ports.result (length c.args.words.now) c.args.port (sym c.in_ok-check_take.ensures) in
+    rw (← c.ports_of-ports.ensures.count) (counts_read c.in_ok-check_take.ensures refl (c.counts_at.ensures _ (omega (arith, G.1, G.2))))

@@ -22,7 +22,7 @@ pub loop-i-preserved : goal.loop-i-preserved
 loop-i-preserved c = let i = c.loop-i.i in
     let e : i - 1 + 1 ≡ i = omega arith in
     let step = data_step c.args.rest.now c.args.len c.requires.0 (i - 1) (omega arith) in
-    (omega arith, rw (c.pair_value.ensures, c.loop-i.invariant.1) (rw e at step))
+    (omega arith, rw (c.from.ensures, c.pair_value.ensures, c.loop-i.invariant.1) (rw e at step))
 
 pub returns : goal.returns
 unfolding data_in

@@ -1,13 +1,13 @@
 -- `is_written` meets its contract: the line is written anew and compared. Assumes nothing.
 use native.Mathlib.Omega.{arith}
-use Prim.Native.Nat.{◌-◌}
-use Rattle.candump.proofs.Lines.{written_long, put_start}
-use Rattle.candump.specs.Line.{written}
+use mathlib.Core.Path.{ap}
+use lib.ListN.{length}
+use Rattle.candump.proofs.Lines.{put_whole}
 use Rattle.candump.proofs.is_written.Goals as goal
 
 pub slice_bounds-is_alike-end : goal.slice_bounds-is_alike-end
-slice_bounds-is_alike-end c = omega (arith, written_long c.args.a (omega arith))
+slice_bounds-is_alike-end c = let long = ap length (put_whole c.put-end.ensures) in
+    omega (arith, c.put-end.ensures.next, long)
 
 pub returns : goal.returns
-returns c = let made = c.put-end in
-    rw (made.ensures.bytes, put_start (written c.args.a) _ (made.result - 0) (omega (arith, made.ensures.next))) at c.is_alike.ensures
+returns c = rw (put_whole c.put-end.ensures) at c.is_alike.ensures

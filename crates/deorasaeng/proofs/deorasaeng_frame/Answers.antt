@@ -1,13 +1,13 @@
 -- `deorasaeng_frame` meets its contract, by what `bridge::frame` ensures. Assumes nothing.
-use native.Mathlib.Omega.{arith}
-use Rattle.deorasaeng.proofs.Calls.{frame_wrong, frame_refused_lem, frame_done_lem}
+use Rattle.std.specs.Prelude.{refl}
+use Rattle.deorasaeng.proofs.Calls.{not_none, frame_wrong, frame_refused_lem, frame_done_lem}
 use Rattle.deorasaeng.proofs.deorasaeng_frame.Goals as goal
 
 pub returns-then-answer-ne-FRAME_WORDS : goal.returns-then-answer-ne-FRAME_WORDS
 returns-then-answer-ne-FRAME_WORDS c = frame_wrong c.lent_refusal.ensures c.if-answer-ne-FRAME_WORDS.true
 
-pub returns-then-number-ne0 : goal.returns-then-number-ne0
-returns-then-number-ne0 c = frame_refused_lem c.frame-a.ensures c.if-answer-ne-FRAME_WORDS.false (λ z. omega arith)
+pub returns-in-Ok : goal.returns-in-Ok
+returns-in-Ok c = frame_done_lem (rw c.in-Ok.is at c.frame.ensures) c.if-answer-ne-FRAME_WORDS.false refl c.tell_frame.ensures
 
-pub returns : goal.returns
-returns c = frame_done_lem c.frame-a.ensures c.if-answer-ne-FRAME_WORDS.false (omega arith) c.tell_frame.ensures
+pub returns-in-Err : goal.returns-in-Err
+returns-in-Err c = rw c.number.ensures (frame_refused_lem (rw c.in-Err.is at c.frame.ensures) c.if-answer-ne-FRAME_WORDS.false (not_none _))

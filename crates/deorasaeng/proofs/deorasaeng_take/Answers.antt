@@ -1,4 +1,5 @@
 -- `deorasaeng_take` meets its contract, by what `bridge::take` ensures. Assumes nothing.
+use Rattle.std.specs.Prelude.{refl}
 use Rattle.deorasaeng.proofs.Calls.{take_wrong, take_wrong_bytes, take_left, take_told}
 use Rattle.deorasaeng.proofs.deorasaeng_take.Goals as goal
 
@@ -8,8 +9,8 @@ returns-then-answer-ne-TAKE_WORDS c = take_wrong c.lent_refusal.ensures c.if-ans
 pub returns-then-bytes-ne-FRAME_BYTES : goal.returns-then-bytes-ne-FRAME_BYTES
 returns-then-bytes-ne-FRAME_BYTES c = take_wrong_bytes c.lent_refusal-then-bytes-ne-FRAME_BYTES.ensures c.if-bytes-ne-FRAME_BYTES.true
 
-pub returns-in-Refused : goal.returns-in-Refused
-returns-in-Refused c = take_left c.take-t.ensures c.if-answer-ne-TAKE_WORDS.false c.if-bytes-ne-FRAME_BYTES.false c.in-Refused.is
+pub returns-in-Ok : goal.returns-in-Ok
+returns-in-Ok c = take_told (rw c.in-Ok.is at c.take.ensures) c.if-answer-ne-TAKE_WORDS.false c.if-bytes-ne-FRAME_BYTES.false refl c.tell_taken.ensures
 
-pub returns-in-Took : goal.returns-in-Took
-returns-in-Took c = take_told c.take-t.ensures c.if-answer-ne-TAKE_WORDS.false c.if-bytes-ne-FRAME_BYTES.false c.in-Took.is c.tell_taken.ensures
+pub returns-in-Err : goal.returns-in-Err
+returns-in-Err c = rw c.number.ensures (take_left (rw c.in-Err.is at c.take.ensures) c.if-answer-ne-TAKE_WORDS.false c.if-bytes-ne-FRAME_BYTES.false refl)

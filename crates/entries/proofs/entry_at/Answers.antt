@@ -1,14 +1,17 @@
--- `entries::entry_at` meets its contract: entry i is the number at three times i. Assumes nothing.
-use mathlib.Core.Path.{sym, ◌∙◌}
+-- `entries::entry_at` meets its contract. Assumes nothing.
+use mathlib.Core.Path.{sym, ap, ◌∙◌}
+use mathlib.Core.List.{[]}
 use native.Mathlib.Omega.{arith}
-use Rattle.entries.proofs.ThreeBytes.{entries_count, entry_is}
+use lib.ListN.{length, get_or}
+use Rattle.storage.specs.Bytes.{packed}
+use Rattle.std.proofs.lemmas.List.{length-map, get_or-map}
 use Rattle.entries.proofs.entry_at.Goals as goal
 
-pub overflow_mul-i : goal.overflow_mul-i
-overflow_mul-i c = omega (arith, entries_count c.args.bytes.now, c.well_formed)
-
-pub three-requires : goal.three-requires
-three-requires c = omega (arith, entries_count c.args.bytes.now)
+pub bounds-all-i : goal.bounds-all-i
+bounds-all-i c = omega (arith, length-map c.all.result.now packed, ap length c.all.ensures)
 
 pub returns : goal.returns
-returns c = c.three.ensures.number ∙ sym (entry_is c.args.bytes.now c.args.i c.requires)
+returns c =
+    c.number.ensures
+    ∙ sym (get_or-map packed c.all.result.now c.args.i [] 0 (omega (arith, length-map c.all.result.now packed, ap length c.all.ensures)))
+    ∙ ap (λ es. get_or es c.args.i 0) c.all.ensures

@@ -1,25 +1,31 @@
--- `entries::first_wrong` meets its contract: a walk over the entries that stops at the first which is no PGN. Assumes nothing.
-use mathlib.Core.Path.{◌≡◌, sym, ◌∙◌}
-use Prim.Native.Nat.{◌+◌, ◌/◌}
+-- `entries::first_wrong` meets its contract: a place is below how many there are, and its number one more. Assumes nothing.
+use mathlib.Core.Path.{sym, ap, ◌∙◌}
+use mathlib.Core.List.{[]}
 use native.Mathlib.Omega.{arith}
-use Rattle.entries.specs.Entries.{entries_of}
-use Rattle.entries.proofs.ThreeBytes.{entries_count, judged_none, judged_pgn, judged_wrong, judged_all}
+use lib.ListN.{length}
+use Rattle.std.proofs.lemmas.List.{length-map}
+use Rattle.std.proofs.lemmas.List.Quantifiers.{position-Some}
+use Rattle.storage.specs.Bytes.{packed}
+use Rattle.entries.specs.Entries.{first_wrong}
+use Rattle.entries.proofs.ThreeBytes.{place_told, entries_count}
 use Rattle.entries.proofs.first_wrong.Goals as goal
 
-pub loop-at-init : goal.loop-at-init
-loop-at-init c = (judged_none (entries_of c.args.bytes.now), omega arith, omega arith)
+pub overflow_add-result : goal.overflow_add-result
+overflow_add-result c =
+    let es = c.all.result.now in
+    omega (
+      arith,
+      (position-Some _ es c.in-Some.place [] (sym c.first_other.ensures ∙ c.in-Some.is)).0,
+      length-map es packed,
+      ap length c.all.ensures,
+      entries_count c.args.bytes.now,
+      c.well_formed,
+    )
 
-pub overflow_add-at : goal.overflow_add-at
-overflow_add-at c = omega (arith, c.loop-at.invariant.2)
+pub returns-in-Some : goal.returns-in-Some
+returns-in-Some c = let t = rw (sym c.first_other.ensures ∙ c.in-Some.is) at (place_told packed c.all.result.now) in
+    omega (arith, t, ap first_wrong c.all.ensures)
 
-pub returns-in_default : goal.returns-in_default
-returns-in_default c = let bytes = c.args.bytes.now in
-    judged_wrong bytes c.loop-at.invariant.0 (omega (arith, c.loop-at.invariant.1, entries_count bytes)) (rw c.loop-at.invariant.1 at (sym c.read_entry.ensures ∙ c.in_default.is))
-
-pub loop-at-preserved : goal.loop-at-preserved
-loop-at-preserved c = let bytes = c.args.bytes.now in
-    let next : c.loop-at.at / 3 + 1 ≡ (c.loop-at.at + 3) / 3 = omega arith in
-    (rw next at (judged_pgn bytes c.loop-at.invariant.0 (omega (arith, c.loop-at.invariant.1, entries_count bytes)) (rw c.loop-at.invariant.1 at (sym c.read_entry.ensures ∙ c.in-Pgn.is))), omega (arith, c.loop-at.invariant.1), omega arith)
-
-pub returns : goal.returns
-returns c = judged_all c.loop-at.invariant.0 (omega (arith, c.loop-at.invariant.1, entries_count c.args.bytes.now))
+pub returns-in-None : goal.returns-in-None
+returns-in-None c = let t = rw (sym c.first_other.ensures ∙ c.in-None.is) at (place_told packed c.all.result.now) in
+    t ∙ ap first_wrong c.all.ensures

@@ -6,8 +6,8 @@ use Rattle.filter.proofs.ask_named.Goals as goal
 pub returns-then-is_permanent : goal.returns-then-is_permanent
 returns-then-is_permanent c = ask_permanent (sym c.is_permanent.ensures ∙ c.if-is_permanent.true)
 
-pub returns-then-probes-ge-FOUND : goal.returns-then-probes-ge-FOUND
-returns-then-probes-ge-FOUND c = ask_found _ _ (sym c.is_permanent.ensures ∙ c.if-is_permanent.false) c.probe-probes.ensures _ c.if-probes-ge-FOUND.true c.by_list.ensures
+pub returns-then-plain : goal.returns-then-plain
+returns-then-plain c = ask_found _ _ (sym c.is_permanent.ensures ∙ c.if-is_permanent.false) c.probe-plain.ensures c.if-plain.true c.by_list.ensures
 
 pub returns : goal.returns
-returns c = ask_names _ _ (sym c.is_permanent.ensures ∙ c.if-is_permanent.false) c.probe-probes.ensures c.if-probes-ge-FOUND.false c.requires.1 c.search-names.ensures c.by_list-2.ensures
+returns c = ask_names _ _ (sym c.is_permanent.ensures ∙ c.if-is_permanent.false) c.probe-plain.ensures c.if-plain.false c.requires.1 c.search-names.ensures c.by_list-2.ensures

@@ -1,7 +1,6 @@
 use borrow.Author.Tests.{lt-ltb, le-ltb, eq-eqb, ne_eqb}
 use Rattle.filter.specs.Filter.{filter_of}
 use Rattle.filter.proofs.Meaning.{reported_test}
-use Rattle.filter.proofs.reported_mode.Lts as lts
 use Rattle.filter.proofs.reported_mode.Goals as goal
 
 pub returns-then-mode-eq-PASS : goal.returns-then-mode-eq-PASS

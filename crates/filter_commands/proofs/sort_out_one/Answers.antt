@@ -6,5 +6,5 @@ use Rattle.filter_commands.proofs.sort_out_one.Goals as goal
 
 pub returns : goal.returns
 returns c = let long = c.requires.0 in
-    let l = c.close_up-kept.auto.list ∙ sorted_long c.args.block.now long in
-    taken_out _ _ _ _ long l (c.fit.auto.list ∙ part_long c.args.block.now c.close_up-kept.new.list long l) c.close_up-kept.ensures c.fit.ensures
+    let l = c.remove-kept.auto.list ∙ sorted_long c.args.block.now long in
+    taken_out _ _ _ _ long l (c.fit.auto.list ∙ part_long c.args.block.now c.remove-kept.new.list long l) c.remove-kept.ensures c.fit.ensures

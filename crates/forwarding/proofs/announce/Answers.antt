@@ -2,8 +2,8 @@
 use Rattle.forwarding.proofs.Loop.{told_nothing}
 use Rattle.forwarding.proofs.announce.Goals as goal
 
-pub returns-in-Nothing : goal.returns-in-Nothing
-returns-in-Nothing c = told_nothing c.in-Nothing.is
+pub returns-in-None : goal.returns-in-None
+returns-in-None c = told_nothing c.in-None.is
 
-pub returns-in-One : goal.returns-in-One
-returns-in-One c = rw c.in-One.is c.join_all.ensures
+pub returns-in-Some : goal.returns-in-Some
+returns-in-Some c = rw c.in-Some.is c.join_all.ensures

@@ -1,17 +1,18 @@
 -- `forwarding::carry` meets its contract, by the way that the code went. Assumes nothing.
-use mathlib.Core.Bool.{true, false}
-use mathlib.Core.Path.{sym, ◌∙◌}
 use Rattle.forwarding.proofs.Sends.{carried_stopped, carried}
+use Rattle.std.proofs.Common.{true, false, sym, ◌∙◌}
+use Rattle.forwarding.proofs.carry.Goals.{then-not-crosses, else-not-crosses+then-join_row, else-not-crosses+else-join_row}
 use Rattle.forwarding.proofs.carry.Goals as goal
-
-pub returns-then-waits : goal.returns-then-waits
-returns-then-waits c = λ ports more.
-    carried c.number-reason.ensures c.requires.1 true (sym c.crosses.ensures ∙ c.if-crosses.true) c.if-waits.true (c.join_row-waits.ensures ports more)
-
-pub returns-then-crosses : goal.returns-then-crosses
-returns-then-crosses c = λ ports more.
-    carried c.number-reason.ensures c.requires.1 false (sym c.crosses.ensures ∙ c.if-crosses.true) c.if-waits.false (c.join_row-waits.ensures ports more)
 
 pub returns : goal.returns
 returns c = λ ports more.
-    carried_stopped c.number-reason.ensures c.requires.1 (sym c.crosses.ensures ∙ c.if-crosses.false)
+    let asked = sym c.crosses.ensures in
+    elim c.if-not-crosses.branch [
+      | then-not-crosses w ↦ rw (w.words-is, w.came-is) (carried_stopped c.number.ensures c.requires.1 (asked ∙ w.if-not-crosses.true))
+      | else-not-crosses+then-join_row w ↦
+          rw (w.words-is, w.came-is)
+          (carried c.number.ensures c.requires.1 true (asked ∙ w.if-not-crosses.false) w.if-join_row.true (w.join_row.ensures ports more))
+      | else-not-crosses+else-join_row w ↦
+          rw (w.words-is, w.came-is)
+          (carried c.number.ensures c.requires.1 false (asked ∙ w.if-not-crosses.false) w.if-join_row.false (w.join_row.ensures ports more))
+    ]

@@ -1,6 +1,5 @@
 -- `frame_parts::announce` meets its contract, by the way that the code went. Assumes nothing.
-use mathlib.Core.Path.{sym, ◌∙◌}
-use native.Mathlib.Omega.{arith}
+use Rattle.std.proofs.Common.{arith, sym, ◌∙◌}
 use Rattle.frame_parts.proofs.Laws.{announce_short, announced}
 use Rattle.frame_parts.proofs.announce.Goals as goal
 

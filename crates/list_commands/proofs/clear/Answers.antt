@@ -2,4 +2,4 @@
 use Rattle.list_commands.proofs.clear.Goals as goal
 
 pub returns : goal.returns
-returns c = c.clear_each.ensures _ _ c.pairs_named-named.ensures.0
+returns c = rw c.pairs_named.ensures.1 at (c.clear.ensures c.args.from c.args.to c.pairs_named.ensures.0)

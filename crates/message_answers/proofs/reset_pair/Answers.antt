@@ -3,5 +3,4 @@ use Rattle.message_answers.proofs.Replies.{reset_told}
 use Rattle.message_answers.proofs.reset_pair.Goals as goal
 
 pub returns : goal.returns
-returns c = let args = c.args in
-    reset_told _ args.requester args.payload.now (rw c.pair_at-counter.ensures.0 at c.reset_losses.ensures) (rw c.nothing_told.ensures at c.tell.ensures)
+returns c = reset_told _ c.args.requester c.args.payload.now (rw c.pair_at-counter.ensures.0 at c.reset_losses.ensures) c.acknowledge.ensures

@@ -1,7 +1,8 @@
--- `packets::abort` meets its contract: its eight bytes make that number. Assumes nothing.
-use native.Mathlib.Omega.{arith}
-use Rattle.packets.proofs.Frames.{eight}
+-- `packets::abort` meets its contract: its word is made of those bytes. Assumes nothing.
+use Rattle.std.proofs.Common.{refl, rules}
+use Rattle.packets.specs.Frames.{abort_bytes}
+use Rattle.packets.proofs.Frames.{frame_is}
 use Rattle.packets.proofs.abort.Goals as goal
 
 pub returns : goal.returns
-returns c = eight 0xFF 0x03 0xFF 0xFF 0xFF 0 0xED 0 (omega arith) (omega arith) (omega arith) (omega arith) (omega arith) (omega arith) (omega arith) (omega arith) (omega arith)
+returns c = frame_is abort_bytes refl (search rules) c.from_le_bytes.ensures

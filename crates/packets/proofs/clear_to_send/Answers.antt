@@ -1,7 +1,8 @@
--- `packets::clear_to_send` meets its contract: its eight bytes make that sum. Assumes nothing.
-use native.Mathlib.Omega.{arith}
-use Rattle.packets.proofs.Frames.{eight}
+-- `packets::clear_to_send` meets its contract: its word is made of those bytes. Assumes nothing.
+use Rattle.std.proofs.Common.{refl, rules}
+use Rattle.packets.specs.Frames.{clear_bytes}
+use Rattle.packets.proofs.Frames.{frame_is}
 use Rattle.packets.proofs.clear_to_send.Goals as goal
 
 pub returns : goal.returns
-returns c = eight 0x11 c.args.count c.args.first 0xFF 0xFF 0 0xED 0 (omega arith) (omega arith) (omega arith) (omega arith) (omega arith) (omega arith) (omega arith) (omega arith) (omega arith)
+returns c = frame_is (clear_bytes c.args.count c.args.first) refl (search rules) c.from_le_bytes.ensures

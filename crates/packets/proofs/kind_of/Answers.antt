@@ -1,40 +1,44 @@
--- `packets::kind_of` meets its contract: a byte of a word is a remainder of a quotient. Assumes nothing.
-use Prim.Native.Nat.{◌/◌, ◌%◌}
-use mathlib.Core.Path.{◌≡◌}
-use native.Mathlib.Omega.{arith}
-use borrow.Author.Tests.{eq-eqb, ne_eqb}
-use Rattle.packets.proofs.Frames.{kind_word}
+-- `packets::kind_of` meets its contract: what it is about, then the first byte. Assumes nothing.
+use Rattle.std.proofs.Common.{◌≡◌, sym, ◌+◌, ◌*◌, get_or, arith}
+use borrow.Author.Tests.{ne_eqb}
+use Rattle.packets.proofs.Frames.{kind_about, kind_other}
 use Rattle.packets.proofs.kind_of.Goals as goal
 
-pub returns-then-word-ne-ABOUT : goal.returns-then-word-ne-ABOUT
-returns-then-word-ne-ABOUT c = let w = c.args.word in
-    rw (kind_word w (omega arith), ne_eqb (w / 1099511627776) 60672 (λ z. omega arith))
+pub returns-then-about-ne-ABOUT : goal.returns-then-about-ne-ABOUT
+returns-then-about-ne-ABOUT c = sym (kind_other c.args.word (omega arith) (λ z. omega arith))
 
-pub returns-then-first-eq16 : goal.returns-then-first-eq16
-returns-then-first-eq16 c = let w = c.args.word in
-    let about : w / 1099511627776 ≡ 60672 = omega arith in
-    let first : w % 256 ≡ 16 = omega arith in
-    rw (kind_word w (omega arith), eq-eqb (w / 1099511627776) 60672 about, eq-eqb (w % 256) 16 first)
+pub returns-in-16 : goal.returns-in-16
+returns-in-16 c =
+    let bytes = c.to_le_bytes.result in
+    let first : get_or bytes 0 0 ≡ 16 = omega arith in
+    let size : c.from_le_bytes.result ≡ get_or bytes 1 0 + 256 * get_or bytes 2 0 = omega arith in
+    rw (size, kind_about c.args.word bytes (omega arith) c.to_le_bytes.ensures (omega arith), first)
 
-pub returns-then-first-eq17 : goal.returns-then-first-eq17
-returns-then-first-eq17 c = let w = c.args.word in
-    let about : w / 1099511627776 ≡ 60672 = omega arith in
-    let first : w % 256 ≡ 17 = omega arith in
-    rw (kind_word w (omega arith), eq-eqb (w / 1099511627776) 60672 about, ne_eqb (w % 256) 16 (λ z. omega arith), eq-eqb (w % 256) 17 first)
+pub returns-in-17 : goal.returns-in-17
+returns-in-17 c =
+    let bytes = c.to_le_bytes.result in
+    let first : get_or bytes 0 0 ≡ 17 = omega arith in
+    rw (kind_about c.args.word bytes (omega arith) c.to_le_bytes.ensures (omega arith), first)
 
-pub returns-then-first-eq19 : goal.returns-then-first-eq19
-returns-then-first-eq19 c = let w = c.args.word in
-    let about : w / 1099511627776 ≡ 60672 = omega arith in
-    let first : w % 256 ≡ 19 = omega arith in
-    rw (kind_word w (omega arith), eq-eqb (w / 1099511627776) 60672 about, ne_eqb (w % 256) 16 (λ z. omega arith), ne_eqb (w % 256) 17 (λ z. omega arith), eq-eqb (w % 256) 19 first)
+pub returns-in-19 : goal.returns-in-19
+returns-in-19 c =
+    let bytes = c.to_le_bytes.result in
+    let first : get_or bytes 0 0 ≡ 19 = omega arith in
+    rw (kind_about c.args.word bytes (omega arith) c.to_le_bytes.ensures (omega arith), first)
 
-pub returns-then-first-eq255 : goal.returns-then-first-eq255
-returns-then-first-eq255 c = let w = c.args.word in
-    let about : w / 1099511627776 ≡ 60672 = omega arith in
-    let first : w % 256 ≡ 255 = omega arith in
-    rw (kind_word w (omega arith), eq-eqb (w / 1099511627776) 60672 about, ne_eqb (w % 256) 16 (λ z. omega arith), ne_eqb (w % 256) 17 (λ z. omega arith), ne_eqb (w % 256) 19 (λ z. omega arith), eq-eqb (w % 256) 255 first)
+pub returns-in-255 : goal.returns-in-255
+returns-in-255 c =
+    let bytes = c.to_le_bytes.result in
+    let first : get_or bytes 0 0 ≡ 255 = omega arith in
+    rw (kind_about c.args.word bytes (omega arith) c.to_le_bytes.ensures (omega arith), first)
 
-pub returns : goal.returns
-returns c = let w = c.args.word in
-    let about : w / 1099511627776 ≡ 60672 = omega arith in
-    rw (kind_word w (omega arith), eq-eqb (w / 1099511627776) 60672 about, ne_eqb (w % 256) 16 (λ z. omega arith), ne_eqb (w % 256) 17 (λ z. omega arith), ne_eqb (w % 256) 19 (λ z. omega arith), ne_eqb (w % 256) 255 (λ z. omega arith))
+pub returns-in_default : goal.returns-in_default
+returns-in_default c =
+    let bytes = c.to_le_bytes.result in
+    rw (
+      kind_about c.args.word bytes (omega arith) c.to_le_bytes.ensures (omega arith),
+      ne_eqb (get_or bytes 0 0) 16 (λ z. omega arith),
+      ne_eqb (get_or bytes 0 0) 17 (λ z. omega arith),
+      ne_eqb (get_or bytes 0 0) 19 (λ z. omega arith),
+      ne_eqb (get_or bytes 0 0) 255 (λ z. omega arith),
+    )

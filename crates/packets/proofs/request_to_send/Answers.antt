@@ -1,8 +1,10 @@
--- `packets::request_to_send` meets its contract: its eight bytes make that sum. Assumes nothing.
-use native.Mathlib.Omega.{arith}
-use Prim.Native.Nat.{◌/◌, ◌%◌}
-use Rattle.packets.proofs.Frames.{eight}
+-- `packets::request_to_send` meets its contract: its word is made of those bytes. Assumes nothing.
+use Rattle.std.proofs.Common.{refl, rules, arith, ◌<◌, ◌/◌}
+use Rattle.packets.specs.Frames.{request_bytes}
+use Rattle.packets.proofs.Frames.{frame_is}
 use Rattle.packets.proofs.request_to_send.Goals as goal
 
 pub returns : goal.returns
-returns c = eight 0x10 (c.args.size % 256) (c.args.size / 256) c.args.packets 0x10 0 0xED 0 (omega arith) (omega arith) (omega arith) (omega arith) (omega arith) (omega arith) (omega arith) (omega arith) (omega arith)
+returns c =
+    let high : c.args.size / 256 < 256 = omega arith in
+    frame_is (request_bytes c.args.size c.args.packets) refl (search rules) (omega (arith, rw c.to_le_bytes.ensures at c.from_le_bytes.ensures))

@@ -1,30 +1,34 @@
--- `pgn_list::find` meets its contract: four at a time are compared, and the rest is searched. Assumes nothing.
-use mathlib.Core.Path.{sym, ◌∙◌}
+-- `pgn_list::find` meets its contract: fours that do not have x are passed over, and the rest is searched. Assumes nothing.
+use mathlib.Core.Path.{◌≡◌, sym, ap, ◌∙◌}
+use mathlib.Core.List.{List}
+use Prim.Native.Nat.{ℕ, ◌-◌, ◌*◌, ◌/◌}
 use native.Mathlib.Omega.{arith}
-use Rattle.pgn_list.proofs.Search.{passed_none, passed_one, passed_two, passed_three, passed_four, found_here}
+use lib.Dec.{eqb}
+use lib.ListN.{length, drop, length-drop}
+use lib.Seq.{take_all}
+use Rattle.std.specs.Prelude.{Option, position, unwrap_or}
+use Rattle.std.specs.List.{list_any}
+use Rattle.std.specs.Simd.{first_chunks}
+use Rattle.pgn_list.proofs.Search.{fours, fours_room, or_all, found_behind, none_behind}
 use Rattle.pgn_list.proofs.find.Goals as goal
 
-pub loop-i-init : goal.loop-i-init
-loop-i-init c = let args = c.args in (passed_none args.list.now args.n args.x, omega arith)
+-- how many are passed over
+passed : (x : ℕ) (list : List ℕ) {fs : List (List ℕ)} {p : Option ℕ} {r : ℕ} → fs ≡ first_chunks 4 (length list / 4) list → p ≡ position (λ four. list_any (λ y. eqb y x) four) fs → r ≡ unwrap_or p (length fs) → 4 * r ≡ 4 * fours x list
+passed x list e h u = ap (λ n. 4 * n) (u ∙ rw (h, e) (or_all (λ four. list_any (λ y. eqb y x) four) (first_chunks 4 (length list / 4) list)))
 
-pub returns-then-list-i : goal.returns-then-list-i
-returns-then-list-i c = let r = found_here _ _ _ c.requires c.loop-i.invariant.0 (omega arith) c.if-list-i.true in
-    record { index = r.0; inside = r.1 }
+pub overflow_mul-passed : goal.overflow_mul-passed
+overflow_mul-passed c = let list = c.args.list.now in
+    omega (arith, passed c.args.x list c.as_chunks.ensures.front c.first_four.ensures c.unwrap_or-passed.ensures, fours_room c.args.x list)
 
-pub returns-then-list-i-2 : goal.returns-then-list-i-2
-returns-then-list-i-2 c = let r = found_here _ _ _ c.requires (passed_one _ _ _ c.requires c.loop-i.invariant.0 (omega arith) c.if-list-i.false) (omega arith) c.if-list-i-2.true in
-    record { index = r.0; inside = r.1 }
-
-pub returns-then-list-i-3 : goal.returns-then-list-i-3
-returns-then-list-i-3 c = let r = found_here _ _ _ c.requires (passed_two _ _ _ c.requires c.loop-i.invariant.0 (omega arith) c.if-list-i.false c.if-list-i-2.false) (omega arith) c.if-list-i-3.true in
-    record { index = r.0; inside = r.1 }
-
-pub returns-then-list-i-4 : goal.returns-then-list-i-4
-returns-then-list-i-4 c = let r = found_here _ _ _ c.requires (passed_three _ _ _ c.requires c.loop-i.invariant.0 (omega arith) c.if-list-i.false c.if-list-i-2.false c.if-list-i-3.false) (omega arith) c.if-list-i-4.true in
-    record { index = r.0; inside = r.1 }
-
-pub loop-i-preserved : goal.loop-i-preserved
-loop-i-preserved c = (passed_four _ _ _ c.requires c.loop-i.invariant.0 (omega arith) c.if-list-i.false c.if-list-i-2.false c.if-list-i-3.false c.if-list-i-4.false, omega arith)
+pub returns-in_err-place : goal.returns-in_err-place
+returns-in_err-place c =
+    let list = c.args.list.now in
+    let e = rw (take_all (length list - 4 * c.unwrap_or-passed.result) (drop (4 * c.unwrap_or-passed.result) list) (simp length-drop (omega arith))) at c.first.ensures in
+    c.from_residual.ensures
+    ∙ none_behind c.args.x list (passed c.args.x list c.as_chunks.ensures.front c.first_four.ensures c.unwrap_or-passed.ensures) (sym e ∙ c.in_err-place.was)
 
 pub returns : goal.returns
-returns c = record { index = c.find_from.ensures.index ∙ sym c.loop-i.invariant.0.value; inside = c.find_from.ensures.inside }
+returns c =
+    let list = c.args.list.now in
+    let e = rw (take_all (length list - 4 * c.unwrap_or-passed.result) (drop (4 * c.unwrap_or-passed.result) list) (simp length-drop (omega arith))) at c.first.ensures in
+    found_behind c.args.x list (passed c.args.x list c.as_chunks.ensures.front c.first_four.ensures c.unwrap_or-passed.ensures) (sym e ∙ c.in_ok-place.was)

@@ -7,19 +7,16 @@ use Rattle.plan_rings.proofs.Unique.{ringless_start, ringless_more, ringed, ring
 use Rattle.plan_rings.proofs.has_ring.Goals as goal
 
 pub loop-link-init : goal.loop-link-init
-loop-link-init c lists = ringless_start c.number.ensures
+loop-link-init c lists = ringless_start c.number-labels.ensures
 
-pub slice_bounds-links_again-end : goal.slice_bounds-links_again-end
-slice_bounds-links_again-end c = sym (c.loop-link.invariant []).labeled.long
+pub links_again-requires : goal.links_again-requires
+links_again-requires c = (omega arith, c.requires.1 c.loop-link.link c.loop-link-test.true, (c.loop-link.invariant []).labeled.fresh)
 
-pub links_again-again-requires : goal.links_again-again-requires
-links_again-again-requires c = (omega arith, c.requires.2 c.loop-link.link c.loop-link-test.true, omega arith, (c.loop-link.invariant []).labeled.long, (c.loop-link.invariant []).labeled.fresh)
-
-pub returns-then-again : goal.returns-then-again
-returns-then-again c lists = ((λ _. ringed (record { few = c.requires.1; in_range = c.requires.2 }) c.loop-link-test.true c.links_again-again.ensures (c.loop-link.invariant lists) c.if-again.true), (λ _. refl))
+pub returns-then-links_again : goal.returns-then-links_again
+returns-then-links_again c lists = ((λ _. ringed (record { few = c.requires.0; in_range = c.requires.1 }) c.loop-link-test.true c.links_again.ensures (c.loop-link.invariant lists) c.if-links_again.true), (λ _. refl))
 
 pub loop-link-preserved : goal.loop-link-preserved
-loop-link-preserved c lists = ringless_more (record { few = c.requires.1; in_range = c.requires.2 }) c.loop-link-test.true c.links_again-again.ensures (c.loop-link.invariant lists) c.if-again.false
+loop-link-preserved c lists = ringless_more (record { few = c.requires.0; in_range = c.requires.1 }) c.loop-link-test.true c.links_again.ensures (c.loop-link.invariant lists) c.if-links_again.false
 
 pub returns : goal.returns
 returns c lists = ((λ e. absurd (true≢false (sym e))), (λ R. absurd (ringless_done (omega arith) (c.loop-link.invariant lists) R)))

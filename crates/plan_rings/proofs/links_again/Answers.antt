@@ -13,7 +13,7 @@ pub returns-then-from-to : goal.returns-then-from-to
 returns-then-from-to c = link_again c.if-segment-eq0.false (sym c.if-from-to.true)
 
 pub returns-then-from-unit : goal.returns-then-from-unit
-returns-then-from-unit c = link_joined c.if-segment-eq0.false (λ e. c.if-from-to.false (sym e)) (relabel_alone (unit_node (c.args.link / 8)) c.requires.3 (omega arith) (omega arith) c.requires.4 refl c.if-from-unit.true)
+returns-then-from-unit c = link_joined c.if-segment-eq0.false (λ e. c.if-from-to.false (sym e)) (relabel_alone (unit_node (c.args.link / 8)) c.told-labels (omega arith) (omega arith) c.requires.2 refl c.if-from-unit.true)
 
-pub returns : goal.returns
-returns c = link_joined c.if-segment-eq0.false (λ e. c.if-from-to.false (sym e)) c.relabel.ensures
+pub returns-else-from-unit : goal.returns-else-from-unit
+returns-else-from-unit c = link_joined c.if-segment-eq0.false (λ e. c.if-from-to.false (sym e)) c.relabel.ensures

@@ -1,11 +1,6 @@
--- `plan_rings::relabel` meets its contract: the places below i are turned, the others as they were. Assumes nothing.
-use Prim.Native.Nat.{◌-◌, ◌≤◌}
-use Rattle.plan_rings.specs.Rings.{nodes}
+-- The labels before the index are turned, the others as they were.
 use Rattle.plan_rings.proofs.Labels.{RelabeledTo}
 use Rattle.plan_rings.proofs.relabel.Given as goal
 
-abbrev pub invariant-loop-i : goal.invariant-loop-i
-invariant-loop-i l = RelabeledTo l.from l.to l.initial.labels l.labels l.i × (l.i ≤ nodes)
-
-abbrev pub decreases-loop-i : goal.decreases-loop-i
-decreases-loop-i l = nodes - l.i
+abbrev pub invariant-loop-label : goal.invariant-loop-label
+invariant-loop-label l = RelabeledTo l.from l.to l.initial.labels l.labels l.label-index

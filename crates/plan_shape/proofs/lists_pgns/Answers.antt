@@ -1,5 +1,6 @@
 -- `plan_shape::lists_pgns` meets its contract: a walk over the list, whose numbers are judged together. Assumes nothing.
 use native.Mathlib.Omega.{arith}
+use borrow.Author.Tests.{le-ltb}
 use Rattle.plan_shape.proofs.Together.{judged_none, judged_on, judged_narrow, judged_wide}
 use Rattle.plan_shape.proofs.lists_pgns.Goals as goal
 
@@ -15,5 +16,5 @@ loop-i-preserved c = judged_on c.loop-i.invariant c.spare_byte-spare.result (ome
 pub returns-then-bits-lt262144 : goal.returns-then-bits-lt262144
 returns-then-bits-lt262144 c = judged_narrow c.loop-i.invariant (omega arith) c.if-bits-lt262144.true
 
-pub returns : goal.returns
-returns c = judged_wide c.loop-i.invariant (omega arith) c.if-bits-lt262144.false
+pub returns-else-bits-lt262144 : goal.returns-else-bits-lt262144
+returns-else-bits-lt262144 c = rw (le-ltb _ _ c.if-bits-lt262144.false) (judged_wide c.loop-i.invariant (omega arith) c.if-bits-lt262144.false)

@@ -1,30 +1,60 @@
 -- `plans::hear` meets its contract: by the way that the code went. Assumes nothing.
-use mathlib.Core.Path.{sym, ◌∙◌}
+use mathlib.Core.Path.{◌≡◌, sym, ◌∙◌}
 use mathlib.Core.Bool.{true, true≢false}
+use borrow.Author.Rules.{rules}
 use Rattle.plan_shape.specs.Plan.{plan_of, in_range}
 use Rattle.plan_shape.proofs.Ranges.{ranged}
-use Rattle.plans.proofs.Answers.{refused_2, refused_28, refused_29, answer, walkable, first_small}
+use Rattle.plans.specs.Plans.{Lent}
+use Rattle.plans.proofs.Answers.{refused_28, refused_29, answer, walkable, first_small}
 use Rattle.plans.proofs.hear.Goals as goal
 
--- `plans::hear` meets its contract: by the way that the code went. Assumes nothing.
-pub returns-then-ports-ne-PORTS_LENGTH : goal.returns-then-ports-ne-PORTS_LENGTH
-returns-then-ports-ne-PORTS_LENGTH c = refused_2 (λ l. c.if-ports-ne-PORTS_LENGTH.true l.0)
+pub returns-then-not-is_in_range : goal.returns-then-not-is_in_range
+returns-then-not-is_in_range c =
+    let args = c.args in
+    let ports : c.in_ok-ports.ports.now ≡ args.ports.now = search rules in
+    let lists : c.in_ok-lists.lists.now ≡ args.lists.now = search rules in
+    let plan = plan_of args.units args.ports.now args.lists.now in
+    let lent : Lent plan = (search rules, search rules) in
+    refused_28 lent (rw (ports, lists) at (sym c.is_in_range.ensures ∙ c.if-not-is_in_range.true))
 
-pub returns-then-lists-ne-LISTS_LENGTH : goal.returns-then-lists-ne-LISTS_LENGTH
-returns-then-lists-ne-LISTS_LENGTH c = refused_2 (λ l. c.if-lists-ne-LISTS_LENGTH.true l.1)
+pub has_ring-requires : goal.has_ring-requires
+has_ring-requires c =
+    let args = c.args in
+    let ports : c.in_ok-ports.ports.now ≡ args.ports.now = search rules in
+    let lists : c.in_ok-lists.lists.now ≡ args.lists.now = search rules in
+    let plan = plan_of args.units args.ports.now args.lists.now in
+    let lent : Lent plan = (search rules, search rules) in
+    let good : in_range args.segments plan args.first args.pgn ≡ true = rw (ports, lists) at (sym c.is_in_range.ensures ∙ c.if-not-is_in_range.false) in
+    let W = walkable (ranged args.segments plan args.first args.pgn good) lent in
+    rw ports (W.few, W.in_range)
 
-pub has_ring-ringed-requires : goal.has_ring-ringed-requires
-has_ring-ringed-requires c = let W = walkable (ranged c.args.segments (plan_of c.args.units c.args.ports.now c.args.lists.now) c.args.first c.args.pgn (sym c.is_in_range-good.ensures ∙ c.if-good.true)) (c.if-ports-ne-PORTS_LENGTH.false, c.if-lists-ne-LISTS_LENGTH.false) in (W.ports, W.few, W.in_range)
+pub returns-then-has_ring : goal.returns-then-has_ring
+returns-then-has_ring c =
+    let args = c.args in
+    let ports : c.in_ok-ports.ports.now ≡ args.ports.now = search rules in
+    let lists : c.in_ok-lists.lists.now ≡ args.lists.now = search rules in
+    let plan = plan_of args.units args.ports.now args.lists.now in
+    let lent : Lent plan = (search rules, search rules) in
+    let good : in_range args.segments plan args.first args.pgn ≡ true = rw (ports, lists) at (sym c.is_in_range.ensures ∙ c.if-not-is_in_range.false) in
+    refused_29 lent good ((rw ports at (c.has_ring.ensures args.lists.now)).0 c.if-has_ring.true)
 
-pub returns-then-ringed : goal.returns-then-ringed
-returns-then-ringed c = refused_29 (c.if-ports-ne-PORTS_LENGTH.false, c.if-lists-ne-LISTS_LENGTH.false) (sym c.is_in_range-good.ensures ∙ c.if-good.true) ((c.has_ring-ringed.ensures (plan_of c.args.units c.args.ports.now c.args.lists.now).lists).0 c.if-ringed.true)
-
-pub hear-heard-requires : goal.hear-heard-requires
-hear-heard-requires c = let first = first_small (ranged c.args.segments (plan_of c.args.units c.args.ports.now c.args.lists.now) c.args.first c.args.pgn (sym c.is_in_range-good.ensures ∙ c.if-good.true)) in
-    (walkable (ranged c.args.segments (plan_of c.args.units c.args.ports.now c.args.lists.now) c.args.first c.args.pgn (sym c.is_in_range-good.ensures ∙ c.if-good.true)) (c.if-ports-ne-PORTS_LENGTH.false, c.if-lists-ne-LISTS_LENGTH.false), first.0, first.1)
-
-pub returns-then-good : goal.returns-then-good
-returns-then-good c = answer (c.if-ports-ne-PORTS_LENGTH.false, c.if-lists-ne-LISTS_LENGTH.false) (sym c.is_in_range-good.ensures ∙ c.if-good.true) (λ ring. true≢false (sym ((c.has_ring-ringed.ensures (plan_of c.args.units c.args.ports.now c.args.lists.now).lists).1 ring) ∙ c.if-ringed.false)) c.hear-heard.ensures
+pub hear-requires : goal.hear-requires
+hear-requires c =
+    let args = c.args in
+    let ports : c.in_ok-ports.ports.now ≡ args.ports.now = search rules in
+    let lists : c.in_ok-lists.lists.now ≡ args.lists.now = search rules in
+    let plan = plan_of args.units args.ports.now args.lists.now in
+    let lent : Lent plan = (search rules, search rules) in
+    let good : in_range args.segments plan args.first args.pgn ≡ true = rw (ports, lists) at (sym c.is_in_range.ensures ∙ c.if-not-is_in_range.false) in
+    let R = ranged args.segments plan args.first args.pgn good in
+    rw (ports, lists) (walkable R lent, (first_small R).0, (first_small R).1)
 
 pub returns : goal.returns
-returns c = refused_28 (c.if-ports-ne-PORTS_LENGTH.false, c.if-lists-ne-LISTS_LENGTH.false) (sym c.is_in_range-good.ensures ∙ c.if-good.false)
+returns c =
+    let args = c.args in
+    let ports : c.in_ok-ports.ports.now ≡ args.ports.now = search rules in
+    let lists : c.in_ok-lists.lists.now ≡ args.lists.now = search rules in
+    let plan = plan_of args.units args.ports.now args.lists.now in
+    let lent : Lent plan = (search rules, search rules) in
+    let good : in_range args.segments plan args.first args.pgn ≡ true = rw (ports, lists) at (sym c.is_in_range.ensures ∙ c.if-not-is_in_range.false) in
+    answer lent good (λ ring. true≢false (sym ((rw ports at (c.has_ring.ensures args.lists.now)).1 ring) ∙ c.if-has_ring.false)) (rw (ports, lists) at c.hear.ensures)

@@ -3,4 +3,4 @@ use Rattle.queue.proofs.Tallies.{counted_in_lem}
 use Rattle.queue.proofs.count_in.Goals as goal
 
 pub returns : goal.returns
-returns c = rw (c.wrapping_add_u64-2.ensures.value, c.wrapping_add_u64.ensures.value) (counted_in_lem c.args.block.now c.args.priority c.requires.0 c.requires.1)
+returns c = counted_in_lem c.args.block.now c.args.priority c.requires.0 c.requires.1

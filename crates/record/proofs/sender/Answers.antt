@@ -7,10 +7,10 @@ use Rattle.record.proofs.sender.Goals as goal
 pub returns-then-address-gt253 : goal.returns-then-address-gt253
 returns-then-address-gt253 c = λ ports. name_past ports c.args.words.now c.args.address (omega arith)
 
-pub returns-in-Free : goal.returns-in-Free
+pub returns-in-None : goal.returns-in-None
 unfolding name_at name_in
-returns-in-Free c = λ ports. rw (← (c.holder.ensures ports), c.in-Free.is)
+returns-in-None c = λ ports. rw (← (c.holder.ensures ports), c.in-None.is)
 
-pub returns-in-Held : goal.returns-in-Held
+pub returns-in-Some : goal.returns-in-Some
 unfolding name_at name_in
-returns-in-Held c = λ ports. rw (← (c.holder.ensures ports), c.in-Held.is)
+returns-in-Some c = λ ports. rw (← (c.holder.ensures ports), c.in-Some.is)

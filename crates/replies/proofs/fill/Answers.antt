@@ -1,20 +1,9 @@
--- `replies::fill` meets its contract. The loop's invariant is `Filling`. Assumes nothing.
-use native.Mathlib.Omega.{arith}
-use Rattle.replies.proofs.Laying.{laid_long}
-use Rattle.replies.proofs.Writing.{filling_none, filling_one, filling_done}
+-- `replies::fill` meets its contract: eight bytes or more stay, fewer are filled. Assumes nothing.
+use Rattle.replies.proofs.Writing.{filled_none, filled_some}
 use Rattle.replies.proofs.fill.Goals as goal
 
-pub loop-at-init : goal.loop-at-init
-loop-at-init c = filling_none c.requires.1
-
-pub bounds-reply-at : goal.bounds-reply-at
-bounds-reply-at c = omega (arith, laid_long c.loop-at.invariant.laid)
-
-pub loop-at-preserved : goal.loop-at-preserved
-loop-at-preserved c = filling_one c.requires.1 c.requires.0 c.loop-at.invariant c.loop-at-test.true
-
-pub shape_of-reply : goal.shape_of-reply
-shape_of-reply c = laid_long c.loop-at.invariant.laid
+pub returns-then-n-ge8 : goal.returns-then-n-ge8
+returns-then-n-ge8 c = filled_none c.args.reply.now c.args.n c.if-n-ge8.true c.requires.1
 
 pub returns : goal.returns
-returns c = filling_done c.requires.1 c.requires.0 c.loop-at.invariant c.loop-at-test.false
+returns c = filled_some c.args.reply.now c.args.n c.if-n-ge8.false c.requires.0 (c.fill.ensures.after (λ y e. e))

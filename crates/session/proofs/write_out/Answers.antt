@@ -1,23 +1,24 @@
--- `session::write_out` meets its contract: whole packets first, then the bytes that are left. Assumes nothing.
-use lib.ListN.{length}
-use Rattle.session.proofs.Bytes.{write_done, message_long}
+-- `session::write_out` meets its contract: the bytes of each packet are stored behind those before them. Assumes nothing.
+use Rattle.std.proofs.Common.{◌≡◌, arith, ◌*◌, min, length}
 use Rattle.session.specs.Session.{session_of, message}
-use mathlib.Core.Path.{◌≡◌, sym, ◌∙◌}
-use native.Mathlib.Omega.{arith}
-use borrow.Author.Rules.{rules}
+use Rattle.session.proofs.Bytes.{message_long, written_none, write_step, write_done}
 use Rattle.session.proofs.write_out.Goals as goal
 
-pub write_full-requires : goal.write_full-requires
-write_full-requires c = let got = c.message_length-n.ensures in
-    let long : c.message_length-n.result ≡ length (message (session_of c.args.block.now)) = got.0 ∙ sym (message_long (session_of c.args.block.now)) in
-    (c.requires.0, omega arith, omega arith, omega arith)
+pub loop-k-init : goal.loop-k-init
+loop-k-init c =
+    let z : min 0 c.min-n.result ≡ 0 = omega arith in
+    rw z (written_none (message (session_of c.args.block.now)) c.args.out.now)
 
-pub write_rest-requires : goal.write_rest-requires
-write_rest-requires c = let got = c.message_length-n.ensures in
-    let long : c.message_length-n.result ≡ length (message (session_of c.args.block.now)) = got.0 ∙ sym (message_long (session_of c.args.block.now)) in
-    (c.requires.0, long, omega arith, omega arith, omega arith)
+pub loop-k-preserved : goal.loop-k-preserved
+loop-k-preserved c =
+    let block = c.args.block.now in
+    let long : c.min-n.result ≡ length (message (session_of block)) = omega (arith, message_long (session_of block)) in
+    write_step block c.loop-k.k c.min-n.result c.min-end.result (omega arith) long (omega arith) c.loop-k-test.true c.min-end.ensures
+    c.to_le_bytes.ensures c.copy_from_slice.ensures.after c.loop-k.invariant
 
 pub returns : goal.returns
-returns c = let got = c.message_length-n.ensures in
-    let long : c.message_length-n.result ≡ length (message (session_of c.args.block.now)) = got.0 ∙ sym (message_long (session_of c.args.block.now)) in
-    write_done c.args.block.now long got.1 (c.write_rest.ensures c.args.out.now (search rules) c.write_full.ensures)
+returns c =
+    let block = c.args.block.now in
+    let long : c.min-n.result ≡ length (message (session_of block)) = omega (arith, message_long (session_of block)) in
+    let end : min (7 * c.loop-k.k) c.min-n.result ≡ c.min-n.result = omega arith in
+    write_done block long (omega arith) (rw end at c.loop-k.invariant)

@@ -4,4 +4,4 @@ use Rattle.sessions.proofs.Talk.{empties}
 use Rattle.sessions.proofs.drop_all.Goals as goal
 
 pub returns : goal.returns
-returns c = empties c.args.words.now (omega arith)
+returns c = empties c.args.port.now (omega arith)

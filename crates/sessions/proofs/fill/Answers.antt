@@ -1,25 +1,16 @@
--- `sessions::fill` meets its contract: the block of a session is lent and comes back with the packets of a message. Assumes nothing.
-use Rattle.sessions.proofs.Talk.{changed, talk_long}
-use Rattle.session.specs.Session.{with_packets}
+-- `sessions::fill` meets its contract: the packets of a message are stored. Assumes nothing.
+use Rattle.std.proofs.Common.{◌≡◌, arith, rules}
 use Rattle.packets.specs.Words.{cut_words}
-use native.Mathlib.Omega.{arith}
-use borrow.Author.Rules.{rules}
+use Rattle.session.specs.Session.{session_of, with_packets}
+use Rattle.sessions.proofs.Talk.{talk_long, changed}
 use Rattle.sessions.proofs.fill.Goals as goal
 
-pub overflow_mul-a : goal.overflow_mul-a
-overflow_mul-a c = omega (arith, talk_long c.args.words.now)
-
-pub overflow_add-a : goal.overflow_add-a
-overflow_add-a c = omega (arith, talk_long c.args.words.now)
-
-pub overflow_add-e : goal.overflow_add-e
-overflow_add-e c = omega (arith, talk_long c.args.words.now)
-
-pub offset_bounds-words-a : goal.offset_bounds-words-a
-offset_bounds-words-a c = omega (arith, talk_long c.args.words.now)
-
-pub slice_bounds-fill-end : goal.slice_bounds-fill-end
-slice_bounds-fill-end c = omega (arith, talk_long c.args.words.now)
+pub change-requires-clause-inside : goal.change-requires-clause-inside
+change-requires-clause-inside c = omega (arith, talk_long c.args.port.now)
 
 pub returns : goal.returns
-returns c = changed c.args.words.now c.args.i c.fill.new.block (with_packets (cut_words c.args.bytes.now)) c.requires.0 c.requires.1 (search rules) c.fill.ensures
+returns c =
+    let L = c.change.ensures in
+    let met = L.changed.met in
+    let e : session_of L.changed.left.now ≡ with_packets (cut_words c.args.bytes.now) (session_of L.changed.shown.now) = search rules in
+    changed (omega arith) L (with_packets (cut_words c.args.bytes.now)) c.requires.0 (rw (L.changed.leaves, L.changed.shows) at e)

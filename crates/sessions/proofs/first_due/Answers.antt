@@ -1,23 +1,17 @@
--- `sessions::first_due` meets its contract: the first block that is at its limit is found, and those before it are not. Assumes nothing.
-use Rattle.sessions.proofs.Search.{passed_none, passed_found, passed_more, passed_all}
-use Rattle.sessions.proofs.Talk.{talk_at}
+-- `sessions::first_due` meets its contract: the first that is at its limit is found. Assumes nothing.
+use Rattle.std.proofs.Common.{rules, tests}
+use Rattle.std.proofs.lemmas.Iterator.{YieldsList-from_slice}
+use Rattle.std.proofs.lemmas.Iterator.Search.{position_from_yields_List}
+use Rattle.session.specs.Session.{session_of, is_due}
 use Rattle.sessions.specs.Sessions.{talk_of}
-use Rattle.session.specs.Session.{is_due}
-use native.Mathlib.Omega.{arith}
-use mathlib.Core.Path.{sym, ap, ◌∙◌}
+use Rattle.sessions.proofs.Search.{place_by, place_if}
 use Rattle.sessions.proofs.first_due.Goals as goal
 
-pub loop-i-init : goal.loop-i-init
-loop-i-init c = (omega arith, passed_none (is_due c.args.time) (talk_of c.args.words.now))
+pub returns-clause-place : goal.returns-clause-place
+returns-clause-place c =
+    place_by (is_due c.args.time) c.open_blocks.result.now c.open_blocks.ensures.value
+    (position_from_yields_List (λ b. is_due c.args.time (session_of b)) _ _ c.position.result c.position.ensures.ran
+    (YieldsList-from_slice c.open_blocks.result.now c.iter.ensures.rest) (λ x b q k. search (rules, tests)))
 
-pub returns-then-is_due : goal.returns-then-is_due
-returns-then-is_due c = let n = c.count-n.ensures.0 in
-    passed_found (is_due c.args.time) (talk_of c.args.words.now) c.loop-i.invariant.1 (omega arith) (ap (is_due c.args.time) (talk_at c.args.words.now c.loop-i.i (omega arith)) ∙ sym c.is_due.ensures ∙ c.if-is_due.true)
-
-pub loop-i-preserved : goal.loop-i-preserved
-loop-i-preserved c = let n = c.count-n.ensures.0 in
-    (omega arith, passed_more (is_due c.args.time) (talk_of c.args.words.now) c.loop-i.invariant.1 (omega arith) (ap (is_due c.args.time) (talk_at c.args.words.now c.loop-i.i (omega arith)) ∙ sym c.is_due.ensures ∙ c.if-is_due.false))
-
-pub returns : goal.returns
-returns c = let n = c.count-n.ensures.0 in
-    n ∙ passed_all (is_due c.args.time) (talk_of c.args.words.now) c.loop-i.invariant.1 (omega arith)
+pub returns-clause-inside : goal.returns-clause-inside
+returns-clause-inside c = rw (returns-clause-place c) (place_if (is_due c.args.time) (talk_of c.args.port.now))

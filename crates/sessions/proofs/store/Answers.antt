@@ -1,24 +1,15 @@
--- `sessions::store` meets its contract: the block of a session is lent and comes back with a packet more. Assumes nothing.
-use Rattle.sessions.proofs.Talk.{changed, talk_long}
-use Rattle.session.specs.Session.{with_packet}
-use native.Mathlib.Omega.{arith}
-use borrow.Author.Rules.{rules}
+-- `sessions::store` meets its contract: a packet is put behind the others. Assumes nothing.
+use Rattle.std.proofs.Common.{◌≡◌, arith, rules}
+use Rattle.session.specs.Session.{session_of, with_packet}
+use Rattle.sessions.proofs.Talk.{talk_long, changed}
 use Rattle.sessions.proofs.store.Goals as goal
 
-pub overflow_mul-a : goal.overflow_mul-a
-overflow_mul-a c = omega (arith, talk_long c.args.words.now)
-
-pub overflow_add-a : goal.overflow_add-a
-overflow_add-a c = omega (arith, talk_long c.args.words.now)
-
-pub overflow_add-e : goal.overflow_add-e
-overflow_add-e c = omega (arith, talk_long c.args.words.now)
-
-pub offset_bounds-words-a : goal.offset_bounds-words-a
-offset_bounds-words-a c = omega (arith, talk_long c.args.words.now)
-
-pub slice_bounds-store-end : goal.slice_bounds-store-end
-slice_bounds-store-end c = omega (arith, talk_long c.args.words.now)
+pub change-requires-clause-inside : goal.change-requires-clause-inside
+change-requires-clause-inside c = omega (arith, talk_long c.args.port.now)
 
 pub returns : goal.returns
-returns c = changed c.args.words.now c.args.i c.store.new.block (with_packet c.args.word) c.requires.0 c.requires.1 (search rules) c.store.ensures
+returns c =
+    let L = c.change.ensures in
+    let met = L.changed.met in
+    let e : session_of L.changed.left.now ≡ with_packet c.args.word (session_of L.changed.shown.now) = search rules in
+    changed (omega arith) L (with_packet c.args.word) c.requires (rw (L.changed.leaves, L.changed.shows) at e)

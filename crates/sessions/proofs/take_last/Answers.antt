@@ -1,18 +1,13 @@
--- `sessions::take_last` meets its contract: a packet more, the message, then the session ends. Assumes nothing.
-use Rattle.sessions.proofs.Steps.{still, takes_last}
-use Rattle.sessions.specs.Sessions.{talk_of}
+-- `sessions::take_last` meets its contract: a packet more, the message written out, the session taken out. Assumes nothing.
+use Rattle.std.proofs.Common.{arith}
 use Rattle.session.specs.Session.{with_packet}
-use native.Mathlib.Omega.{arith}
-use borrow.Author.Rules.{rules}
+use Rattle.sessions.specs.Sessions.{talk_of}
+use Rattle.sessions.proofs.Talk.{lent}
+use Rattle.sessions.proofs.Steps.{still, takes_last}
 use Rattle.sessions.proofs.take_last.Goals as goal
 
-pub write_out-n-requires : goal.write_out-n-requires
-write_out-n-requires c = let long = still (talk_of c.args.words.now) c.args.i (with_packet c.args.word) c.store.ensures in
-    (search rules, omega arith, search rules)
-
-pub close-requires : goal.close-requires
-close-requires c = let long = still (talk_of c.args.words.now) c.args.i (with_packet c.args.word) c.store.ensures in
-    (search rules, omega arith)
-
 pub returns : goal.returns
-returns c = takes_last c.args.words.now c.args.i c.args.word c.requires.1 c.store.ensures c.write_out-n.ensures c.close.ensures
+returns c =
+    let same = still (talk_of c.args.port.now) c.args.i (with_packet c.args.word) c.store.ensures in
+    takes_last c.args.port.now c.store.new.port c.args.i c.args.word c.requires.0 c.store.ensures
+    (lent c.open_blocks.result.now c.args.i c.open_blocks.ensures.value (omega arith)) c.write_out-n.ensures c.close.ensures

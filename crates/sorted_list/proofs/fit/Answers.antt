@@ -1,16 +1,15 @@
--- `sorted_list::fit` meets its contract: from the end of the first n on, one zero after the other. Assumes nothing.
+-- `sorted_list::fit` meets its contract: those that are missing are filled in. Assumes nothing.
 use native.Mathlib.Omega.{arith}
-use Rattle.sorted_list.proofs.Fitting.{filled_none, filled_one, filled_all}
+use mathlib.Core.Path.{ap, ◌∙◌}
+use Prim.Native.Nat.{◌-◌}
+use lib.ListN.{drop, replicate, length-drop}
+use lib.Seq.{length-take-le}
+use Rattle.sorted_list.proofs.Fitting.{fitted_more, fitted_less}
 use Rattle.sorted_list.proofs.fit.Goals as goal
 
-pub loop-i-init : goal.loop-i-init
-loop-i-init c = filled_none c.args.list.now c.args.n
+pub returns-then-n-size : goal.returns-then-n-size
+returns-then-n-size c = let a = c.args in
+    fitted_more a.size a.n a.list.now c.requires.0 _ (omega arith) (c.fill.ensures.after (λ y h. h) ∙ ap (λ k. replicate k 0) (length-take-le (a.size - a.n) (drop a.n a.list.now) (simp length-drop (omega arith))))
 
-pub loop-i-preserved : goal.loop-i-preserved
-loop-i-preserved c = filled_one c.loop-i.invariant (omega arith)
-
-pub shape_of-list : goal.shape_of-list
-shape_of-list c = c.loop-i.invariant.long
-
-pub returns : goal.returns
-returns c = filled_all c.args.size c.requires.0 c.loop-i.invariant (omega arith)
+pub returns-else-n-size : goal.returns-else-n-size
+returns-else-n-size c = let a = c.args in fitted_less a.size a.n a.list.now c.requires.0 (omega arith)

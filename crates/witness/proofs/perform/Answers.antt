@@ -1,39 +1,34 @@
 -- `perform` meets its contract: each kind is its call. Assumes nothing.
-use borrow.Author.Tests.{eq-eqb, ne_eqb}
+use borrow.Author.Tests.{ne_eqb}
 use Rattle.witness.specs.Encoding.{call_from}
 use Rattle.witness.proofs.perform.Goals as goal
 
-pub returns-then-kind-eq0 : goal.returns-then-kind-eq0
+pub returns-in-0 : goal.returns-in-0
 unfolding call_from
-returns-then-kind-eq0 c = let kind = c.args.kind in
-    rw (eq-eqb kind 0 c.if-kind-eq0.true) c.frame.ensures
+returns-in-0 c = rw c.in-0.is c.frame.ensures
 
-pub returns-then-kind-eq1 : goal.returns-then-kind-eq1
+pub returns-in-1 : goal.returns-in-1
 unfolding call_from
-returns-then-kind-eq1 c = let kind = c.args.kind in
-    rw (ne_eqb kind 0 c.if-kind-eq0.false, eq-eqb kind 1 c.if-kind-eq1.true) c.take.ensures
+returns-in-1 c = rw c.in-1.is c.take.ensures
 
-pub returns-then-kind-eq2 : goal.returns-then-kind-eq2
+pub returns-in-2 : goal.returns-in-2
 unfolding call_from
-returns-then-kind-eq2 c = let kind = c.args.kind in
-    rw (ne_eqb kind 0 c.if-kind-eq0.false, ne_eqb kind 1 c.if-kind-eq1.false, eq-eqb kind 2 c.if-kind-eq2.true) c.message.ensures
+returns-in-2 c = rw c.in-2.is c.message.ensures
 
-pub returns-then-kind-eq3 : goal.returns-then-kind-eq3
+pub returns-in-3 : goal.returns-in-3
 unfolding call_from
-returns-then-kind-eq3 c = let kind = c.args.kind in
-    rw (ne_eqb kind 0 c.if-kind-eq0.false, ne_eqb kind 1 c.if-kind-eq1.false, ne_eqb kind 2 c.if-kind-eq2.false, eq-eqb kind 3 c.if-kind-eq3.true) c.start.ensures
+returns-in-3 c = rw c.in-3.is c.start.ensures
 
-pub returns-then-kind-eq5 : goal.returns-then-kind-eq5
+pub returns-in-5 : goal.returns-in-5
 unfolding call_from
-returns-then-kind-eq5 c = let kind = c.args.kind in
-    rw (ne_eqb kind 0 c.if-kind-eq0.false, ne_eqb kind 1 c.if-kind-eq1.false, ne_eqb kind 2 c.if-kind-eq2.false, ne_eqb kind 3 c.if-kind-eq3.false, eq-eqb kind 5 c.if-kind-eq5.true) c.read_unit.ensures
+returns-in-5 c = rw c.in-5.is c.read_unit.ensures
 
-pub returns-then-kind-eq6 : goal.returns-then-kind-eq6
+pub returns-in-6 : goal.returns-in-6
 unfolding call_from
-returns-then-kind-eq6 c = let kind = c.args.kind in
-    rw (ne_eqb kind 0 c.if-kind-eq0.false, ne_eqb kind 1 c.if-kind-eq1.false, ne_eqb kind 2 c.if-kind-eq2.false, ne_eqb kind 3 c.if-kind-eq3.false, ne_eqb kind 5 c.if-kind-eq5.false, eq-eqb kind 6 c.if-kind-eq6.true) c.read_counts.ensures
+returns-in-6 c = rw c.in-6.is c.read_counts.ensures
 
-pub returns : goal.returns
+pub returns-in_default : goal.returns-in_default
 unfolding call_from
-returns c = let kind = c.args.kind in
-    rw (ne_eqb kind 0 c.if-kind-eq0.false, ne_eqb kind 1 c.if-kind-eq1.false, ne_eqb kind 2 c.if-kind-eq2.false, ne_eqb kind 3 c.if-kind-eq3.false, ne_eqb kind 5 c.if-kind-eq5.false, ne_eqb kind 6 c.if-kind-eq6.false) c.quiet.ensures
+returns-in_default c = let kind = c.args.kind in
+    let rest = c.in_default.in_default-own.rest in
+    rw (ne_eqb kind 0 rest.0.0.0.0.0.1, ne_eqb kind 1 rest.0.0.0.0.1, ne_eqb kind 2 rest.0.0.0.1, ne_eqb kind 3 rest.0.0.1, ne_eqb kind 5 rest.0.1, ne_eqb kind 6 rest.1) c.quiet.ensures

@@ -7,7 +7,7 @@ use Rattle.witness.proofs.step.Goals as goal
 pub returns : goal.returns
 unfolding call_of
 returns c = let args = c.args in
-    let end = c.least-end in
-    let start = c.least-start in
+    let end = c.min-end in
+    let start = c.min-start in
     rw (part_is args.bytes.now (get_or args.call.now 3 0) (get_or args.call.now 4 0) start.result end.result end.ensures start.ensures)
     at c.perform.ensures

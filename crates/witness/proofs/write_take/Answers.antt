@@ -2,14 +2,14 @@
 use Rattle.witness.specs.Encoding.{code}
 use Rattle.witness.proofs.write_take.Goals as goal
 
-pub returns-in-Refused : goal.returns-in-Refused
+pub returns-in-Ok-Some : goal.returns-in-Ok-Some
 unfolding code
-returns-in-Refused c = rw c.in-Refused.is c.put.ensures
+returns-in-Ok-Some c = rw (c.in-Ok-Some.is, rw c.in-Ok-Some.is at c.in-Ok-Some.field-0-is) c.put.ensures
 
-pub returns-in-Given : goal.returns-in-Given
+pub returns-in-Ok-None : goal.returns-in-Ok-None
 unfolding code
-returns-in-Given c = rw (c.in-Took.is, c.in-Given.is) c.put-in-Given.ensures
+returns-in-Ok-None c = rw (c.in-Ok-None.is, rw c.in-Ok-None.is at c.in-Ok-None.field-0-is) c.put-in-Ok-None.ensures
 
-pub returns-in-Nothing : goal.returns-in-Nothing
+pub returns-in-Err : goal.returns-in-Err
 unfolding code
-returns-in-Nothing c = rw (c.in-Took.is, c.in-Nothing.is) c.put-in-Nothing.ensures
+returns-in-Err c = rw (c.in-Err.is, ← c.number.ensures) c.put-in-Err.ensures

@@ -2,10 +2,10 @@
 use Rattle.witness.specs.Encoding.{code}
 use Rattle.witness.proofs.write_unit.Goals as goal
 
-pub returns-in-Refused : goal.returns-in-Refused
+pub returns-in-Ok : goal.returns-in-Ok
 unfolding code
-returns-in-Refused c = rw c.in-Refused.is c.put.ensures
+returns-in-Ok c = rw (c.in-Ok.is, ← c.word.ensures) c.put.ensures
 
-pub returns-in-Told : goal.returns-in-Told
+pub returns-in-Err : goal.returns-in-Err
 unfolding code
-returns-in-Told c = rw (c.in-Told.is, ← c.word.ensures) c.put-in-Told.ensures
+returns-in-Err c = rw (c.in-Err.is, ← c.number.ensures) c.put-in-Err.ensures

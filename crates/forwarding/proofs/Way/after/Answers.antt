@@ -9,7 +9,7 @@ unfolding way_after
 returns c = let args = c.args in
     let accepted = add-zero args.self.accepted in
     let lost = add-zero args.self.lost in
-    elim c.match-came.branch [
+    elim c.match-s.branch [
       | in-Stopped w ↦ rw (w.accepted-is, w.lost-is, w.in-Stopped.is, accepted, lost)
       | in-Joined w ↦ rw (w.accepted-is, w.lost-is, w.in-Joined.is, lost)
       | in-Lost w ↦ rw (w.accepted-is, w.lost-is, w.in-Lost.is, accepted)

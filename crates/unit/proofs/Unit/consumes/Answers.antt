@@ -6,6 +6,6 @@ pub returns-then-has_destination : goal.returns-then-has_destination
 unfolding consumes
 returns-then-has_destination c = rw (c.is_own.ensures, c.ps.ensures, ← c.has_destination.ensures, c.if-has_destination.true)
 
-pub returns : goal.returns
+pub returns-else-has_destination : goal.returns-else-has_destination
 unfolding consumes
-returns c = rw (← c.has_destination.ensures, c.if-has_destination.false)
+returns-else-has_destination c = rw (← c.has_destination.ensures, c.if-has_destination.false)

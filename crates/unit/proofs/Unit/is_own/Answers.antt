@@ -6,6 +6,6 @@ pub returns-then-holds_address : goal.returns-then-holds_address
 unfolding is_own
 returns-then-holds_address c = rw (← c.holds_address.ensures, c.if-holds_address.true)
 
-pub returns : goal.returns
+pub returns-else-holds_address : goal.returns-else-holds_address
 unfolding is_own
-returns c = rw (← c.holds_address.ensures, c.if-holds_address.false)
+returns-else-holds_address c = rw (← c.holds_address.ensures, c.if-holds_address.false)

@@ -12,7 +12,7 @@ store_unit-requires c = let e : c.fresh-unit.result.ports ≡ c.count_of-ports.r
     (omega arith, omega (arith, c.count_of-ports.ensures.least), omega (arith, c.count_of-ports.ensures.most))
 
 pub returns-then-ports-count : goal.returns-then-ports-count
-returns-then-ports-count c = powered_with_four c.count_of-ports.ensures.count (c.if-words-record_length.false ∙ c.record_length.ensures) (omega arith) c.wipe.ensures c.fresh-unit.ensures (c.store_unit.ensures _) c.if-ports-count.true
+returns-then-ports-count c = powered_with_four c.count_of-ports.ensures.count (c.if-words-record_length.false ∙ c.record_length.ensures) (omega arith) (c.fill.ensures.after (λ y e. e)) c.fresh-unit.ensures (c.store_unit.ensures _) c.if-ports-count.true
 
 pub returns : goal.returns
-returns c = powered c.count_of-ports.ensures.count (c.if-words-record_length.false ∙ c.record_length.ensures) (omega arith) c.wipe.ensures c.fresh-unit.ensures (c.store_unit.ensures _) c.if-ports-count.false
+returns c = powered c.count_of-ports.ensures.count (c.if-words-record_length.false ∙ c.record_length.ensures) (omega arith) (c.fill.ensures.after (λ y e. e)) c.fresh-unit.ensures (c.store_unit.ensures _) c.if-ports-count.false

@@ -1,8 +1,0 @@
--- `session::peer` meets its contract: a word's remainder. Assumes nothing.
-use Rattle.session.specs.Session.{session_of}
-use borrow.Author.Rules.{rules}
-use Rattle.session.proofs.peer.Goals as goal
-
-pub returns : goal.returns
-unfolding session_of
-returns c = search rules
