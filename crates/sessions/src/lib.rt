@@ -95,14 +95,14 @@ fn change<F: FnOnce(&mut Block)>(port: &mut Port, i: usize, change: F)
 }
 
 // Whether a session goes one way and is with a peer.
-fn is_with(session: &Block, way: Way, peer: u8) -> bool
+fn is_with(session: &Block, way: Way, peer: u64) -> bool
     ensures { result ≡ is_with (word way) peer (session_of session.now) }
 {
-    session::way(session) == Some(way) && session::peer(session) == peer
+    session::way(session) == Some(way) && session::peer(session) as u64 == peer
 }
 
 // The place of the session that goes one way and is with a peer.
-pub fn find(port: &Port, way: Way, peer: u8) -> Option<usize>
+pub fn find(port: &Port, way: Way, peer: u64) -> Option<usize>
     ensures place { result ≡ place_in (is_with (word way) peer) (talk_of port.now) }
     ensures inside { IfSome result (λ i. i < length (talk_of port.now)) }
 {
@@ -243,7 +243,7 @@ fn take_last(port: &mut Port, i: usize, word: u64, out: &mut [u8]) -> usize
 // A data packet from a peer: None where no session is there for it.
 pub fn heard_data(
     port: &mut Port,
-    peer: u8,
+    peer: u64,
     word: u64,
     time: u64,
     out: &mut [u8],
@@ -289,30 +289,30 @@ fn is_right(size: u64, packets: u64) -> bool
 pub fn heard_request(
     port: &mut Port,
     peer: u8,
-    size: u16,
-    packets: u8,
-    limit: u8,
+    size: u64,
+    packets: u64,
+    limit: u64,
     time: u64,
 ) -> Result<u64, Refusal>
     ensures { Requesting port.old port.new (receiving peer (talk_of port.old)) peer size packets limit time result }
 {
-    let first = find(port, Way::Receiving, peer);
+    let first = find(port, Way::Receiving, peer as u64);
     let place = first.unwrap_or(count(port));
     if MOST <= place {
         return Err(Refusal::ManySessions);
     }
-    if !is_right(size as u64, packets as u64) {
+    if !is_right(size, packets) {
         return Err(Refusal::WrongSize);
     }
     drop_at(port, first);
-    let limit = (limit as u64).min(WINDOW);
-    let count = (packets as u64).min(limit);
+    let limit = limit.min(WINDOW);
+    let count = packets.min(limit);
     open(
         port,
         Opening {
             way: Way::Receiving,
             peer,
-            size: size as u64,
+            size,
             through: count,
             limit,
             timer: T2,
@@ -344,14 +344,14 @@ pub fn open_reply(port: &mut Port, peer: u8, bytes: &[u8], time: u64)
 }
 
 // Whether a reply to a peer is refused with 19: four are open, or one is there already replying to that address.
-pub fn is_busy(port: &Port, peer: u8) -> bool
+pub fn is_busy(port: &Port, peer: u64) -> bool
     ensures { result ≡ is_busy peer (talk_of port.now) }
 {
     MOST <= count(port) || find(port, Way::Sending, peer).is_some()
 }
 
 // Ends the session that goes one way and is with a peer, if there is one.
-fn drop_with(port: &mut Port, way: Way, peer: u8)
+fn drop_with(port: &mut Port, way: Way, peer: u64)
     ensures { talk_of port.new ≡ without (word way) peer (talk_of port.old) }
 {
     let place = find(port, way, peer);
@@ -359,14 +359,14 @@ fn drop_with(port: &mut Port, way: Way, peer: u8)
 }
 
 // An end from a peer.
-pub fn heard_end(port: &mut Port, peer: u8)
+pub fn heard_end(port: &mut Port, peer: u64)
     ensures { talk_of port.new ≡ without 2 peer (talk_of port.old) }
 {
     drop_with(port, Way::Sending, peer);
 }
 
 // An abort from a peer: it does not say which way, so that both end.
-pub fn heard_abort(port: &mut Port, peer: u8)
+pub fn heard_abort(port: &mut Port, peer: u64)
     ensures { talk_of port.new ≡ without 2 peer (without 1 peer (talk_of port.old)) }
 {
     drop_with(port, Way::Receiving, peer);
@@ -374,7 +374,7 @@ pub fn heard_abort(port: &mut Port, peer: u8)
 }
 
 // A clear to send from a peer, for so many packets from the one numbered `first` on: what is to be sent, if anything is.
-pub fn heard_clear(port: &mut Port, peer: u8, asked: u64, first: u64, time: u64) -> Option<Window>
+pub fn heard_clear(port: &mut Port, peer: u64, asked: u64, first: u64, time: u64) -> Option<Window>
     ensures { Clearing port.old port.new (sending peer (talk_of port.old)) asked first time result }
 {
     let at = find(port, Way::Sending, peer)?;
