@@ -25,12 +25,12 @@ not_full table e h = lt-leb most_pairs (length table) (omega arith)
 
 -- ---- the first that applies
 module _ (tables : List (List AddressPair)) (port outer inner : ℕ) where
-  outer_wrong : address_count ≤ outer → 32 ≡ refusal_of tables port outer inner
+  pub outer_wrong : address_count ≤ outer → 32 ≡ refusal_of tables port outer inner
   unfolding refusal_of
   outer_wrong h = rw (le-ltb outer address_count h)
 
   module _ (o : outer < address_count) where
-    inner_wrong : address_count ≤ inner → 32 ≡ refusal_of tables port outer inner
+    pub inner_wrong : address_count ≤ inner → 32 ≡ refusal_of tables port outer inner
     unfolding refusal_of
     inner_wrong h = rw (lt-ltb outer address_count o, le-ltb inner address_count h)
 
@@ -72,10 +72,11 @@ module _ (words : List ℕ) (port outer inner : ℕ) (from : 2 ≤ port) (fits :
   own : table_of (tables_of words) port ≡ pairs_of part
   own = table_at words (port - 2) (omega arith)
 
-  pub may_append : (length (pairs_of part) < most_pairs) × (outer < address_count) × (inner < address_count)
+  pub may_append : (length part ≡ pairs_length) × (length (pairs_of part) < most_pairs) × (outer < address_count) × (inner < address_count)
   may_append =
       let n = not_refused (tables_of words) port outer inner free in
       let small = both (ltb outer address_count) (ltb inner address_count) (not-false (ltb outer address_count && ltb inner address_count) n.0) in (
+        part_long,
         leb-false most_pairs (length (pairs_of part)) (rw own at n.2),
         ltb-true outer address_count small.0,
         ltb-true inner address_count small.1,

@@ -11,11 +11,15 @@ use Rattle.old_layout.proofs.Same.{same_answers}
 use Rattle.assurance.specs.Assurance.{Assurance}
 use Rattle.assurance.proofs.Examples.{examples}
 use Rattle.assurance.proofs.Given.{given}
+use Rattle.assurance.proofs.Answered.{answered}
+use Rattle.assurance.proofs.Fixed.{fixed}
 
 pub assurance : Assurance
 assurance = record {
   cited = cited;
   given = given;
+  answered = answered;
+  fixed = fixed;
   demand_1 = demand_1;
   demand_2 = demand_2;
   demand_3 = demand_3;

@@ -12,11 +12,16 @@ use Rattle.loss_counts.specs.LossCounts.{EveryLoss}
 use Rattle.old_layout.specs.Same.{SameAnswers}
 use Rattle.assurance.specs.Examples.{Examples}
 use Rattle.assurance.specs.Given.{Given}
+use Rattle.assurance.specs.Answered.{Answered}
+use Rattle.assurance.specs.Fixed.{Fixed}
 
 pub record Assurance : Type 0 where
   -- the calls that are spoken of are those of the functions' contracts, as the toolchain reads them off the code
   pub cited : Cited
   pub given : Given
+  -- and each was answered with a result, which is fixed by what is told of it
+  pub answered : Answered
+  pub fixed : Fixed
   pub demand_1 : Demand1
   pub demand_2 : Demand2
   -- power-on was called on the words w, whatever they held, with any NAME, preferred address and count of ports, was answered r and left u

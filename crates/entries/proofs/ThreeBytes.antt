@@ -1,23 +1,24 @@
--- Entries, three bytes each: the chunks of three are the entries, and the first that is no PGN. Assumes nothing.
-use mathlib.Core.Path.{◌≡◌, refl, ap}
-use mathlib.Core.Bool.{Bool, true, false, cond, not, ◌||◌}
+-- Entries, three bytes each: the chunks of three are the entries, the one at an index is the number at three times the index, and the first that is no PGN. Assumes nothing.
+use mathlib.Core.Path.{◌≡◌, refl, sym, ap, ◌∙◌}
+use mathlib.Core.Bool.{Bool, true, false, cond, ◌||◌}
 use mathlib.Core.List.{List, [], ◌∷◌}
-use Prim.Native.Nat.{ℕ, suc, ◌+◌, ◌-◌, ◌/◌, ◌≤◌, ◌<◌}
+use Prim.Native.Nat.{ℕ, zero, suc, ◌+◌, ◌-◌, ◌*◌, ◌/◌, ◌≤◌, ◌<◌}
+use native.Mathlib.Nat.{not-suc-le-zero, le_of_suc-le-suc, zero-add, add-suc, suc-add}
+use native.Mathlib.Numerals.{add-one}
 use native.Mathlib.Omega.{arith}
-use borrow.Author.Tests.{le-leb, lt-leb, lt-ltb, le-ltb}
-use lib.Dec.{eqb, ltb}
+use borrow.Author.Tests.{le-leb, lt-leb}
+use lib.Dec.{eqb}
 use lib.ListN.{length, get_or, take, drop, length-drop}
 use lib.Seq.{take_all}
-use Rattle.std.proofs.lemmas.List.{length-map}
-use Rattle.std.specs.Prelude.{Option, None, Some, map, position}
-use Rattle.std.specs.List.{list_any, prefix_len, slice_range}
+use Rattle.std.specs.Prelude.{None, Some, map}
+use Rattle.std.specs.List.{list_any, slice_range}
 use Rattle.std.specs.Simd.{first_chunks}
 use Rattle.std.specs.Int.{w32, from_le_bytes}
 use Rattle.storage.specs.Bytes.{packed}
 use Rattle.storage.proofs.Bytes.{packed_step, packed_none}
+use Rattle.storage.proofs.Walk.{Left, left_all, left_next, left_one, left_none}
 use Rattle.identifier.specs.Identifier.{is_pgn}
 use Rattle.entries.specs.Entries.{three_at, entries_of, entry_at, listed, every, leading, first_wrong}
-use Rattle.entries.proofs.Leading.{leading_every, leading_short}
 
 -- ---- how many, and which
 pub entries_count : (bytes : List ℕ) → length (entries_of bytes) ≡ length bytes / 3
@@ -26,6 +27,16 @@ entries_count [] = refl
 entries_count (a ∷ []) = refl
 entries_count (a ∷ b ∷ []) = refl
 entries_count (a ∷ b ∷ c ∷ bytes) = omega (arith, entries_count bytes)
+
+pub entry_is : (bytes : List ℕ) (i : ℕ) → i < length (entries_of bytes) → get_or (entries_of bytes) i 0 ≡ three_at bytes (3 * i)
+unfolding entries_of
+entry_is [] i h = absurd (not-suc-le-zero h)
+entry_is (a ∷ []) i h = absurd (not-suc-le-zero h)
+entry_is (a ∷ b ∷ []) i h = absurd (not-suc-le-zero h)
+entry_is (a ∷ b ∷ c ∷ bytes) zero h = refl
+entry_is (a ∷ b ∷ c ∷ bytes) (suc i) h =
+    let e : 3 * suc i ≡ suc (suc (suc (3 * i))) = omega arith in
+    entry_is bytes i (le_of_suc-le-suc h) ∙ rw e
 
 pub chunks_are : (bytes : List ℕ) → map packed (first_chunks 3 (length bytes / 3) bytes) ≡ entries_of bytes
 unfolding entries_of
@@ -46,32 +57,6 @@ unfolding listed
 some_listed number x [] = refl
 some_listed number x (e ∷ es) = ap (λ b. eqb (number e) x || b) (some_listed number x es)
 
--- ---- the first that is no PGN
-leading_is : {A : Type 0} (number : A → ℕ) (test : ℕ → Bool) (es : List A) → prefix_len (λ e. not (not (test (number e)))) es ≡ leading test (map number es)
-unfolding leading
-leading_is number test [] = refl
-leading_is number test (e ∷ es) = go (test (number e)) (leading_is number test es)
-  where
-    go : (b : Bool) {m n : ℕ} → m ≡ n → cond (not (not b)) (1 + m) 0 ≡ cond b (suc n) 0
-    go true i = omega arith
-    go false i = refl
-
--- a place's number from 1, 0 where there is none
-abbrev pub number_from_1 : Option ℕ → ℕ
-number_from_1 None = 0
-number_from_1 (Some place) = suc place
-
-pub place_told : {A : Type 0} (number : A → ℕ) (es : List A) → number_from_1 (position (λ e. not (is_pgn (number e))) es) ≡ first_wrong (map number es)
-unfolding first_wrong
-place_told number es = rw (leading_is number is_pgn es) (go (every is_pgn xs) refl)
-  where
-    xs : List ℕ
-    xs = map number es
-
-    go : (b : Bool) → every is_pgn xs ≡ b → number_from_1 (cond (ltb (leading is_pgn xs) (length es)) (Some (leading is_pgn xs)) None) ≡ cond b 0 (suc (leading is_pgn xs))
-    go true e = rw (le-ltb (leading is_pgn xs) (length es) (omega (arith, length-map es number, leading_every is_pgn xs e)))
-    go false e = rw (lt-ltb (leading is_pgn xs) (length es) (omega (arith, length-map es number, leading_short is_pgn xs e)))
-
 -- ---- the reader
 pub entry_short : (bytes : List ℕ) (at : ℕ) → length bytes < at + 3 → None ≡ entry_at bytes at
 unfolding entry_at
@@ -84,3 +69,40 @@ entry_read bytes at b h R e = rw (le-leb (at + 3) (length bytes) h, ← R, e)
 -- the first three bytes of those from `at` on
 pub three_here : (bytes : List ℕ) (at : ℕ) {behind three : List ℕ} → behind ≡ slice_range bytes at (length bytes) → three ≡ take 3 behind → packed three ≡ three_at bytes at
 three_here bytes at e h = rw (h, e, take_all (length bytes - at) (drop at bytes) (simp length-drop (omega arith)))
+
+-- ---- the first that is no PGN: after i PGNs the number v is told by those that are left
+abbrev pub Judged : ℕ → List ℕ → ℕ → Type 0
+Judged v xs i = Left v (λ es. cond (every is_pgn es) 0 (suc (i + leading is_pgn es))) xs i
+
+pub judged_none : (xs : List ℕ) → Judged (first_wrong xs) xs 0
+unfolding first_wrong
+judged_none xs = left_all (rw (zero-add (leading is_pgn xs)))
+
+module _ (bytes : List ℕ) {v i : ℕ} (J : Judged v (entries_of bytes) i) (turn : i < length (entries_of bytes)) where
+  room : 3 * i + 3 ≤ length bytes
+  room = omega (arith, entries_count bytes)
+
+  -- what the reader says of entry i
+  told : (b : Bool) → is_pgn (three_at bytes (3 * i)) ≡ b → entry_at bytes (3 * i) ≡ cond b (Some (three_at bytes (3 * i))) None
+  unfolding entry_at
+  told b e = rw (le-leb (3 * i + 3) (length bytes) room, e)
+
+  pub judged_pgn : {p : ℕ} → entry_at bytes (3 * i) ≡ Some p → Judged v (entries_of bytes) (i + 1)
+  unfolding every leading
+  judged_pgn {p} e = go (is_pgn (three_at bytes (3 * i))) refl
+    where
+      go : (b : Bool) → is_pgn (three_at bytes (3 * i)) ≡ b → Judged v (entries_of bytes) (i + 1)
+      go true is = left_one J turn (rw (entry_is bytes i turn, is, add-suc i (leading is_pgn (drop (i + 1) (entries_of bytes))), add-one i, suc-add i (leading is_pgn (drop (suc i) (entries_of bytes)))))
+      go false is = let w = sym (told false is) ∙ e in let z : ◌≡◌ {A = ℕ} 0 1 = cc in absurd (omega arith)
+
+  pub judged_wrong : entry_at bytes (3 * i) ≡ None → i + 1 ≡ v
+  unfolding every leading
+  judged_wrong e = go (is_pgn (three_at bytes (3 * i))) refl
+    where
+      go : (b : Bool) → is_pgn (three_at bytes (3 * i)) ≡ b → i + 1 ≡ v
+      go true is = let w = sym (told true is) ∙ e in let z : ◌≡◌ {A = ℕ} 0 1 = cc in absurd (omega arith)
+      go false is = sym (left_next J turn ∙ rw (entry_is bytes i turn, is) (omega arith))
+
+pub judged_all : {xs : List ℕ} {v i : ℕ} → Judged v xs i → length xs ≤ i → 0 ≡ v
+unfolding every
+judged_all J done = sym (left_none J done)

@@ -1,10 +1,9 @@
 // The entries of a command, three bytes to a PGN, least significant first.
 #![tactic(auto)]
 
-ghost use Rattle.std.specs.Prelude.{◌≡◌, ◌^◌, ◌<◌, ◌==◌, not, length, get_or, map, position};
+ghost use Rattle.std.specs.Prelude.{◌≡◌, ◌^◌, ◌<◌, ◌==◌, length, get_or, map};
 ghost use Rattle.std.specs.List.{list_any};
 ghost use Rattle.storage.specs.Bytes.{packed};
-ghost use Rattle.identifier.specs.Identifier.{is_pgn};
 ghost use Rattle.entries.specs.Entries.{listed, entries_of, entry_at, whole, first_wrong};
 
 // The bytes of an entry.
@@ -59,23 +58,16 @@ pub fn is_whole(bytes: &[u8]) -> bool
     bytes.len() % ENTRY_SIZE == 0
 }
 
-// The place of the first that is no PGN.
-fn first_other(entries: &[[u8; ENTRY_SIZE]]) -> Option<usize>
-    ensures { result ≡ position (λ entry. not (is_pgn (packed entry))) entries.now }
-{
-    entries
-        .iter()
-        .position(|entry| !identifier::is_pgn(number(entry)))
-}
-
 // The number from 1 of the first entry that is no PGN, or 0, as 22's answer tells it: `first_wrong` of the specs.
 pub fn first_wrong(bytes: &[u8]) -> usize
     ensures { result ≡ first_wrong (entries_of bytes.now) }
 {
-    match first_other(all(bytes)) {
-        Some(place) => place + 1,
-        None => 0,
+    for place in 0..count(bytes) {
+        let Some(_) = read_entry(bytes, ENTRY_SIZE * place) else {
+            return place + 1;
+        };
     }
+    0
 }
 
 // Whether one of the entries is x.

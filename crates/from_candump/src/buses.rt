@@ -101,9 +101,10 @@ impl Buses {
                 time
             };
             for _ in 0..DEPTH {
-                if bus.send(frame, limit) {
-                    records.push(&[2, q]);
+                if !bus.send(frame, limit) {
+                    break;
                 }
+                records.push(&[2, q]);
             }
         }
     }

@@ -1,4 +1,4 @@
-// A line that is made, piece by piece, and then printed. What has no room is left out.
+// A line that is made, piece by piece, and then printed; the next is made in the same place. What has no room is left out.
 ghost use Rattle.std.specs.Prelude.{◌≡◌, ◌≤◌, ◌++◌, ℕ, List, [], take};
 ghost use Rattle.line_parts.specs.declared.made.TheConstants.{ROOM};
 
@@ -33,12 +33,6 @@ impl Line {
         }
     }
 
-    pub fn of<D: fmt::Display + Drop>(text: D) -> Line {
-        let mut line = Line::new();
-        line.put(text);
-        line
-    }
-
     pub fn bytes(&self) -> &[u8]
         ensures { result.now ≡ self.now }
     {
@@ -61,15 +55,21 @@ impl Line {
 
     // Blanks up to a column.
     pub fn pad(&mut self, column: usize) {
-        for _ in self.len..column {
-            self.push(b" ");
+        let width = column.min(ROOM);
+        if self.len < width {
+            self.bytes[self.len..width].fill(b' ');
+            self.len = width;
         }
     }
 
-    // The line, ended, on standard output.
-    pub fn print(mut self, rt: &impl Print) -> io::Result<()> {
+    // The line, ended, on standard output. The next begins without it.
+    pub fn print(&mut self, rt: &impl Print) -> io::Result<()>
+        ensures { self.new ≡ [] }
+    {
         self.push(b"\n");
-        rt.write_all(self.bytes())
+        let printed = rt.write_all(self.bytes());
+        self.len = 0;
+        printed
     }
 }
 

@@ -1,6 +1,6 @@
 // Lines of an input, read one after the other into one buffer. Blanks before a line and a byte-order mark before the first are passed over.
-ghost use Rattle.std.specs.Prelude.{◌≤◌, ◌<◌};
-ghost use Rattle.line_parts.specs.declared.read.TheConstants.{BLOCK, ROOM};
+ghost use Rattle.std.specs.Prelude.{◌≤◌};
+ghost use Rattle.line_parts.specs.declared.read.TheConstants.{ROOM};
 
 use crate::words;
 use std::io;
@@ -13,43 +13,6 @@ const ROOM: usize = LONGEST + 1;
 
 // The bytes of a read.
 const BLOCK: usize = 65536;
-
-// The bytes of an input.
-#[derive(Drop)]
-struct Bytes {
-    block: [u8; BLOCK],
-    next: usize,
-    end: usize,
-    is_over: bool,
-    ghost in_range: { (next ≤ end) × (end ≤ BLOCK) },
-}
-
-impl Bytes {
-    fn new() -> Bytes {
-        Bytes {
-            block: [0; BLOCK],
-            next: 0,
-            end: 0,
-            is_over: false,
-        }
-    }
-
-    // One more, if there is one; the input is not read again behind its end.
-    fn next<R: Read>(&mut self, input: &mut R) -> io::Result<Option<u8>> {
-        if self.next == self.end && !self.is_over {
-            self.next = 0;
-            self.end = 0;
-            self.end = input.read(&mut self.block)?;
-            self.is_over = self.end == 0;
-        }
-        if self.is_over {
-            return Ok(None);
-        }
-        let byte = self.block[self.next];
-        self.next += 1;
-        Ok(Some(byte))
-    }
-}
 
 // A line as far as it is read.
 #[derive(Drop)]
@@ -73,8 +36,38 @@ impl Begun {
         &self.bytes[..self.len]
     }
 
+    // Bytes more: at once, where none is left out and no mark can stand among them.
+    fn push(&mut self, bytes: &[u8]) {
+        let bytes = if self.len == 0 {
+            words::trim_start(bytes)
+        } else {
+            bytes
+        };
+        if self.is_first || ROOM - self.len < bytes.len() {
+            for byte in bytes {
+                self.push_byte(*byte);
+            }
+            return;
+        }
+        let end = self.len + bytes.len();
+        self.bytes[self.len..end].copy_from_slice(bytes);
+        self.len = end;
+    }
+
+    // The line that ends with these bytes; the next begins behind it. One that lies whole in them is not copied, unless it is the first or has to be cut.
+    fn end<'a>(&'a mut self, bytes: &'a [u8]) -> &'a [u8] {
+        if self.len == 0 && !self.is_first && bytes.len() <= ROOM {
+            return words::trim_end(words::trim_start(bytes));
+        }
+        self.push(bytes);
+        let n = self.len;
+        self.len = 0;
+        self.is_first = false;
+        words::trim_end(&self.bytes[..n])
+    }
+
     // One byte more. One that has no room stands at the line's end, unless it is a blank: so a line that is too long is known by its length.
-    fn push(&mut self, byte: u8) {
+    fn push_byte(&mut self, byte: u8) {
         let is_blank = words::is_blank(byte);
         if self.len == 0 && is_blank {
             return;
@@ -88,43 +81,6 @@ impl Begun {
         if self.is_first && matches!(self.bytes(), b"\xEF\xBB\xBF") {
             self.len = 0;
         }
-    }
-}
-
-#[derive(Drop)]
-struct Lines {
-    bytes: Bytes,
-    begun: Begun,
-}
-
-impl Lines {
-    fn new() -> Lines {
-        Lines {
-            bytes: Bytes::new(),
-            begun: Begun::new(),
-        }
-    }
-
-    // Reads up to the next line's end, or the input's: whether there was a line. The input's last need not be ended.
-    fn read<R: Read>(&mut self, input: &mut R) -> io::Result<bool> {
-        self.begun.len = 0;
-        for _ in 0..u64::MAX {
-            match self.bytes.next(input)? {
-                None => return Ok(0 < self.begun.len),
-                Some(b'\n') => return Ok(true),
-                Some(byte) => self.begun.push(byte),
-            }
-        }
-        Ok(false)
-    }
-
-    // The next line, if there is one.
-    fn next<R: Read>(&mut self, input: &mut R) -> io::Result<Option<&[u8]>> {
-        if !self.read(input)? {
-            return Ok(None);
-        }
-        self.begun.is_first = false;
-        Ok(Some(words::trim_end(self.begun.bytes())))
     }
 }
 
@@ -145,7 +101,7 @@ impl Failure {
     }
 }
 
-// Each line of an input, taken by a function that writes what it makes of it. The turns are counted, to a number that no run comes to: a proved loop has to end,
+// Each line of an input, taken by a function that writes what it makes of it. The reads are counted, to a number that no run comes to: a proved loop has to end,
 // and nothing says that the input does.
 pub fn read_lines<R: Read, F: FnMut(&[u8]) -> io::Result<()>>(
     input: &mut R,
@@ -153,13 +109,25 @@ pub fn read_lines<R: Read, F: FnMut(&[u8]) -> io::Result<()>>(
 ) -> Result<(), Failure>
     requires { F.IsAlwaysCallable take }
 {
-    let mut lines = Lines::new();
+    let mut block = [0u8; BLOCK];
+    let mut begun = Begun::new();
     for _ in 0..u64::MAX {
-        let next = lines.next(input).map_err(Failure::Read)?;
-        let Some(line) = next else {
-            break;
+        let n = input.read(&mut block).map_err(Failure::Read)?;
+        // A last line that is not ended is ended here.
+        let read: &[u8] = if n == 0 && 0 < begun.len {
+            b"\n"
+        } else {
+            &block[..n]
         };
-        take(line).map_err(Failure::Write)?;
+        for piece in read.split_inclusive(|byte| *byte == b'\n') {
+            match piece.split_last() {
+                Some((b'\n', bytes)) => take(begun.end(bytes)).map_err(Failure::Write)?,
+                _ => begun.push(piece),
+            }
+        }
+        if n == 0 {
+            break;
+        }
     }
     Ok(())
 }

@@ -132,7 +132,8 @@ impl Named {
         false
     }
 
-    // Whether a change is refused by the lists, and why.
+    // Whether a change is refused by the lists, and why. Not inlined, else `command` has it twice.
+    #[inline(never)]
     fn check(self, words: &[u64], change: Change, entries: &[u8]) -> Result<(), Refusal>
         requires { length words.now ≡ record_length self.ports }
         ensures { (from to : ℕ) → Naming self.ports from to self.first self.end → number_in result ≡ list_refusal self.ports change (entries_of entries.now) from to (model_of self.ports words.now).rest.pairs }
@@ -175,16 +176,18 @@ impl Named {
         requires { length words.now ≡ record_length self.ports }
         ensures { Seeking (model_of self.ports words.now).rest.pairs (entries_of entries.now) self.first self.end result }
     {
-        for pair in self.first..self.end {
-            for entry in 0..entries::count(entries) {
-                let pgn = entries::entry_at(entries, entry);
-                if !record::lists(words, self.ports, pair, pgn) {
-                    let entry = entry + 1;
-                    return Some(Stop { pair, entry, pgn });
+        'search: {
+            for pair in self.first..self.end {
+                for entry in 0..entries::count(entries) {
+                    let pgn = entries::entry_at(entries, entry);
+                    if !record::lists(words, self.ports, pair, pgn) {
+                        let entry = entry + 1;
+                        break 'search Some(Stop { pair, entry, pgn });
+                    }
                 }
             }
+            None
         }
-        None
     }
 }
 

@@ -87,8 +87,7 @@ pub fn search(block: &[u64], pgn: u64, sender: Option<u64>) -> Searched
 fn is_entry(entry: &[u64; ENTRY_LENGTH], pgn: u64, name: u64, mask: u64) -> bool
     ensures { result ≡ is_same (record { pgn = pgn; name = name; mask = mask }) (entry_at entry.now 0) }
 {
-    let [of, sender, bits] = *entry;
-    of == pgn && sender == name && bits == mask
+    *entry == [pgn, name, mask]
 }
 
 // Whether one of the entries is that of a PGN, a NAME and a mask.

@@ -1,23 +1,33 @@
 // The functions of a network message, each by the number that stands for it in the first byte.
 #![tactic(auto, unfolding(crate::specs::Decoding::is_known, entries::specs::Entries::listed))]
 
-ghost use Rattle.network_message.specs.Functions.{Listed};
+ghost use Rattle.std.specs.Prelude.{◌≡◌};
+ghost use Rattle.network_message.specs.Functions.{Listed, number_of};
 
 use checks::Refusal;
 
 #[derive(Clone, Copy, Debug, PartialEq, Eq)]
 pub enum Function {
-    Request,
-    Add,
-    Delete,
-    Clear,
-    Create,
-    AddByName,
-    AddressList,
-    Parameter,
-    Reset,
-    PairParameter,
-    PairReset,
+    Request = 0,
+    Add = 2,
+    Delete = 3,
+    Clear = 4,
+    Create = 6,
+    AddByName = 7,
+    AddressList = 64,
+    Parameter = 128,
+    Reset = 130,
+    PairParameter = 131,
+    PairReset = 133,
+}
+
+impl Function {
+    // The number that stands for it.
+    pub fn number(self) -> u8
+        ensures { result ≡ number_of self }
+    {
+        self as u8
+    }
 }
 
 impl TryFrom<u8> for Function {

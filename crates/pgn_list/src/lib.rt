@@ -30,7 +30,9 @@ fn first_four(fours: &[[u64; 4]], x: u64) -> Option<usize>
     fours.iter().position(|four| four.contains(&x))
 }
 
-// The place at which x first stands. Fours that do not have it are passed over: one of 32 PGNs is found in 12 ns, where `first` alone takes 22.
+// The place at which x first stands. Fours that do not have it are passed over: one of 32 PGNs is found in 12 ns, where `first` alone takes 22. Not inlined,
+// else the library has it seven times.
+#[inline(never)]
 pub fn find(list: &[u64], x: u64) -> Option<usize>
     ensures { result ≡ position (λ y. y == x) list.now }
 {

@@ -20,12 +20,13 @@ struct Stop {
     reason: Reason,
 }
 
-// A question, and the segments that hear.
+// A question, the segments that hear, and those that a path leads to.
 #[derive(Clone, Copy)]
 struct Answer<'a> {
     draft: &'a Draft,
     question: Question,
     heard: Mask,
+    reached: Mask,
 }
 
 impl<'a> Answer<'a> {
@@ -56,8 +57,11 @@ impl<'a> Answer<'a> {
         })
     }
 
-    // Where it stopped on the way to a segment; nowhere if no path leads there.
+    // Where it stopped on the way to a segment; nowhere if no path leads there, which needs no look at each unit.
     fn find_stop(&self, target: u32) -> Option<Stop> {
+        if !self.reached.has(target) {
+            return None;
+        }
         (1..=self.draft.units.count()).find_map(|unit| self.stop_at(target, unit))
     }
 
@@ -105,21 +109,25 @@ impl<'a> Answer<'a> {
     }
 }
 
-// A question, which is right, and what each segment is told.
-pub fn tell_answer(rt: &impl Print, draft: &Draft, question: Question) -> io::Result<()> {
-    let heard = draft.heard(&draft.ports, draft.units.count(), question);
+// A question, which is right, and what each segment is told, line by line.
+pub fn tell_answer(
+    rt: &impl Print,
+    draft: &Draft,
+    question: Question,
+    out: &mut Line,
+) -> io::Result<()> {
+    let units = draft.units.count();
     let answer = Answer {
         draft,
         question,
-        heard,
+        heard: draft.heard(&draft.ports, units, question),
+        reached: draft.reached(&draft.ports, units, question.first),
     };
-    let mut line = Line::new();
-    answer.tell_question(&mut line);
-    line.print(rt)?;
+    answer.tell_question(out);
+    out.print(rt)?;
     for segment in 1..=draft.segments.count() {
-        let mut line = Line::new();
-        answer.tell_segment(segment, &mut line);
-        line.print(rt)?;
+        answer.tell_segment(segment, out);
+        out.print(rt)?;
     }
     Ok(())
 }

@@ -7,7 +7,7 @@ use native.Mathlib.Decide.{ℕ_discrete}
 use native.Mathlib.Omega.{arith}
 use borrow.Author.Tests.{leb-true, eqb-true, eq-eqb, ne_eqb, not-true}
 use lib.ListN.{length, get_or, set, take, drop, replicate, length-set, length-replicate}
-use lib.Seq.{get_or-set_same, get_or-set_other, take-suc}
+use lib.Seq.{get_or-set_same, get_or-set_other, take-suc, take-length}
 use native.Mathlib.Numerals.{add-one}
 use lib.Dec.{leb, eqb}
 use Rattle.checks.proofs.Tests.{both, neither}
@@ -182,6 +182,9 @@ module _ (segments units : ℕ) where
   pub refused_all : (ports : List ℕ) (links : List Link) (i : ℕ) → put_all segments units ports (take i links) ≡ None → put_all segments units ports links ≡ None
   refused_all ports links i e =
       ap (put_all segments units ports) (sym (take-append-drop i links)) ∙ put_parts ports (take i links) (drop i links) ∙ rw e
+
+pub put_whole : (segments units : ℕ) (ports : List ℕ) (links : List Link) → put_all segments units ports (take (length links) links) ≡ put_all segments units ports links
+put_whole segments units ports links = rw (take-length links)
 
 -- ---- what a plan by its links is answered with
 module _ {segments units : ℕ} {links : List Link} {lists : List ℕ} {first pgn : ℕ} where

@@ -7,32 +7,29 @@ use plan_text::Finding;
 use std::io;
 use std::io::Read;
 
-// A plan as far as its text is read, the lines, and those of them that were wrong.
+// A plan as far as its text is read, the lines, those of them that were wrong, and the line that is written.
 #[derive(Drop)]
 struct Reading {
     draft: Draft,
     lines: u32,
     wrong: u32,
+    out: Line,
 }
 
 impl Reading {
     // Why the line that was read last is wrong.
     fn tell_wrong(&mut self, rt: &impl Print, line: &[u8], found: Finding) -> io::Result<()> {
-        let mut out = Line::new();
-        self.write_wrong(line, found, &mut out);
+        let number = self.lines;
+        self.out.put(format_args!("? line {number}: "));
+        found.tell_word(line, &mut self.out);
+        plan_answers::tell_wrong(&self.draft, found.wrong, &mut self.out);
         self.wrong = self.wrong.saturating_add(1);
         self.draft.take_wrong(line);
-        out.print(rt)
+        self.out.print(rt)
     }
 
-    fn write_wrong(&self, line: &[u8], found: Finding, out: &mut Line) {
-        let number = self.lines;
-        out.put(format_args!("? line {number}: "));
-        found.tell_word(line, out);
-        plan_answers::tell_wrong(&self.draft, found.wrong, out);
-    }
-
-    // A line that is not passed over: it is taken into the plan. A question is answered unless a line above is wrong.
+    // A line that is not passed over: it is taken into the plan. A question is answered unless a line above is wrong. Apart, so that a line that is passed over costs little.
+    #[inline(never)]
     fn judge(&mut self, rt: &impl Print, line: &[u8]) -> io::Result<()> {
         let taken = match plan_text::parse(line) {
             Ok(said) => self.draft.take(said),
@@ -40,7 +37,7 @@ impl Reading {
         };
         match taken {
             Ok(Some(question)) if self.wrong == 0 => {
-                plan_answers::tell_answer(rt, &self.draft, question)
+                plan_answers::tell_answer(rt, &self.draft, question, &mut self.out)
             }
             Ok(_) => Ok(()),
             Err(found) => self.tell_wrong(rt, line, found),
@@ -57,8 +54,8 @@ impl Reading {
     }
 
     // How much there was, or how many lines were wrong.
-    fn tell_end(&self, rt: &impl Print) -> io::Result<()> {
-        let mut out = Line::new();
+    fn tell_end(&mut self, rt: &impl Print) -> io::Result<()> {
+        let out = &mut self.out;
         let wrong = self.wrong;
         let segments = self.draft.segments.count();
         let units = self.draft.units.count();
@@ -83,6 +80,7 @@ pub fn answer(rt: &(impl Print + Eprint), input: &mut impl Read) -> u32 {
         draft: Draft::new(),
         lines: 0,
         wrong: 0,
+        out: Line::new(),
     };
     if let Err(failure) = reading.read(rt, input) {
         failure.tell(rt, "plan", "the plan");

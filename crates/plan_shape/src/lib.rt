@@ -55,8 +55,9 @@ fn lists_pgns(block: &[u64; BLOCK_SIZE]) -> bool
     bits < 262144 && spare == 0
 }
 
-// Whether a pair's numbers are in range.
+// Whether a pair's numbers are in range. Not inlined, else `are_judged` has its loop once for each pair: 8 KB of code.
 #[tactic(auto, unfolding(crate::specs::Plan::pair_in_range))]
+#[inline(never)]
 fn is_pair(block: &[u64; BLOCK_SIZE]) -> bool
     ensures { result ≡ pair_in_range block.now }
 {

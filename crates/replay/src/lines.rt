@@ -8,12 +8,13 @@ use std::io;
 // Where an answer stands beside its call.
 const COLUMN: usize = 36;
 
-// A script as far as it is read; where `is_plain`, answers stand alone, without their calls.
+// A script as far as it is read, and the line that is written; where `is_plain`, answers stand alone, without their calls.
 #[derive(Drop)]
 pub struct Script {
     pub run: Run,
     is_plain: bool,
     lines: u64,
+    out: Line,
 }
 
 // A line as it is, as much as a call can have.
@@ -28,6 +29,7 @@ impl Script {
             run: Run::new(),
             is_plain,
             lines: 0,
+            out: Line::new(),
         }
     }
 
@@ -41,44 +43,43 @@ impl Script {
     }
 
     // A call's answer, or why the line is none.
-    fn answer(&mut self, line: &[u8], out: &mut Line) -> Result<(), u32> {
+    fn answer(&mut self, line: &[u8]) -> Result<(), u32> {
         match self.parse(line) {
-            Ok(call) => self.run.make(call, out),
+            Ok(call) => self.run.make(call, &mut self.out),
             Err(wrong) => {
                 self.run.tally.no_call();
                 let number = self.lines;
-                out.put(format_args!("? line {number}: {wrong}"));
+                self.out.put(format_args!("? line {number}: {wrong}"));
                 Ok(())
             }
         }
     }
 
     // A call, its answer, and the words of a refusal.
-    fn tell(&mut self, line: &[u8], out: &mut Line) {
+    fn tell(&mut self, line: &[u8]) {
         if self.is_plain {
-            let _ = self.answer(line, out);
+            let _ = self.answer(line);
             return;
         }
-        out.push(shown(line));
-        out.pad(COLUMN);
-        out.push(b"  ");
-        if let Err(number) = self.answer(line, out) {
+        self.out.push(shown(line));
+        self.out.pad(COLUMN);
+        self.out.push(b"  ");
+        if let Err(number) = self.answer(line) {
             let words = refusal(number);
-            out.put(format_args!("  ({number} {words})"));
+            self.out.put(format_args!("  ({number} {words})"));
         }
     }
 
     // A line without blanks at its ends. One that is passed over stands as it is, unless answers stand alone.
     pub fn take(&mut self, rt: &impl Print, line: &[u8]) -> io::Result<()> {
         self.lines = self.lines.saturating_add(1);
-        let mut out = Line::new();
         if !words::is_passed_over(line) {
-            self.tell(line, &mut out);
+            self.tell(line);
         } else if self.is_plain {
             return Ok(());
         } else {
-            out.push(shown(line));
+            self.out.push(shown(line));
         }
-        out.print(rt)
+        self.out.print(rt)
     }
 }

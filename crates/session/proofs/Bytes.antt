@@ -53,7 +53,7 @@ within a j n xs h =
     ∙ ap {A = List ℕ} (λ ys. take j ys) (drop-take a (n - a) xs)
     ∙ take-take j (n - a) (drop a xs) (omega arith)
 
-message_part : (block : List ℕ) (k j : ℕ) → length block ≡ block_length → 0 < j → j ≤ 7 → 7 * k + j ≤ length (message (session_of block))
+pub message_part : (block : List ℕ) (k j : ℕ) → length block ≡ block_length → 0 < j → j ≤ 7 → 7 * k + j ≤ length (message (session_of block))
     → take j (drop (7 * k) (message (session_of block))) ≡ take j (drop 1 (bytes_of 8 (get_or block (8 + k) 0)))
 unfolding message session_of
 message_part block k j l some few h =

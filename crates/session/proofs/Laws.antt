@@ -3,11 +3,15 @@ use mathlib.Core.Path.{◌≡◌, refl, sym, ap, ◌∙◌}
 use mathlib.Core.List.{List, [], ◌∷◌, ◌++◌}
 use Prim.Native.Nat.{ℕ, suc, ◌+◌, ◌-◌, ◌%◌, ◌≤◌, ◌<◌, min}
 use native.Mathlib.Numerals.{add-one}
+use native.Mathlib.Decide.{dec_lt}
 use native.Mathlib.Omega.{arith}
+use lib.Dec.{leb}
+use borrow.Author.Tests.{le-leb, lt-leb}
 use lib.ListN.{length, get_or, set, take, drop, length-take, length-drop, length-append}
 use lib.Seq.{get_or-drop, get_or-take, take-suc-set, take_all, take_at}
 use Rattle.session.specs.Session.{most_bytes, block_length, session_of, opened, with_packets, with_packet, timed, asking}
-use Rattle.session.specs.Way.{word}
+use Rattle.std.specs.Prelude.{Option, None, Some}
+use Rattle.session.specs.Way.{word, word_in}
 use Rattle.session.specs.declared.opening.Way.{Way}
 use Rattle.session.specs.declared.opening.Way.TheVariants.{Receiving, Sending}
 use Rattle.session.proofs.Eight.{eight}
@@ -62,6 +66,18 @@ module _ (block : List ℕ) (long : length block ≡ block_length) where
       let e : 7 + k ≡ 8 + (k - 1) = omega arith in
       rw (e, get_or-take (get_or block 3 0) (drop 8 block) (k - 1) 0 (omega (arith, stored_is)), get_or-drop 8 block (k - 1) 0)
 
+-- "elapsed" by a difference is what it is by a sum
+pub due_same : (timer since time : ℕ) → since ≤ time → leb timer (time - since) ≡ leb (since + timer) time
+due_same timer since time h =
+    elim (dec_lt (time - since) timer) [
+      | yes l ↦ lt-leb timer (time - since) l ∙ sym (lt-leb (since + timer) time (omega arith))
+      | no l ↦ le-leb timer (time - since) (omega arith) ∙ sym (le-leb (since + timer) time (omega arith))
+    ]
+
 pub word_small : (way : Way) → word way ≤ 2
 word_small Receiving = omega arith
 word_small Sending = omega arith
+
+pub word_in_small : (way : Option Way) → word_in way ≤ 2
+word_in_small None = omega arith
+word_in_small (Some way) = word_small way

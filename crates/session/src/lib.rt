@@ -4,9 +4,9 @@
 
 mod opening;
 
-ghost use Rattle.std.specs.Prelude.{◌≡◌, ◌-◌, ◌≤◌, length, get_or};
+ghost use Rattle.std.specs.Prelude.{◌≡◌, ◌-◌, ◌≤◌, min, length, get_or};
 ghost use Rattle.packets.specs.Words.{cut_words};
-ghost use Rattle.session.specs.Session.{most_bytes, session_of, with_packet, with_packets, timed, asking, is_last, is_asked, is_due};
+ghost use Rattle.session.specs.Session.{most_bytes, packet_words, session_of, with_packet, with_packets, timed, asking, is_last, is_asked, is_due};
 ghost use Rattle.session.specs.Way.{word_in};
 ghost use Rattle.session.specs.Opening.{opened_by};
 ghost use Rattle.session.specs.Calls.{Writing};
@@ -86,7 +86,7 @@ pub fn limit(block: &Block) -> u64
 
 // How many packets are there.
 pub fn stored(block: &Block) -> u64
-    ensures { (result ≡ length (session_of block.now).packets) × (result ≤ 255) }
+    ensures { (result ≡ length (session_of block.now).packets) × (result ≡ min (get_or block.now 3 0) packet_words) × (result ≤ 255) }
 {
     block[STORED].min(255)
 }
@@ -120,7 +120,7 @@ pub fn is_due(block: &Block, time: u64) -> bool
 pub fn open(block: &mut Block, opening: Opening)
     ensures { session_of block.new ≡ opened_by opening }
 {
-    block[WAY] = opening.way.word();
+    block[WAY] = opening.way.map_or(0, Way::word);
     block[PEER] = opening.peer as u64;
     block[LENGTH] = opening.size;
     block[STORED] = 0;

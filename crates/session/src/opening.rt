@@ -21,7 +21,8 @@ impl Way {
 
 #[derive(Clone, Copy)]
 pub struct Opening {
-    pub way: Way,
+    // Which way it goes, if it goes one.
+    pub way: Option<Way>,
 
     // The peer's address.
     pub peer: u8,

@@ -42,6 +42,9 @@ module _ (ports p : ℕ) (words ys : List ℕ) (long : length words ≡ region_l
   time_back = head_kept words (ys ++ drop (1 + 1053 * p + 1053 - (1 + 1053 * p)) (drop (1 + 1053 * p) words)) (1053 * p) (omega arith)
 
 -- ---- the time is told
+pub tells_nothing : (ports told : ℕ) (words : List ℕ) → told ≤ time_of words → Telling words words ports told
+tells_nothing ports told words h = record { time = omega arith; talks = refl }
+
 pub tells : (ports told : ℕ) (words : List ℕ) → 0 < length words → Telling words (set words 0 (max (time_of words) told)) ports told
 unfolding talks_of
 tells ports told [] h = absurd (omega arith)

@@ -1,13 +1,15 @@
 -- The rows of a data packet, of a request to send and of a clear to send, and the steps of the first. Assumes nothing.
 use mathlib.Core.Path.{◌≡◌, refl, sym, ap, ◌∙◌}
-use mathlib.Core.Bool.{true, false}
+use mathlib.Core.Bool.{Bool, true, false, ◌&&◌}
 use mathlib.Core.List.{List, [], ◌∷◌, ◌++◌, append-nil}
 use Prim.Native.Nat.{ℕ, zero, suc, ◌+◌, ◌%◌, ◌≤◌, ◌<◌, min}
 use native.Mathlib.Omega.{arith}
 use lib.ListN.{length, get_or, set, drop, length-set, drop_of_length-le, length-append}
 use lib.Seq.{set-set, get_or-set_same, take_all, get_or_at, set_at}
+use lib.Dec.{eqb, leb}
 use native.Mathlib.Decide.{dec_lt}
-use borrow.Author.Tests.{lt-ltb, le-ltb, eq-eqb, ne_eqb, le-leb, lt-leb}
+use borrow.Author.Tests.{lt-ltb, le-ltb, eq-eqb, ne_eqb, le-leb, lt-leb, leb-true}
+use Rattle.packets.specs.Packets.{packets_of}
 use Rattle.session.specs.Session.{Session, session_of, opened, next, is_last, is_asked, with_packet, timed, asking, message}
 use Rattle.sessions.specs.declared.Data.{Data}
 use Rattle.sessions.specs.declared.Data.TheVariants.{Stored, Ask, Given}
@@ -261,3 +263,15 @@ module _ (before : List ℕ) (i count first time : ℕ) where
           talk = t ∙ sym (clear_send i count first (talk_of before) _ _ _ _ h n m p);
           answer = rw e (sym (clear_send i count first (talk_of before) _ _ _ _ h n m p));
         }
+
+-- a right size is one that a session has
+pub right_bounds : (size packets : ℕ) → is_right size packets ≡ true → size ≤ 1785
+right_bounds size packets e = leb-true size 1785 (and_left (leb size 1785) (eqb packets (packets_of size)) (and_right (leb 9 size) e))
+  where
+    and_right : (a : Bool) {b : Bool} → a && b ≡ true → b ≡ true
+    and_right true e = e
+    and_right false e = absurd (let z : ◌≡◌ {A = ℕ} 0 1 = cc in omega arith)
+
+    and_left : (a b : Bool) → a && b ≡ true → a ≡ true
+    and_left true b e = refl
+    and_left false b e = e

@@ -95,15 +95,15 @@ fn change<F: FnOnce(&mut Block)>(port: &mut Port, i: usize, change: F)
 }
 
 // Whether a session goes one way and is with a peer.
-fn is_with(session: &Block, way: Way, peer: u64) -> bool
-    ensures { result ≡ is_with (word way) peer (session_of session.now) }
+fn is_with(session: &Block, way: u64, peer: u64) -> bool
+    ensures { result ≡ is_with way peer (session_of session.now) }
 {
-    session::way(session) == Some(way) && session::peer(session) as u64 == peer
+    session::way(session).map_or(0, Way::word) == way && session::peer(session) as u64 == peer
 }
 
-// The place of the session that goes one way and is with a peer.
-pub fn find(port: &Port, way: Way, peer: u64) -> Option<usize>
-    ensures place { result ≡ place_in (is_with (word way) peer) (talk_of port.now) }
+// The place of the session that goes one way, by its word, and is with a peer.
+pub fn find(port: &Port, way: u64, peer: u64) -> Option<usize>
+    ensures place { result ≡ place_in (is_with way peer) (talk_of port.now) }
     ensures inside { IfSome result (λ i. i < length (talk_of port.now)) }
 {
     open_blocks(port)
@@ -251,7 +251,7 @@ pub fn heard_data(
     requires { most_bytes ≤ length out.old }
     ensures { Hearing port.old port.new (receiving peer (talk_of port.old)) word time out.old out.new result }
 {
-    let Some(i) = find(port, Way::Receiving, peer) else {
+    let Some(i) = find(port, Way::Receiving as u64, peer) else {
         return Ok(None);
     };
     let session = &open_blocks(port)[i];
@@ -296,7 +296,7 @@ pub fn heard_request(
 ) -> Result<u64, Refusal>
     ensures { Requesting port.old port.new (receiving peer (talk_of port.old)) peer size packets limit time result }
 {
-    let first = find(port, Way::Receiving, peer as u64);
+    let first = find(port, Way::Receiving as u64, peer as u64);
     let place = first.unwrap_or(count(port));
     if MOST <= place {
         return Err(Refusal::ManySessions);
@@ -310,7 +310,7 @@ pub fn heard_request(
     open(
         port,
         Opening {
-            way: Way::Receiving,
+            way: Some(Way::Receiving),
             peer,
             size,
             through: count,
@@ -331,7 +331,7 @@ pub fn open_reply(port: &mut Port, peer: u8, bytes: &[u8], time: u64)
     open(
         port,
         Opening {
-            way: Way::Sending,
+            way: Some(Way::Sending),
             peer,
             size: bytes.len() as u64,
             through: 0,
@@ -347,14 +347,14 @@ pub fn open_reply(port: &mut Port, peer: u8, bytes: &[u8], time: u64)
 pub fn is_busy(port: &Port, peer: u64) -> bool
     ensures { result ≡ is_busy peer (talk_of port.now) }
 {
-    MOST <= count(port) || find(port, Way::Sending, peer).is_some()
+    MOST <= count(port) || find(port, Way::Sending as u64, peer).is_some()
 }
 
 // Ends the session that goes one way and is with a peer, if there is one.
 fn drop_with(port: &mut Port, way: Way, peer: u64)
     ensures { talk_of port.new ≡ without (word way) peer (talk_of port.old) }
 {
-    let place = find(port, way, peer);
+    let place = find(port, way.word(), peer);
     drop_at(port, place);
 }
 
@@ -377,7 +377,7 @@ pub fn heard_abort(port: &mut Port, peer: u64)
 pub fn heard_clear(port: &mut Port, peer: u64, asked: u64, first: u64, time: u64) -> Option<Window>
     ensures { Clearing port.old port.new (sending peer (talk_of port.old)) asked first time result }
 {
-    let at = find(port, Way::Sending, peer)?;
+    let at = find(port, Way::Sending as u64, peer)?;
     if asked == 0 {
         set_timer(port, at, T4, time);
         return None;

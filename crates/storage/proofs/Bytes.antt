@@ -2,11 +2,11 @@
 use mathlib.Core.Path.{◌≡◌, refl, sym, ap, ◌∙◌}
 use mathlib.Core.List.{List, [], ◌∷◌, ◌++◌}
 use Prim.Native.Nat.{ℕ, zero, suc, ◌+◌, ◌-◌, ◌*◌, ◌/◌, ◌%◌, ◌^◌, ◌≤◌, ◌<◌, zero-le}
-use native.Mathlib.Nat.{not-suc-le-zero, le_of_suc-le-suc, pow-suc, sub-zero, suc-sub-suc, div-div-eq-div-mul, div-one, mul_assoc, mul_comm, mul-le-mul_left, mul-suc, one-mul}
+use native.Mathlib.Nat.{not-suc-le-zero, le_of_suc-le-suc, pow-suc, sub-zero, suc-sub-suc, div-div-eq-div-mul, div-one, mul_assoc, mul_comm, mul-le-mul_left, mul-suc, one-mul, pow-le-pow_right}
 use native.Mathlib.Omega.{arith}
 use lib.Pow.{pow-add}
 use lib.ListN.{length, get_or, take, drop, replicate, length-drop, take-append-drop, drop_of_length-le}
-use lib.Seq.{take_at, take-add, drop-cons, drop-drop, length-take-le}
+use lib.Seq.{take_at, take_all, take-add, drop-cons, drop-drop, length-take-le}
 use Rattle.std.specs.Int.{w16, w32, w64, from_le_bytes}
 use Rattle.storage.specs.Bytes.{packed, bytes_of, Packing}
 
@@ -81,6 +81,17 @@ packing_join m n bytes at low high fits L H = record {
   where
     long : length (take m (drop at bytes)) ≡ m
     long = length-take-le m (drop at bytes) (simp length-drop (omega arith))
+
+-- n bytes that are the last are more than n too
+pub packing_last : {m : ℕ} (n : ℕ) {bytes : List ℕ} {at r : ℕ} → m ≤ n → length bytes ≤ at + m → Packing m bytes at r → Packing n bytes at r
+packing_last {m} n {bytes} {at} h l P = record {
+  number = P.number ∙ rw (take_all m (drop at bytes) (simp length-drop (omega arith)), take_all n (drop at bytes) (simp length-drop (omega arith)));
+  small = omega (arith, P.small, pow-le-pow_right {n = 256} (omega arith) {i = m} {j = n} h);
+}
+
+pub packing_none : (bytes : List ℕ) (at : ℕ) → Packing 0 bytes at 0
+unfolding packed
+packing_none bytes at = record { number = refl; small = omega arith }
 
 -- one byte more, in front
 pub packed_step : (bytes : List ℕ) (i : ℕ) → i < length bytes → packed (drop i bytes) ≡ get_or bytes i 0 + 256 * packed (drop (suc i) bytes)

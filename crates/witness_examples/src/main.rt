@@ -3,7 +3,7 @@
 // wait at each port.
 #![tactic(auto)]
 
-ghost use Rattle.std.specs.Prelude.{◌+◌, ◌*◌, ◌≤◌, length};
+ghost use Rattle.std.specs.Prelude.{◌+◌, ◌*◌, ◌≤◌, ◌<◌, length, IfSome};
 
 use unit::Unit;
 use witness::ANSWER_WORDS;
@@ -36,7 +36,9 @@ enum Reading {
 }
 
 // The value of a hex digit.
-fn digit(byte: u8) -> Option<u32> {
+fn digit(byte: u8) -> Option<u32>
+    ensures { IfSome result (λ d. d < 16) }
+{
     char::from(byte).to_digit(16)
 }
 

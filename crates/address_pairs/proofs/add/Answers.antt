@@ -8,13 +8,13 @@ use Rattle.address_pairs.proofs.add.Goals as goal
 pub append-requires-clause-room : goal.append-requires-clause-room
 append-requires-clause-room c =
     let a = c.args in
-    rw (range_size (pairs_length * (a.port - 2)) pairs_length) (may_append a.tables.now a.port a.outer a.inner c.requires.0 c.requires.1 (sym c.in_ok-check.ensures)).0
+    rw (range_size (pairs_length * (a.port - 2)) pairs_length) (may_append a.tables.now a.port a.outer a.inner c.requires.0 c.requires.1 (sym c.in_ok-check.ensures)).1
 
 pub append-requires-clause-addresses : goal.append-requires-clause-addresses
 append-requires-clause-addresses c =
     let a = c.args in
     let may = may_append a.tables.now a.port a.outer a.inner c.requires.0 c.requires.1 (sym c.in_ok-check.ensures) in
-    (may.1, may.2)
+    (may.2, may.3)
 
 pub returns : goal.returns
 returns c =

@@ -1,31 +1,21 @@
--- `entries::first_wrong` meets its contract: a place is below how many there are, and its number one more. Assumes nothing.
-use mathlib.Core.Path.{sym, ap, ◌∙◌}
-use mathlib.Core.List.{[]}
+-- `entries::first_wrong` meets its contract: a walk over the entries that stops at the first which is no PGN. Assumes nothing.
+use mathlib.Core.Path.{sym, ◌∙◌}
 use native.Mathlib.Omega.{arith}
-use lib.ListN.{length}
-use Rattle.std.proofs.lemmas.List.{length-map}
-use Rattle.std.proofs.lemmas.List.Quantifiers.{position-Some}
-use Rattle.storage.specs.Bytes.{packed}
-use Rattle.entries.specs.Entries.{first_wrong}
-use Rattle.entries.proofs.ThreeBytes.{place_told, entries_count}
+use Rattle.entries.specs.Entries.{entries_of}
+use Rattle.entries.proofs.ThreeBytes.{entries_count, judged_none, judged_pgn, judged_wrong, judged_all}
 use Rattle.entries.proofs.first_wrong.Goals as goal
 
-pub overflow_add-result : goal.overflow_add-result
-overflow_add-result c =
-    let es = c.all.result.now in
-    omega (
-      arith,
-      (position-Some _ es c.in-Some.place [] (sym c.first_other.ensures ∙ c.in-Some.is)).0,
-      length-map es packed,
-      ap length c.all.ensures,
-      entries_count c.args.bytes.now,
-      c.well_formed,
-    )
+pub loop-place-init : goal.loop-place-init
+loop-place-init c = judged_none (entries_of c.args.bytes.now)
 
-pub returns-in-Some : goal.returns-in-Some
-returns-in-Some c = let t = rw (sym c.first_other.ensures ∙ c.in-Some.is) at (place_told packed c.all.result.now) in
-    omega (arith, t, ap first_wrong c.all.ensures)
+pub overflow_mul-place : goal.overflow_mul-place
+overflow_mul-place c = omega (arith, c.count-place-end.ensures, entries_count c.args.bytes.now, c.well_formed)
 
-pub returns-in-None : goal.returns-in-None
-returns-in-None c = let t = rw (sym c.first_other.ensures ∙ c.in-None.is) at (place_told packed c.all.result.now) in
-    t ∙ ap first_wrong c.all.ensures
+pub returns-in_default : goal.returns-in_default
+returns-in_default c = judged_wrong c.args.bytes.now c.loop-place.invariant (omega (arith, c.count-place-end.ensures)) (sym c.read_entry.ensures ∙ c.in_default.is)
+
+pub loop-place-preserved : goal.loop-place-preserved
+loop-place-preserved c = judged_pgn c.args.bytes.now c.loop-place.invariant (omega (arith, c.count-place-end.ensures)) (sym c.read_entry.ensures ∙ c.in-Some.is)
+
+pub returns : goal.returns
+returns c = judged_all c.loop-place.invariant (omega (arith, c.count-place-end.ensures))

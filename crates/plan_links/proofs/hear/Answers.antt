@@ -1,15 +1,14 @@
 -- `plan_links::hear` meets its contract: one link after the other. Assumes nothing.
-use mathlib.Core.Path.{◌≡◌, ◌∙◌}
+use mathlib.Core.Path.{◌≡◌, sym, ◌∙◌}
 use mathlib.Core.List.{List}
 use Prim.Native.Nat.{ℕ, ◌+◌}
 use native.Mathlib.Omega.{arith}
 use borrow.Author.Rules.{rules}
 use lib.ListN.{length, replicate}
-use lib.Seq.{take-length}
 use Rattle.std.specs.Prelude.{Err}
 use Rattle.checks.specs.declared.refusal.Refusal.TheVariants.{OutsidePlan}
 use Rattle.plan_shape.specs.Plan.{ports_length}
-use Rattle.plan_links.proofs.Puts.{put_none, put_next, refused_all, bad, good}
+use Rattle.plan_links.proofs.Puts.{put_none, put_next, put_whole, refused_all, bad, good}
 use Rattle.plan_links.proofs.hear.Goals as goal
 
 abbrev none : List ℕ
@@ -33,4 +32,4 @@ pub returns : goal.returns
 returns c =
     let links = c.args.links.now in
     let whole : c.loop-link.link-index ≡ length links = omega arith in
-    good c.if-lists-ne-LISTS_LENGTH.false (rw (whole, take-length links) at c.loop-link.invariant) c.hear.ensures
+    good c.if-lists-ne-LISTS_LENGTH.false (sym (put_whole c.args.segments c.args.units none links) ∙ (rw whole at c.loop-link.invariant)) c.hear.ensures

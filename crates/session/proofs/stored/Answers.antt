@@ -4,4 +4,4 @@ use Rattle.session.proofs.Laws.{stored_is}
 use Rattle.session.proofs.stored.Goals as goal
 
 pub returns : goal.returns
-returns c = (c.min.ensures ∙ sym (stored_is c.args.block.now (omega arith)), omega arith)
+returns c = (c.min.ensures ∙ sym (stored_is c.args.block.now (omega arith)), c.min.ensures, omega arith)

@@ -6,4 +6,4 @@ use Rattle.sessions.proofs.Search.{place_removed}
 use Rattle.sessions.proofs.drop_with.Goals as goal
 
 pub returns : goal.returns
-returns c = c.drop_at.ensures ∙ rw c.find-place.ensures.place (place_removed (is_with (word c.args.way) c.args.peer) (talk_of c.args.port.now))
+returns c = c.drop_at.ensures ∙ rw (c.find-place.ensures.place, c.word.ensures) (place_removed (is_with (word c.args.way) c.args.peer) (talk_of c.args.port.now))
