@@ -1,13 +1,13 @@
 -- What is done about a claim, a request or Start, by the way that the code went. Assumes nothing.
 use Rattle.std.specs.Prelude.{None, Some}
-use mathlib.Core.Path.{◌≡◌, sym, ◌∙◌}
+use mathlib.Core.Path.{◌≡◌, refl, sym, ◌∙◌}
 use mathlib.Core.Bool.{Bool, true, false}
 use mathlib.Core.List.{List}
 use Prim.Native.Nat.{ℕ, ◌≤◌, ◌<◌}
 use borrow.Author.Tests.{lt-ltb, le-ltb, eq-eqb, ne_eqb}
 use lib.ListN.{get_or, set}
 use lib.Dec.{ltb, eqb}
-use Rattle.identifier.specs.Identifier.{sa_of}
+use Rattle.identifier.specs.Identifier.{pgn_of, sa_of}
 use Rattle.queue.specs.declared.Frame.{Frame}
 use Rattle.address_claims.specs.declared.Event.{Event}
 use Rattle.address_claims.specs.declared.Event.TheVariants.{Nothing, Defended, Displaced}
@@ -17,7 +17,7 @@ use Rattle.unit.specs.declared.Unit.{Unit}
 use Rattle.claims.specs.declared.Acted.{Acted as Done}
 use Rattle.unit.specs.Model.{model_of, with_own, with_rest}
 use Rattle.unit.specs.Own.{is_own, moved, claim_frame, cannot_claim_frame, request_answer}
-use Rattle.claims.specs.Claims.{is_claim, is_request_to_unit, contested, claim_acted, frame_acted, held_under, started}
+use Rattle.claims.specs.Claims.{is_claim, is_request, is_request_to_unit, contested, claim_acted, frame_acted, held_under, started}
 use Rattle.record.specs.Steps.{TableChanging, TableClaiming}
 use Rattle.claims.specs.Steps.{Acting}
 
@@ -83,6 +83,16 @@ module _ (ports : ℕ) (words : List ℕ) (u : Unit) (own : u ≡ (model_of port
             }
 
 -- ---- a frame
+-- by its PGN alone
+module _ (f : Frame) (pgn : ℕ) (is : pgn ≡ pgn_of f.id) where
+  pub no_claim : (pgn ≡ 60928 → ⊥) → is_claim f ≡ false
+  unfolding is_claim
+  no_claim other = rw (← is, ne_eqb pgn 60928 other) refl
+
+  pub no_request : (consumed : Bool) → (pgn ≡ 59904 → ⊥) → is_request_to_unit f consumed ≡ false
+  unfolding is_request_to_unit is_request
+  no_request consumed other = rw (← is, ne_eqb pgn 59904 other) refl
+
 module _ (ports : ℕ) (words : List ℕ) (port : ℕ) (consumed : Bool) (f : Frame) (r : Done) where
   pub claim_acted_lem : {after : List ℕ} → is_claim f ≡ true → Acting ports words after (claim_acted (model_of ports words).rest port f) r → Acting ports words after (frame_acted (model_of ports words).rest port consumed f) r
   unfolding frame_acted

@@ -102,22 +102,22 @@ fn act_on_claim(words: &mut [u64], port: u64, f: Frame) -> Acted
     alone(record::claim(words, port, address, name))
 }
 
-// A frame that was not refused, after the forwarding: a claim or a request is acted on.
+// A frame that was not refused, after the forwarding: a claim or a request is acted on. The PGN is asked first, by which most frames are neither.
 pub fn act(words: &mut [u64], port: u64, consumed: bool, f: Frame) -> Acted
     requires { (rows_from ≤ length words.old) × (sa_of f.id < 255) }
     ensures { (ports : ℕ) → Acting ports words.old words.new (frame_acted (model_of ports words.old).rest port consumed f) result }
 {
-    if is_claim(f) {
-        return act_on_claim(words, port, f);
+    match identifier::pgn(f.id) {
+        identifier::ADDRESS_CLAIMED if is_claim(f) => act_on_claim(words, port, f),
+        identifier::REQUEST if is_request_to_unit(f, consumed) => {
+            let unit = unit::read_unit(words);
+            Acted {
+                event: Event::Nothing,
+                sent: unit.request_answer(),
+            }
+        }
+        _ => alone(Event::Nothing),
     }
-    if is_request_to_unit(f, consumed) {
-        let unit = unit::read_unit(words);
-        return Acted {
-            event: Event::Nothing,
-            sent: unit.request_answer(),
-        };
-    }
-    alone(Event::Nothing)
 }
 
 // Start, in Unstarted with a good preferred address.

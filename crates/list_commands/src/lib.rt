@@ -132,8 +132,7 @@ impl Named {
         false
     }
 
-    // Whether a change is refused by the lists, and why. Not inlined, else `command` has it twice.
-    #[inline(never)]
+    // Whether a change is refused by the lists, and why.
     fn check(self, words: &[u64], change: Change, entries: &[u8]) -> Result<(), Refusal>
         requires { length words.now ≡ record_length self.ports }
         ensures { (from to : ℕ) → Naming self.ports from to self.first self.end → number_in result ≡ list_refusal self.ports change (entries_of entries.now) from to (model_of self.ports words.now).rest.pairs }

@@ -20,12 +20,15 @@ pub fn control(number: u32) -> u8
     }
 }
 
-// Writes an acknowledgment.
+// Writes an acknowledgment, in place: a copy of an array is written byte by byte and read as one word, for which the processor waits 4 ns.
+#[tactic(auto, unfolding(crate::specs::Replies::acknowledgment))]
 pub fn acknowledge(reply: &mut [u8], control: u8, function: u8, requester: u8)
     requires { 8 ≤ length reply.old }
     ensures { reply.new ≡ acknowledgment control function requester ++ drop 8 reply.old }
 {
-    reply[..8].copy_from_slice(&[control, function, 0xFF, 0xFF, requester, 0x00, 0xED, 0x00]);
+    if let Some(first) = reply.first_chunk_mut::<8>() {
+        *first = [control, function, 0xFF, 0xFF, requester, 0x00, 0xED, 0x00];
+    }
 }
 
 // Writes an entry's three bytes, least significant first.

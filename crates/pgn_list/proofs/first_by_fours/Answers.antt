@@ -1,4 +1,4 @@
--- `pgn_list::find` meets its contract: fours that do not have x are passed over, and the rest is searched. Assumes nothing.
+-- `pgn_list::first_by_fours` meets its contract: fours that do not have x are passed over, and the rest is searched. Assumes nothing.
 use mathlib.Core.Path.{◌≡◌, sym, ap, ◌∙◌}
 use mathlib.Core.List.{List}
 use Prim.Native.Nat.{ℕ, ◌-◌, ◌*◌, ◌/◌}
@@ -10,7 +10,7 @@ use Rattle.std.specs.Prelude.{Option, position, unwrap_or}
 use Rattle.std.specs.List.{list_any}
 use Rattle.std.specs.Simd.{first_chunks}
 use Rattle.pgn_list.proofs.Search.{fours, fours_room, or_all, found_behind, none_behind}
-use Rattle.pgn_list.proofs.find.Goals as goal
+use Rattle.pgn_list.proofs.first_by_fours.Goals as goal
 
 -- how many are passed over
 passed : (x : ℕ) (list : List ℕ) {fs : List (List ℕ)} {p : Option ℕ} {r : ℕ} → fs ≡ first_chunks 4 (length list / 4) list → p ≡ position (λ four. list_any (λ y. eqb y x) four) fs → r ≡ unwrap_or p (length fs) → 4 * r ≡ 4 * fours x list
