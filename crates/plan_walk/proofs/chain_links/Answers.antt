@@ -1,10 +1,10 @@
--- `plan_walk::chained` meets its contract: from the last link to the first. Assumes nothing.
+-- `plan_walk::chain_links` meets its contract: from the last link to the first. Assumes nothing.
 use mathlib.Core.Path.{◌≡◌, refl}
 use Prim.Native.Nat.{◌-◌}
 use native.Mathlib.Omega.{arith}
 use Rattle.plan_walk.specs.Walk.{chain_length}
 use Rattle.plan_walk.proofs.Chain.{chain_start, chain_past, chain_more}
-use Rattle.plan_walk.proofs.chained.Goals as goal
+use Rattle.plan_walk.proofs.chain_links.Goals as goal
 
 pub loop-link-init : goal.loop-link-init
 loop-link-init c = (omega arith, chain_start chain_length refl)
