@@ -101,8 +101,8 @@ impl Failure {
     }
 }
 
-// Each line of an input, taken by a function that writes what it makes of it. The reads are counted, to a number that no run comes to: a proved loop has to end,
-// and nothing says that the input does.
+// Each line of an input, taken by a function that writes what it makes of it. A proved loop has to end, and nothing says that the input does: so the reads are
+// counted, to as many as u64::MAX lines of u64::MAX bytes can take.
 pub fn read_lines<R: Read, F: FnMut(&[u8]) -> io::Result<()>>(
     input: &mut R,
     mut take: F,
@@ -112,21 +112,23 @@ pub fn read_lines<R: Read, F: FnMut(&[u8]) -> io::Result<()>>(
     let mut block = [0u8; BLOCK];
     let mut begun = Begun::new();
     for _ in 0..u64::MAX {
-        let n = input.read(&mut block).map_err(Failure::Read)?;
-        // A last line that is not ended is ended here.
-        let read: &[u8] = if n == 0 && 0 < begun.len {
-            b"\n"
-        } else {
-            &block[..n]
-        };
-        for piece in read.split_inclusive(|byte| *byte == b'\n') {
-            match piece.split_last() {
-                Some((b'\n', bytes)) => take(begun.end(bytes)).map_err(Failure::Write)?,
-                _ => begun.push(piece),
+        for _ in 0..u64::MAX {
+            let n = input.read(&mut block).map_err(Failure::Read)?;
+            // A last line that is not ended is ended here.
+            let read: &[u8] = if n == 0 && 0 < begun.len {
+                b"\n"
+            } else {
+                &block[..n]
+            };
+            for piece in read.split_inclusive(|byte| *byte == b'\n') {
+                match piece.split_last() {
+                    Some((b'\n', bytes)) => take(begun.end(bytes)).map_err(Failure::Write)?,
+                    _ => begun.push(piece),
+                }
             }
-        }
-        if n == 0 {
-            break;
+            if n == 0 {
+                return Ok(());
+            }
         }
     }
     Ok(())
